@@ -1,0 +1,8 @@
+-- The theorems, in the order of specs/.
+pub mod Joint
+pub mod Pruning
+pub mod Counting
+pub mod Ranking
+pub mod Cells
+pub mod Shuffle
+pub mod Source000

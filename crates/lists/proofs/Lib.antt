@@ -1,0 +1,10 @@
+-- The laws that other crates cite.
+pub mod Tests
+pub mod Members
+pub mod Counts
+pub mod Ordered
+pub mod Tables
+pub mod Tells
+pub mod Distinct
+pub mod Blocks
+pub mod Fronts

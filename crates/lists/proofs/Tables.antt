@@ -1,0 +1,73 @@
+-- Tables that are filled from the front, entry by entry or row by row. Assumes nothing.
+use mathlib.Core.Path.{_≡_, refl, sym, ap, _∙_}
+use mathlib.Core.Logic.{⊎-elim}
+use mathlib.Core.List.{List, [], _∷_, _++_}
+use Prim.Native.Nat.{ℕ, zero, suc, _+_, _*_, _<_, _≤_}
+use native.Mathlib.Nat.{eq-or-lt-of-le, le-of-suc-le-suc, not-suc-le-zero, suc-mul, zero-mul, mul-le-mul-right}
+use native.Mathlib.Numerals.{add-one}
+use native.Mathlib.Omega.{arith}
+use lib.ListN.{length, getD, set, drop, length-append, List·getD-append}
+use lib.Seq.{drop-cons, set-at, append-snoc, getD-at, getD-append-add}
+use Rattle.lists.specs.Lists.{tab, stack, range}
+
+pub length-tab : {A : Type 0} (f : ℕ → A) (n : ℕ) → length (tab f n) ≡ n
+unfolding tab
+length-tab f zero = refl
+length-tab f (suc n) = rw (length-append, length-tab f n) (add-one n)
+
+pub getD-tab : {A : Type 0} (f : ℕ → A) (n i : ℕ) (d : A) → i < n → getD (tab f n) i d ≡ f i
+unfolding tab
+getD-tab f zero i d h = absurd (not-suc-le-zero h)
+getD-tab f (suc n) i d h =
+    ⊎-elim
+    (λ e. getD-at (tab f n) (f n) [] d i (length-tab f n ∙ sym e) ∙ ap f (sym e))
+    (λ l. List·getD-append (tab f n) (f n ∷ []) d i (rw length-tab l) ∙ getD-tab f n i d l)
+    (eq-or-lt-of-le (le-of-suc-le-suc h))
+
+pub tab-cong : {A : Type 0} (f g : ℕ → A) (n : ℕ) → ((x : ℕ) → x < n → f x ≡ g x) → tab f n ≡ tab g n
+unfolding tab
+tab-cong f g zero h = refl
+tab-cong f g (suc n) h = rw (tab-cong f g n (λ x l. h x (omega arith)), h n (omega arith))
+
+-- one entry more: what is stored at i is the table's entry there
+pub tab-more : {A : Type 0} (f : ℕ → A) (d : List A) (i : ℕ) (v z : A) → i < length d → v ≡ f i → set (tab f i ++ drop i d) i v ≡ tab f (i + 1) ++ drop (i + 1) d
+unfolding tab
+tab-more {A} f d i v z h e =
+    ap (λ (r : List A). set (tab f i ++ r) i v) (drop-cons d i z h)
+    ∙ set-at (tab f i) (getD d i z) (drop (suc i) d) v i (length-tab f i)
+    ∙ rw (e, add-one) (sym (append-snoc (tab f i) (f i) (drop (suc i) d)))
+
+pub length-range : (n : ℕ) → length (range n) ≡ n
+unfolding range
+length-range zero = refl
+length-range (suc n) = rw (length-append, length-range n) (add-one n)
+
+pub getD-range : (n i : ℕ) → i < n → getD (range n) i 0 ≡ i
+unfolding range
+getD-range zero i h = absurd (not-suc-le-zero h)
+getD-range (suc n) i h =
+    ⊎-elim
+    (λ e. getD-at (range n) n [] 0 i (length-range n ∙ sym e) ∙ sym e)
+    (λ l. List·getD-append (range n) (n ∷ []) 0 i (rw length-range l) ∙ getD-range n i l)
+    (eq-or-lt-of-le (le-of-suc-le-suc h))
+
+-- ---- rows of one width
+
+module _ {A : Type 0} (f : ℕ → List A) (w : ℕ) (wide : (r : ℕ) → length (f r) ≡ w) where
+  pub length-stack : (n : ℕ) → length (stack f n) ≡ n * w
+  unfolding stack
+  length-stack zero = sym (zero-mul w)
+  length-stack (suc n) = rw (length-append, length-stack n, wide n, suc-mul)
+
+  -- what stands in row r, x places on
+  pub getD-stack : (n r x : ℕ) (d : A) → r < n → x < w → getD (stack f n) (r * w + x) d ≡ getD (f r) x d
+  unfolding stack
+  getD-stack zero r x d h k = absurd (not-suc-le-zero h)
+  getD-stack (suc n) r x d h k =
+      ⊎-elim
+      (λ e. rw e (ap (λ (i : ℕ). getD (stack f n ++ f n) (i + x) d) (sym (length-stack n)) ∙ getD-append-add (stack f n) (f n) x d))
+      (λ l. List·getD-append (stack f n) (f n) d (r * w + x) (before l) ∙ getD-stack n r x d l k)
+      (eq-or-lt-of-le (le-of-suc-le-suc h))
+    where
+      before : r < n → r * w + x < length (stack f n)
+      before l = let a : suc r * w ≤ n * w = mul-le-mul-right w l in omega (arith, suc-mul r w, length-stack n)
