@@ -1,0 +1,235 @@
+-- What the buffers hold afterwards.
+-- Why: an answer after which something is written has passed the rows up to 8, and 12, so the buffers are long enough; rows of P cells and blocks of
+-- h bytes stand one after the other. Assumes nothing.
+use mathlib.Core.Path.{_≡_, refl, sym, ap, _∙_, subst}
+use mathlib.Core.Logic.{_⊎_, inl, inr, _↔_, ⊎-elim}
+use mathlib.Core.Bool.{true}
+use mathlib.Core.List.{List, [], _∷_, _++_, List·Memᴰ as In, List·Memᴰ·head as here, List·Memᴰ·tail as there, List·Memᴰ·not-nil}
+use Prim.Native.Nat.{ℕ, suc, _+_, _-_, _*_, _≤_, _<_}
+use native.Mathlib.Omega.{arith}
+use native.Mathlib.Nat.{suc-mul, mul-le-mul-right}
+use lib.ListN.{length, getD, take, drop, length-append, length-drop, List·getD-append}
+use lib.Seq.{getD-append-add, getD-drop, take-at}
+use lib.Dec.{ltb, leb, eqb}
+use borrow.Author.Tests.{ltb-false}
+use Rattle.lists.specs.Lists.{any, each}
+use Rattle.lists.proofs.Tests.{contra, case, split}
+use Rattle.lists.proofs.Tells.{tells-true, tells-false, tells-lt, tells-eq}
+use Rattle.lists.proofs.Members.{any-some, any-in}
+use Rattle.lists.proofs.Tables.{length-tab, getD-tab, length-stack, getD-stack}
+use Rattle.lists.proofs.Blocks.{length-blocks}
+use Rattle.automaton.specs.Automaton.{Automaton}
+use Rattle.automaton.specs.Counting.{most, cell}
+use Rattle.automaton.specs.Ranking.{unrank}
+use Rattle.automaton.specs.Shuffle as swapping
+use Rattle.automaton.proofs.Shuffle.{length-shuffle}
+use Rattle.promises.specs.Answer.{Answer, served, refused, Served, unless}
+use Rattle.promises.specs.Text.{Readable, Fault, Case7, Case8, Case12, jointStates}
+use Rattle.promises.specs.Rig.{rigAutomaton, start}
+use Rattle.promises.specs.Calls.{row, rows, filled, fills, cellsAfter, outputAfter, unlessAt, sized, total, counted, count, countCells, scenarios, scenariosCells, written, index, indexCells, shuffle, shuffled}
+use Rattle.promises.specs.Refusals.{Sized}
+use Rattle.promises.specs.Buffers.{Fills, CellsLeft, OutputLeft, Buffers}
+use Rattle.promises.proofs.Reading.{readable-said, fault-said, fault-number, readable-or-fault}
+use Rattle.promises.proofs.Meaning.{rig-states}
+use Rattle.promises.proofs.Checks.{sized-on, counted-none, counted-most}
+use Rattle.promises.proofs.Answers.{served-below, block-written, scenario-long}
+
+-- ---- the cells, filled
+
+length-row : (A : Automaton) (r : ℕ) → length (row A r) ≡ A .states
+unfolding row
+length-row A r = length-tab (cell A r) (A .states)
+
+pub length-rows : (A : Automaton) (n : ℕ) → length (rows A n) ≡ n * A .states
+unfolding rows
+length-rows A n = length-stack (row A) (A .states) (length-row A) n
+
+-- 'The cell at r × P + x holds N(r, x)'
+pub getD-rows : (A : Automaton) (n r x : ℕ) → r < n → x < A .states → getD (rows A n) (r * A .states + x) 0 ≡ cell A r x
+unfolding rows row
+getD-rows A n r x h k = getD-stack (row A) (A .states) (length-row A) n r x 0 h k ∙ getD-tab (cell A r) (A .states) x 0 k
+
+in-rows : (p n r x : ℕ) → r < n → x < p → r * p + x < n * p
+in-rows p n r x h k = let a : suc r * p ≤ n * p = mul-le-mul-right p h in omega (arith, suc-mul r p)
+
+module _ (A : Automaton) (h : ℕ) (cells : List ℕ) where
+  pub length-filled : (h + 1) * A .states ≤ length cells → length (filled A h cells) ≡ length cells
+  unfolding filled
+  length-filled le = rw (length-append, length-rows, length-drop) (omega arith)
+
+  pub filled-at : (r x : ℕ) → r ≤ h → x < A .states → getD (filled A h cells) (r * A .states + x) 0 ≡ cell A r x
+  unfolding filled
+  filled-at r x le lt =
+      List·getD-append (rows A (h + 1)) _ 0 (r * A .states + x) (rw length-rows (in-rows (A .states) (h + 1) r x (omega arith) lt))
+      ∙ getD-rows A (h + 1) r x (omega arith) lt
+
+  pub filled-past : (k : ℕ) → (h + 1) * A .states ≤ k → getD (filled A h cells) k 0 ≡ getD cells k 0
+  unfolding filled
+  filled-past k le =
+      let q : k ≡ length (rows A (h + 1)) + (k - (h + 1) * A .states) = rw length-rows (omega arith) in
+      let e : (h + 1) * A .states + (k - (h + 1) * A .states) ≡ k = omega arith in
+      ap (λ i. getD (rows A (h + 1) ++ drop ((h + 1) * A .states) cells) i 0) q
+      ∙ getD-append-add (rows A (h + 1)) (drop ((h + 1) * A .states) cells) (k - (h + 1) * A .states) 0
+      ∙ getD-drop ((h + 1) * A .states) cells (k - (h + 1) * A .states) 0
+      ∙ ap (λ i. getD cells i 0) e
+
+-- ---- the answers after which the cells are filled
+
+fills-told : (a : Answer) → (fills a ≡ true) ↔ Fills a
+unfolding fills Fills Served
+fills-told (served vs) = (λ q. inl (vs, refl), λ f. refl)
+fills-told (refused n p) = (λ q. inr (n, p, refl, told q), λ f. tell f)
+  where
+    told : any (eqb n) (9 ∷ 10 ∷ 11 ∷ 14 ∷ []) ≡ true → In n (9 ∷ 10 ∷ 11 ∷ 14 ∷ [])
+    told q = let (e, i, r) = any-some (eqb n) (9 ∷ 10 ∷ 11 ∷ 14 ∷ []) q in subst (λ k. In k (9 ∷ 10 ∷ 11 ∷ 14 ∷ [])) (sym (tells-eq n e .yes r)) i
+
+    tell : ((vs : List ℕ) × (refused n p ≡ served vs)) ⊎ ((m : ℕ) × (q : ℕ) × (refused n p ≡ refused m q) × In m (9 ∷ 10 ∷ 11 ∷ 14 ∷ [])) → any (eqb n) (9 ∷ 10 ∷ 11 ∷ 14 ∷ []) ≡ true
+    tell (inl (vs, q)) = let z : _≡_ {A = ℕ} 0 1 = cc in absurd (omega arith)
+    tell (inr (m, k, q, i)) = let e : n ≡ m = cc in any-in (eqb n) i (tells-true (tells-eq n m) e)
+
+text-fills-not : (n p : ℕ) → n ≤ 6 → fills (refused n p) ≡ true → ⊥
+unfolding fills
+text-fills-not n p le q =
+    let (e, i, r) = any-some (eqb n) (9 ∷ 10 ∷ 11 ∷ 14 ∷ []) q in
+    far e (tells-eq n e .yes r) i
+  where
+    far : (e : ℕ) → n ≡ e → In e (9 ∷ 10 ∷ 11 ∷ 14 ∷ []) → ⊥
+    far e k (here q) = omega arith
+    far e k (there (here q)) = omega arith
+    far e k (there (there (here q))) = omega arith
+    far e k (there (there (there (here q)))) = omega arith
+    far e k (there (there (there (there i)))) = List·Memᴰ·not-nil i
+
+-- whoever fills the cells has passed rows 1 to 8
+sized-passed : (t : List ℕ) (h : ℕ) (cells : List ℕ) (a : Answer) → fills (sized t h cells a) ≡ true → Sized t h cells
+unfolding sized fills Case7 Case8
+sized-passed t h cells a f = go (readable-or-fault t)
+  where
+    go : Readable t ⊎ ((n : ℕ) × (p : ℕ) × Fault t n p) → Sized t h cells
+    go (inr (n, p, q)) = absurd (text-fills-not n p (fault-number t n p q) (rw (fault-said t n p q) at f))
+    go (inl r) =
+        let f₁ = rw (readable-said t r) at f in
+        case (ltb 1000 h)
+        (λ q. contra (rw q at f₁) refl)
+        (λ q. let f₂ = rw q at f₁ in
+        case (ltb (length cells) ((h + 1) * jointStates t))
+        (λ e. contra (rw e at f₂) refl)
+        (λ e. record { readable = r; horizon = tells-lt 1000 h .no q; room = tells-lt (length cells) ((h + 1) * jointStates t) .no e }))
+
+cells-left : (t : List ℕ) (h : ℕ) (cells : List ℕ) (a : Answer) → CellsLeft t h (sized t h cells a) cells (cellsAfter (sized t h cells a) (rigAutomaton t) h cells)
+unfolding cellsAfter cell Case8
+cells-left t h cells a =
+    case (fills (sized t h cells a))
+    (λ q. rw q (record {
+      long = length-filled (rigAutomaton t) h cells (rw (rig-states t) (room q));
+      filled = λ f r x le lt. rw (← rig-states t) (filled-at (rigAutomaton t) h cells r x le (rw (rig-states t) lt));
+      past = λ f k le. filled-past (rigAutomaton t) h cells k (rw (rig-states t) le);
+      untouched = λ n. absurd (n (fills-told (sized t h cells a) .0 q));
+    }))
+    (λ q. rw q (record {
+      long = refl;
+      filled = λ f. contra (fills-told (sized t h cells a) .1 f) q;
+      past = λ f k le. refl;
+      untouched = λ n. refl;
+    }))
+  where
+    room : fills (sized t h cells a) ≡ true → (h + 1) * jointStates t ≤ length cells
+    room q = ⊎-elim (λ k. k) (λ k. absurd (sized-passed t h cells a q .room k)) (split ((h + 1) * jointStates t) (length cells))
+
+-- ---- the outputs
+
+refused-serves : (n p : ℕ) → Served (refused n p) → ⊥
+unfolding Served
+refused-serves n p (vs, q) = let z : _≡_ {A = ℕ} 0 1 = cc in omega arith
+
+served-or : (a : Answer) → Served a ⊎ (Served a → ⊥)
+unfolding Served
+served-or (served vs) = inl (vs, refl)
+served-or (refused n p) = inr (refused-serves n p)
+
+served-fills : (a : Answer) → Served a → fills a ≡ true
+unfolding Fills
+served-fills a s = fills-told a .1 (inl s)
+
+output-left : (n : ℕ) (a : Answer) (fresh out : List ℕ) → (Served a → (length fresh ≡ n) × (n ≤ length out)) → OutputLeft n a out (outputAfter a fresh out)
+unfolding outputAfter Served
+output-left n (served vs) fresh out f =
+    let (q, le) = f (vs, refl) in
+    record {
+      long = rw (length-append, length-drop) (omega arith);
+      past = λ k m. kept q k m;
+      untouched = λ u. absurd (u (vs, refl));
+    }
+  where
+    kept : length fresh ≡ n → (k : ℕ) → n ≤ k → getD (fresh ++ drop (length fresh) out) k 0 ≡ getD out k 0
+    kept q k m =
+        let e : k ≡ length fresh + (k - length fresh) = omega arith in
+        ap (λ i. getD (fresh ++ drop (length fresh) out) i 0) e
+        ∙ getD-append-add fresh (drop (length fresh) out) (k - length fresh) 0
+        ∙ getD-drop (length fresh) out (k - length fresh) 0
+        ∙ ap (λ i. getD out i 0) (sym e)
+output-left n (refused m p) fresh out f = record { long = refl; past = λ k l. refl; untouched = λ u. refl }
+
+-- a served list has passed every row
+record Listed (t : List ℕ) (h : ℕ) (is cells out : List ℕ) : Type 0 where
+  passed : Sized t h cells
+  room : Case12 h is out → ⊥
+  some : 1 ≤ total t h
+  few : total t h < most
+
+listed : (t : List ℕ) (h : ℕ) (is cells out : List ℕ) → Served (scenarios t h is cells out) → Listed t h is cells out
+unfolding scenarios Case12
+listed t h is cells out s = record { passed = z; room = room; some = counting .0; few = counting .1 }
+  where
+    z : Sized t h cells
+    z = sized-passed t h cells _ (served-fills (scenarios t h is cells out) s)
+
+    after-8 : Served (unless 12 0 (ltb (length out) (length is * h)) (counted t h (unlessAt 11 (λ p i. leb (total t h) i) is (served []))))
+    after-8 = rw (sized-on t h cells _ (z .readable) (z .horizon) (z .room)) at s
+
+    room : length out < length is * h → ⊥
+    room c = refused-serves 12 0 (rw (tells-true (tells-lt (length out) (length is * h)) c) at after-8)
+
+    after-12 : Served (counted t h (unlessAt 11 (λ p i. leb (total t h) i) is (served [])))
+    after-12 = rw (tells-false (tells-lt (length out) (length is * h)) room) at after-8
+
+    counting : (1 ≤ total t h) × (total t h < most)
+    counting = (
+      ⊎-elim (λ l. l) (λ l. let q : total t h ≡ 0 = omega arith in absurd (refused-serves 9 0 (rw (counted-none t h _ q) at after-12))) (split 1 (total t h)),
+      ⊎-elim (λ l. absurd (refused-serves 10 0 (rw (counted-most t h _ l) at after-12))) (λ l. l) (split most (total t h)),
+    )
+
+shuffle-room : (n : ℕ) (ds scratch out : List ℕ) → Served (shuffle n ds scratch out) → length ds ≤ length out
+unfolding shuffle
+shuffle-room n ds scratch out s =
+    case (ltb (length scratch) (2 * length ds))
+    (λ q. absurd (refused-serves 8 0 (rw q at s)))
+    (λ q. let s₁ = rw q at s in
+    case (ltb (length out) (length ds))
+    (λ e. absurd (refused-serves 12 0 (rw e at s₁)))
+    (λ e. ltb-false (length out) (length ds) e))
+
+enough : (h : ℕ) (is out : List ℕ) → (Case12 h is out → ⊥) → length is * h ≤ length out
+unfolding Case12
+enough h is out c = ⊎-elim (λ k. k) (λ k. absurd (c k)) (split (length is * h) (length out))
+
+pub buffers : Buffers
+unfolding Served
+buffers = record {
+  count-cells = λ t h cells. unfold countCells count in cells-left t h cells _;
+  scenarios-cells = λ t h is cells out. unfold scenariosCells scenarios in cells-left t h cells _;
+  index-cells = λ t s cells. unfold indexCells index in cells-left t (length s) cells _;
+  scenarios-output = λ t h is cells out. unfold written in output-left (length is * h) (scenarios t h is cells out) _ out (fresh t h is cells out);
+  scenarios-written = λ t h is cells out s. let l = listed t h is cells out s in block-written t h (l .passed .readable) (l .passed .horizon) (l .some) (l .few) is cells out (l .passed .room) (l .room) s;
+  shuffle-output = λ n ds scratch out. unfold shuffled in output-left (length ds) (shuffle n ds scratch out) (swapping.shuffle ds) out (λ s. (length-shuffle ds, shuffle-room n ds scratch out s));
+  shuffle-written = λ n ds scratch out s. written-shuffle n ds scratch out s;
+}
+  where
+    fresh : (t : List ℕ) (h : ℕ) (is cells out : List ℕ) → Served (scenarios t h is cells out) → (length (each (unrank (rigAutomaton t) h (start t)) is) ≡ length is * h) × (length is * h ≤ length out)
+    fresh t h is cells out s =
+        let l = listed t h is cells out s in
+        let below = served-below t h (l .passed .readable) (l .passed .horizon) (l .some) (l .few) is cells out (l .passed .room) (l .room) s in
+        (length-blocks (unrank (rigAutomaton t) h (start t)) h is (λ i m. scenario-long t h (l .passed .readable) (l .passed .horizon) (l .some) (l .few) i (below i m)), enough h is out (l .room))
+
+    written-shuffle : (n : ℕ) (ds scratch out : List ℕ) → Served (shuffle n ds scratch out) → take (length ds) (shuffled n ds scratch out) ≡ swapping.shuffle ds
+    written-shuffle n ds scratch out (vs, q) = unfold shuffled outputAfter in (rw q (take-at (swapping.shuffle ds) _ (length ds) (length-shuffle ds)))

@@ -1,0 +1,88 @@
+-- The checks that the answers are made of: which refusal is said, and when none is. Assumes nothing.
+use mathlib.Core.Path.{_≡_, sym, _∙_}
+use mathlib.Core.Logic.{_⊎_, inl, inr, _↔_}
+use mathlib.Core.Bool.{Bool, true, false}
+use mathlib.Core.List.{List, [], _∷_}
+use Prim.Native.Nat.{ℕ, zero, suc, _+_, _*_, _≤_, _<_}
+use native.Mathlib.Omega.{arith}
+use native.Mathlib.Nat.{zero-add, add-zero}
+use lib.ListN.{length, getD}
+use lib.Dec.{ltb}
+use Rattle.lists.proofs.Tests.{case, split}
+use Rattle.lists.proofs.Tells.{tells-true, tells-false, tells-lt, tells-le, tells-eq}
+use Rattle.automaton.specs.Counting.{most}
+use Rattle.promises.specs.Answer.{Answer, refused, SaysNone, unless}
+use Rattle.promises.specs.Text.{Readable, Case7, Case8, jointStates}
+use Rattle.promises.specs.Calls.{firstBadFrom, firstBad, unlessAt, sized, total, counted}
+use Rattle.promises.proofs.Reading.{readable-said}
+
+-- ---- the first bad place of a list
+
+-- the list is passed over as long as nothing is bad
+first-from : (bad : ℕ → ℕ → Bool) (p : ℕ) (l : List ℕ)
+    → ((firstBadFrom bad p l ≡ p + length l) × ((k : ℕ) → k < length l → bad (p + k) (getD l k 0) ≡ false))
+    ⊎ ((k : ℕ) × (k < length l) × (firstBadFrom bad p l ≡ p + k) × (bad (p + k) (getD l k 0) ≡ true) × ((j : ℕ) → j < k → bad (p + j) (getD l j 0) ≡ false))
+unfolding firstBadFrom
+first-from bad p [] = inl (sym (add-zero p), λ k h. absurd (omega arith))
+first-from bad p (x ∷ l) =
+    case (bad p x)
+    (λ q. inr (0, omega arith, rw (q, add-zero), rw add-zero q, λ j h. absurd (omega arith)))
+    (λ q. rw q (on q (first-from bad (suc p) l)))
+  where
+    shift : (k : ℕ) → suc p + k ≡ p + suc k
+    shift k = omega arith
+
+    good : bad p x ≡ false → (n : ℕ) → ((k : ℕ) → k < n → bad (suc p + k) (getD l k 0) ≡ false) → (k : ℕ) → k < suc n → bad (p + k) (getD (x ∷ l) k 0) ≡ false
+    good q n g zero h = rw add-zero q
+    good q n g (suc k) h = rw (shift k) at (g k (omega arith))
+
+    on : bad p x ≡ false
+        → ((firstBadFrom bad (suc p) l ≡ suc p + length l) × ((k : ℕ) → k < length l → bad (suc p + k) (getD l k 0) ≡ false))
+        ⊎ ((k : ℕ) × (k < length l) × (firstBadFrom bad (suc p) l ≡ suc p + k) × (bad (suc p + k) (getD l k 0) ≡ true) × ((j : ℕ) → j < k → bad (suc p + j) (getD l j 0) ≡ false))
+        → ((firstBadFrom bad (suc p) l ≡ p + length (x ∷ l)) × ((k : ℕ) → k < length (x ∷ l) → bad (p + k) (getD (x ∷ l) k 0) ≡ false))
+        ⊎ ((k : ℕ) × (k < length (x ∷ l)) × (firstBadFrom bad (suc p) l ≡ p + k) × (bad (p + k) (getD (x ∷ l) k 0) ≡ true) × ((j : ℕ) → j < k → bad (p + j) (getD (x ∷ l) j 0) ≡ false))
+    on q (inl (e, g)) = inl (e ∙ shift (length l), good q (length l) g)
+    on q (inr (k, lt, e, b, g)) = inr (suc k, omega arith, e ∙ shift k, rw (shift k) at b, good q k g)
+
+-- every element is good, or there is a first that is bad
+pub checked-list : (n : ℕ) (bad : ℕ → ℕ → Bool) (l : List ℕ) (a : Answer)
+    → ((unlessAt n bad l a ≡ a) × ((k : ℕ) → k < length l → bad k (getD l k 0) ≡ false))
+    ⊎ ((k : ℕ) × (k < length l) × (unlessAt n bad l a ≡ refused n k) × (bad k (getD l k 0) ≡ true) × ((j : ℕ) → j < k → bad j (getD l j 0) ≡ false))
+unfolding unlessAt firstBad
+checked-list n bad l a = go (first-from bad 0 l)
+  where
+    go : ((firstBadFrom bad 0 l ≡ 0 + length l) × ((k : ℕ) → k < length l → bad (0 + k) (getD l k 0) ≡ false))
+        ⊎ ((k : ℕ) × (k < length l) × (firstBadFrom bad 0 l ≡ 0 + k) × (bad (0 + k) (getD l k 0) ≡ true) × ((j : ℕ) → j < k → bad (0 + j) (getD l j 0) ≡ false))
+        → ((unless n (firstBadFrom bad 0 l) (ltb (firstBadFrom bad 0 l) (length l)) a ≡ a) × ((k : ℕ) → k < length l → bad k (getD l k 0) ≡ false))
+        ⊎ ((k : ℕ) × (k < length l) × (unless n (firstBadFrom bad 0 l) (ltb (firstBadFrom bad 0 l) (length l)) a ≡ refused n k) × (bad k (getD l k 0) ≡ true) × ((j : ℕ) → j < k → bad j (getD l j 0) ≡ false))
+    go (inl (e, g)) = inl (rw (e, tells-false (tells-lt (0 + length l) (length l)) (λ h. omega arith)), λ k h. rw zero-add at (g k h))
+    go (inr (k, lt, e, b, g)) = inr (k, lt, rw (e, zero-add k, tells-true (tells-lt k (length l)) lt), rw zero-add at b, λ j h. rw zero-add at (g j h))
+
+-- ---- the rows of the table up to 8, and 9 and 10
+
+pub sized-on : (t : List ℕ) (h : ℕ) (cells : List ℕ) (a : Answer) → Readable t → (Case7 h → ⊥) → (Case8 t h cells → ⊥) → sized t h cells a ≡ a
+unfolding sized Case7 Case8
+sized-on t h cells a r c7 c8 = rw (readable-said t r, tells-false (tells-lt 1000 h) c7, tells-false (tells-lt (length cells) ((h + 1) * jointStates t)) c8)
+
+module _ (t : List ℕ) (h : ℕ) where
+  pub counted-none : (a : Answer) → total t h ≡ 0 → counted t h a ≡ refused 9 0
+  unfolding counted
+  counted-none a q = rw q
+
+  pub counted-most : (a : Answer) → most ≤ total t h → counted t h a ≡ refused 10 0
+  unfolding counted most
+  counted-most a le = rw (tells-false (tells-eq (total t h) 0) (λ q. omega arith), tells-true (tells-le most (total t h)) le)
+
+  pub counted-on : (a : Answer) → 1 ≤ total t h → total t h < most → counted t h a ≡ a
+  unfolding counted
+  counted-on a le lt = rw (tells-false (tells-eq (total t h) 0) (λ q. omega arith), tells-false (tells-le most (total t h)) (λ q. omega arith))
+
+  -- 9 is said exactly where N is 0, whatever comes after, if that does not say 9
+  pub says-none : (a : Answer) → (SaysNone a → ⊥) → SaysNone (counted t h a) ↔ (total t h ≡ 0)
+  unfolding SaysNone
+  says-none a other = (λ s. which s (split 1 (total t h)) (split most (total t h)), λ q. (0, counted-none a q))
+    where
+      which : (p : ℕ) × (counted t h a ≡ refused 9 p) → (1 ≤ total t h) ⊎ (total t h < 1) → (most ≤ total t h) ⊎ (total t h < most) → total t h ≡ 0
+      which s (inr z) m = omega arith
+      which (p, q) (inl o) (inl m) = let r : counted t h a ≡ refused 10 0 = counted-most a m in let z : _≡_ {A = ℕ} 9 10 = cc in absurd (omega arith)
+      which (p, q) (inl o) (inr m) = absurd (other (p, sym (counted-on a o m) ∙ q))

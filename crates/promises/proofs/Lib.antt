@@ -1,0 +1,12 @@
+-- The theorems over the definitions of specs/.
+pub mod Lines
+pub mod Reading
+pub mod Meaning
+pub mod Checks
+pub mod Answers
+pub mod Demand3
+pub mod Demand2
+pub mod Examples
+pub mod Starred
+pub mod Refusals
+pub mod Buffers

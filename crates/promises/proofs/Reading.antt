@@ -1,0 +1,241 @@
+-- Reading finds what the words say: it refuses with (n, p) exactly where Fault says so, and serves exactly the readable texts.
+-- Why: each test tells its case, line by line; after sound lines the search stands where the first bad line is. Assumes nothing.
+use mathlib.Core.Path.{_≡_, refl, sym, ap, _∙_, subst}
+use mathlib.Core.Logic.{_⊎_, inl, inr, _≢_, _↔_}
+use mathlib.Core.Bool.{not, _&&_}
+use mathlib.Core.List.{List, [], _∷_, _++_, append-nil, append-assoc, List·Memᴰ as In, List·Memᴰ·head as here, List·Memᴰ·tail as there, List·Memᴰ·not-nil}
+use mathlib.Core.Option.{Option, none, some}
+use Prim.Native.Nat.{ℕ, suc, _*_, _≤_, _<_}
+use native.Mathlib.Omega.{arith}
+use lib.ListN.{length}
+use lib.Dec.{ltb, eqb}
+use Rattle.lists.proofs.Tests.{contra, case}
+use Rattle.lists.proofs.Tells.{Tells, tells-true, tells-false, tells-lt, tells-le, tells-eq, tells-never, tells-not, tells-or, tells-and}
+use Rattle.promises.specs.Answer.{served, refused, Served, unless}
+use Rattle.promises.specs.Text.{Line, rig, mon, go, other, Monitor, monitors, latest, statesOf, eventsOf, product, decoded, unended, GoOut, GoAgain, cases, Case1, Case2, Case3, Case4, Case5, Case6, Sound, AllSound, Readable, LineFault, Fault}
+use Rattle.promises.specs.Reading.{empty, goOut, isMove, moves, goAgain, tests, isOther, lineCase, readingFrom, reading}
+use Rattle.promises.proofs.Lines.{not-empty}
+
+-- ---- each test tells its case
+
+pub tells-empty : {A : Type 0} (l : List A) → Tells (empty l) (l ≡ [])
+tells-empty [] = record { yes = λ q. refl; no = λ q h. contra refl q }
+tells-empty (x ∷ l) = record { yes = λ q. contra q refl; no = λ q. not-empty x l }
+
+tells-other : (l : Line) → Tells (isOther l) (l ≡ other)
+unfolding isOther
+tells-other (rig e) = record { yes = λ q. contra q refl; no = λ q h. let z : _≡_ {A = ℕ} 0 1 = cc in omega arith }
+tells-other (mon s) = record { yes = λ q. contra q refl; no = λ q h. let z : _≡_ {A = ℕ} 0 1 = cc in omega arith }
+tells-other (go s e t) = record { yes = λ q. contra q refl; no = λ q h. let z : _≡_ {A = ℕ} 0 1 = cc in omega arith }
+tells-other other = record { yes = λ q. refl; no = λ q h. contra refl q }
+
+tells-goOut : (E s e t : ℕ) (m : Option Monitor) → Tells (goOut E s e t m) (GoOut E s e t m)
+unfolding goOut GoOut
+tells-goOut E s e t none = tells-never
+tells-goOut E s e t (some m) = tells-or (tells-le (statesOf (m .head)) s) (tells-or (tells-le E e) (tells-le (statesOf (m .head)) t))
+
+-- a line that moves from s on e is `go` s e u for some u
+pub is-move : (s e : ℕ) (l : Line) → Tells (isMove s e l) ((u : ℕ) × (go s e u ≡ l))
+unfolding isMove
+is-move s e (rig a) = record { yes = λ q. contra q refl; no = λ q h. let w : go s e (h .0) ≡ rig a = h .1 in let z : _≡_ {A = ℕ} 0 1 = cc in omega arith }
+is-move s e (mon a) = record { yes = λ q. contra q refl; no = λ q h. let w : go s e (h .0) ≡ mon a = h .1 in let z : _≡_ {A = ℕ} 0 1 = cc in omega arith }
+is-move s e (go a b c) =
+    let both : Tells (eqb a s && eqb b e) ((a ≡ s) × (b ≡ e)) = tells-and (tells-eq a s) (tells-eq b e) in
+    record {
+      yes = λ q. let (x, y) = both .yes q in (c, rw (x, y) refl);
+      no = λ q h. let w : go s e (h .0) ≡ go a b c = h .1 in let x : a ≡ s = cc in let y : b ≡ e = cc in both .no q (x, y);
+    }
+is-move s e other = record { yes = λ q. contra q refl; no = λ q h. let w : go s e (h .0) ≡ other = h .1 in let z : _≡_ {A = ℕ} 0 1 = cc in omega arith }
+
+pub tells-moves : (s e : ℕ) (ls : List Line) → Tells (moves s e ls) ((u : ℕ) × In (go s e u) ls)
+unfolding moves
+tells-moves s e [] = record { yes = λ q. contra q refl; no = λ q h. List·Memᴰ·not-nil (h .1) }
+tells-moves s e (l ∷ ls) =
+    let t = tells-or (is-move s e l) (tells-moves s e ls) in
+    record { yes = λ q. found (t .yes q); no = λ q h. t .no q (where-is h) }
+  where
+    found : ((u : ℕ) × (go s e u ≡ l)) ⊎ ((u : ℕ) × In (go s e u) ls) → (u : ℕ) × In (go s e u) (l ∷ ls)
+    found (inl (u, q)) = (u, here q)
+    found (inr (u, i)) = (u, there i)
+
+    where-is : (u : ℕ) × In (go s e u) (l ∷ ls) → ((u : ℕ) × (go s e u ≡ l)) ⊎ ((u : ℕ) × In (go s e u) ls)
+    where-is (u, here q) = inl (u, q)
+    where-is (u, there i) = inr (u, i)
+
+tells-goAgain : (s e : ℕ) (m : Option Monitor) → Tells (goAgain s e m) (GoAgain s e m)
+unfolding goAgain GoAgain
+tells-goAgain s e none = tells-never
+tells-goAgain s e (some m) = tells-moves s e (m .body)
+
+-- the tests of a line, one clause a form
+record Told (ls : List Line) (l : Line) : Type 0 where
+  misplaced : Tells (tests ls l .misplaced) (Case5 ls l)
+  out-of-range : Tells (tests ls l .out-of-range) (Case3 ls l)
+  again : Tells (tests ls l .again) (Case4 ls l)
+  too-many : Tells (tests ls l .too-many) (Case6 ls l)
+
+told : (ls : List Line) (l : Line) → Told ls l
+unfolding tests Case5 Case3 Case4 Case6 cases
+told ls (rig e) = record {
+  misplaced = tells-not (tells-empty ls);
+  out-of-range = tells-or (tells-lt e 1) (tells-lt 16 e);
+  again = tells-never;
+  too-many = tells-never;
+}
+told ls (mon s) = record {
+  misplaced = tells-empty ls;
+  out-of-range = tells-or (tells-lt s 1) (tells-or (tells-lt 32 s) (tells-le 4 (length (monitors ls))));
+  again = tells-never;
+  too-many = tells-lt 1024 (product (monitors ls) * s);
+}
+told ls (go s e t) = record {
+  misplaced = tells-or (tells-empty ls) (tells-empty (monitors ls));
+  out-of-range = tells-goOut (eventsOf ls) s e t (latest (monitors ls));
+  again = tells-goAgain s e (latest (monitors ls));
+  too-many = tells-never;
+}
+told ls other = record { misplaced = tells-empty ls; out-of-range = tells-never; again = tells-never; too-many = tells-never }
+
+-- ---- one line
+
+pub sound-case : (ls : List Line) (l : Line) → Sound ls l → lineCase ls l ≡ 0
+unfolding lineCase Case2
+sound-case ls l s =
+    let t = told ls l in
+    rw (tells-false (tells-other l) (s .formed), tells-false (t .misplaced) (s .placed), tells-false (t .out-of-range) (s .ranged), tells-false (t .again) (s .new), tells-false (t .too-many) (s .fits))
+
+pub fault-case : (ls : List Line) (l : Line) (n : ℕ) → LineFault ls l n → (lineCase ls l ≡ n) × (n ≢ 0)
+unfolding LineFault lineCase Case2
+fault-case ls l n (inl (c, q)) = rw (q, tells-true (tells-other l) c) (refl, omega arith)
+fault-case ls l n (inr (inl (a, c, q))) =
+    rw (q, tells-false (tells-other l) a, tells-true (told ls l .misplaced) c) (refl, omega arith)
+fault-case ls l n (inr (inr (inl (a, b, c, q)))) =
+    rw (q, tells-false (tells-other l) a, tells-false (told ls l .misplaced) b, tells-true (told ls l .out-of-range) c) (refl, omega arith)
+fault-case ls l n (inr (inr (inr (inl (a, b, d, c, q))))) =
+    rw (q, tells-false (tells-other l) a, tells-false (told ls l .misplaced) b, tells-false (told ls l .out-of-range) d, tells-true (told ls l .again) c) (refl, omega arith)
+fault-case ls l n (inr (inr (inr (inr (a, b, d, f, c, q))))) =
+    rw (q, tells-false (tells-other l) a, tells-false (told ls l .misplaced) b, tells-false (told ls l .out-of-range) d, tells-false (told ls l .again) f, tells-true (told ls l .too-many) c) (refl, omega arith)
+
+-- every line is sound, or some case is the first that holds of it
+pub judged : (ls : List Line) (l : Line) → Sound ls l ⊎ ((n : ℕ) × LineFault ls l n)
+unfolding LineFault Case2
+judged ls l =
+    case (isOther l) (λ q. inr (2, inl (tells-other l .yes q, refl))) (λ q.
+    let a = tells-other l .no q in
+    case (tests ls l .misplaced) (λ q. inr (5, inr (inl (a, told ls l .misplaced .yes q, refl)))) (λ q.
+    let b = told ls l .misplaced .no q in
+    case (tests ls l .out-of-range) (λ q. inr (3, inr (inr (inl (a, b, told ls l .out-of-range .yes q, refl))))) (λ q.
+    let c = told ls l .out-of-range .no q in
+    case (tests ls l .again) (λ q. inr (4, inr (inr (inr (inl (a, b, c, told ls l .again .yes q, refl)))))) (λ q.
+    let d = told ls l .again .no q in
+    case (tests ls l .too-many) (λ q. inr (6, inr (inr (inr (inr (a, b, c, d, told ls l .too-many .yes q, refl)))))) (λ q.
+    inl (record { formed = a; placed = b; ranged = c; new = d; fits = told ls l .too-many .no q }))))))
+
+-- ---- all lines
+
+pub allSound-append : (front xs ys : List Line) → AllSound front (xs ++ ys) ↔ (AllSound front xs × AllSound (front ++ xs) ys)
+unfolding AllSound
+allSound-append front [] ys = rw append-nil (λ s. (tt, s), λ s. s .1)
+allSound-append front (x ∷ xs) ys =
+    let ih = allSound-append (front ++ (x ∷ [])) xs ys in
+    let q : (front ++ (x ∷ [])) ++ xs ≡ front ++ (x ∷ xs) = append-assoc front (x ∷ []) xs in
+    (λ s. let (a, b) = ih .0 (s .1) in ((s .0, a), subst (λ k. AllSound k ys) q b), λ s. (s .0 .0, ih .1 (s .0 .1, subst (λ k. AllSound k ys) (sym q) (s .1))))
+
+-- sound lines are passed over
+skip : (front xs ys : List Line) (tail : List ℕ) → AllSound front xs → readingFrom front (xs ++ ys) tail ≡ readingFrom (front ++ xs) ys tail
+unfolding readingFrom AllSound
+skip front [] ys tail s = rw append-nil
+skip front (x ∷ xs) ys tail s = rw (sound-case front x (s .0)) (skip (front ++ (x ∷ [])) xs ys tail (s .1) ∙ ap (λ k. readingFrom k ys tail) (append-assoc front (x ∷ []) xs))
+
+-- a bad line is said
+said : (front : List Line) (l : Line) (ys : List Line) (tail : List ℕ) (n : ℕ) → LineFault front l n → readingFrom front (l ∷ ys) tail ≡ refused n (suc (length front))
+unfolding readingFrom
+said front l ys tail n f =
+    let (q, ne) = fault-case front l n f in
+    rw (q, tells-false (tells-eq n 0) ne)
+
+-- either all lines are sound, or there is a first that is not
+searched : (front back : List Line) → AllSound front back ⊎ ((xs : List Line) × (l : Line) × (ys : List Line) × (n : ℕ) × (back ≡ xs ++ (l ∷ ys)) × AllSound front xs × LineFault (front ++ xs) l n)
+unfolding AllSound
+searched front [] = inl tt
+searched front (l ∷ back) = look (judged front l) (searched (front ++ (l ∷ [])) back)
+  where
+    look : Sound front l ⊎ ((n : ℕ) × LineFault front l n)
+        → AllSound (front ++ (l ∷ [])) back ⊎ ((xs : List Line) × (k : Line) × (ys : List Line) × (n : ℕ) × (back ≡ xs ++ (k ∷ ys)) × AllSound (front ++ (l ∷ [])) xs × LineFault ((front ++ (l ∷ [])) ++ xs) k n)
+        → AllSound front (l ∷ back) ⊎ ((xs : List Line) × (k : Line) × (ys : List Line) × (n : ℕ) × ((l ∷ back) ≡ xs ++ (k ∷ ys)) × AllSound front xs × LineFault (front ++ xs) k n)
+    look (inr (n, f)) r = inr ([], l, back, n, refl, tt, rw append-nil f)
+    look (inl s) (inl r) = inl (s, r)
+    look (inl s) (inr (xs, k, ys, n, q, r, f)) = inr (l ∷ xs, k, ys, n, ap (λ b. l ∷ b) q, (s, r), subst (λ fr. LineFault fr k n) (append-assoc front (l ∷ []) xs) f)
+
+-- ---- the text
+
+-- after the last line: is it ended, and is there a monitor?
+ended-reading : (ls : List Line) (tail : List ℕ) → AllSound [] ls
+    → readingFrom [] ls tail ≡ unless 2 (suc (length ls)) (not (empty tail)) (unless 5 (suc (length ls)) (empty (monitors ls)) (served []))
+unfolding readingFrom
+ended-reading ls tail s = ap (λ k. readingFrom [] k tail) (sym (append-nil ls)) ∙ skip [] ls [] tail s
+
+pub readable-said : (t : List ℕ) → Readable t → reading t ≡ served []
+unfolding reading Case1
+readable-said t r =
+    rw (tells-false (tells-lt 65535 (length t)) (r .short), ended-reading (decoded t) (unended t) (r .sound), r .ended, tells-false (tells-empty (monitors (decoded t))) (r .monitored))
+
+pub fault-said : (t : List ℕ) (n p : ℕ) → Fault t n p → reading t ≡ refused n p
+unfolding reading Fault Case1
+fault-said t n p (inl (c, a, b)) = rw (tells-true (tells-lt 65535 (length t)) c, a, b)
+fault-said t n p (inr (inl (c, (front, l, back, q, s, f, e)))) =
+    rw (tells-false (tells-lt 65535 (length t)) c, q, e) (skip [] front (l ∷ back) (unended t) s ∙ said front l back (unended t) n f)
+fault-said t n p (inr (inr (inl (c, s, u, a, b)))) =
+    rw (tells-false (tells-lt 65535 (length t)) c, ended-reading (decoded t) (unended t) s, tells-false (tells-empty (unended t)) u, a, b)
+fault-said t n p (inr (inr (inr (c, s, u, m, a, b)))) =
+    rw (tells-false (tells-lt 65535 (length t)) c, ended-reading (decoded t) (unended t) s, u, m, a, b)
+
+-- the numbers of the checks on a text are 1 to 6
+pub fault-number : (t : List ℕ) (n p : ℕ) → Fault t n p → n ≤ 6
+unfolding Fault LineFault
+fault-number t n p (inl (c, q, r)) = omega arith
+fault-number t n p (inr (inl (c, (front, l, back, e, s, inl (a, q), r)))) = omega arith
+fault-number t n p (inr (inl (c, (front, l, back, e, s, inr (inl (a, b, q)), r)))) = omega arith
+fault-number t n p (inr (inl (c, (front, l, back, e, s, inr (inr (inl (a, b, d, q))), r)))) = omega arith
+fault-number t n p (inr (inl (c, (front, l, back, e, s, inr (inr (inr (inl (a, b, d, f, q)))), r)))) = omega arith
+fault-number t n p (inr (inl (c, (front, l, back, e, s, inr (inr (inr (inr (a, b, d, f, g, q)))), r)))) = omega arith
+fault-number t n p (inr (inr (inl (c, s, u, q, r)))) = omega arith
+fault-number t n p (inr (inr (inr (c, s, u, m, q, r)))) = omega arith
+
+-- every text is readable, or has a fault
+pub readable-or-fault : (t : List ℕ) → Readable t ⊎ ((n : ℕ) × (p : ℕ) × Fault t n p)
+unfolding Fault Case1
+readable-or-fault t =
+    case (ltb 65535 (length t)) (λ q. inr (1, 0, inl (tells-lt 65535 (length t) .yes q, refl, refl))) (λ q. lined (tells-lt 65535 (length t) .no q) (searched [] (decoded t)))
+  where
+    lined : (65535 < length t → ⊥)
+        → AllSound [] (decoded t) ⊎ ((xs : List Line) × (l : Line) × (ys : List Line) × (n : ℕ) × (decoded t ≡ xs ++ (l ∷ ys)) × AllSound [] xs × LineFault xs l n)
+        → Readable t ⊎ ((n : ℕ) × (p : ℕ) × Fault t n p)
+    lined short (inr (xs, l, ys, n, q, s, f)) = inr (n, suc (length xs), inr (inl (short, (xs, l, ys, q, s, f, refl))))
+    lined short (inl s) =
+        case (empty (unended t))
+        (λ q. case (empty (monitors (decoded t)))
+        (λ r. inr (5, suc (length (decoded t)), inr (inr (inr (short, s, tells-empty (unended t) .yes q, tells-empty (monitors (decoded t)) .yes r, refl, refl)))))
+        (λ r. inl (record { short = short; sound = s; ended = tells-empty (unended t) .yes q; monitored = tells-empty (monitors (decoded t)) .no r })))
+        (λ q. inr (2, suc (length (decoded t)), inr (inr (inl (short, s, tells-empty (unended t) .no q, refl, refl)))))
+
+-- reading refuses with (n, p) exactly where the checks, as 01 writes them, do
+pub reading-refuses : (t : List ℕ) (n p : ℕ) → (reading t ≡ refused n p) ↔ Fault t n p
+reading-refuses t n p = (λ q. which q (readable-or-fault t), fault-said t n p)
+  where
+    which : reading t ≡ refused n p → Readable t ⊎ ((n : ℕ) × (p : ℕ) × Fault t n p) → Fault t n p
+    which q (inl r) = let s : reading t ≡ served [] = readable-said t r in let z : _≡_ {A = ℕ} 0 1 = cc in absurd (omega arith)
+    which q (inr (m, o, f)) =
+        let s : reading t ≡ refused m o = fault-said t m o f in
+        let a : m ≡ n = cc in
+        let b : o ≡ p = cc in
+        rw (a, b) at f
+
+-- and serves exactly the readable texts
+pub reading-serves : (t : List ℕ) → Served (reading t) ↔ Readable t
+unfolding Served
+reading-serves t = (λ (vs, q). which vs q (readable-or-fault t), λ r. ([], readable-said t r))
+  where
+    which : (vs : List ℕ) → reading t ≡ served vs → Readable t ⊎ ((n : ℕ) × (p : ℕ) × Fault t n p) → Readable t
+    which vs q (inl r) = r
+    which vs q (inr (n, p, f)) = let s : reading t ≡ refused n p = fault-said t n p f in let z : _≡_ {A = ℕ} 0 1 = cc in absurd (omega arith)

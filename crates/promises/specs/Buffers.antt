@@ -1,0 +1,51 @@
+-- What the buffers hold afterwards, cell by cell and byte by byte, on served and refused input alike.
+--   Fills a            == the answer is one after which the cells are filled
+--   CellsLeft          == what the cells hold after a call on a text
+--   OutputLeft         == what an output holds: the first numbers fresh where served, else as before
+--   Buffers            == each buffer of the four calls
+-- Assumes nothing.
+use mathlib.Core.Path.{_≡_}
+use mathlib.Core.Logic.{_⊎_}
+use mathlib.Core.List.{List, [], _∷_, List·Memᴰ as In}
+use Prim.Native.Nat.{ℕ, _+_, _*_, _≤_, _<_, min}
+use lib.ListN.{length, getD, take}
+use Rattle.automaton.specs.Counting.{N, most}
+use Rattle.automaton.specs.Ranking.{unrank}
+use Rattle.automaton.specs.Shuffle as swapping
+use Rattle.promises.specs.Answer.{Answer, refused, Served}
+use Rattle.promises.specs.Text.{jointStates}
+use Rattle.promises.specs.Rig.{rigAutomaton, start}
+use Rattle.promises.specs.Demand3.{block}
+use Rattle.promises.specs.Calls.{count, countCells, scenarios, scenariosCells, written, index, indexCells, shuffle, shuffled}
+
+-- 'After 9, 10, 11 and 14 the cells are filled'
+unfoldable pub Fills : Answer → Type 0
+Fills a = Served a ⊎ ((n : ℕ) × (p : ℕ) × (a ≡ refused n p) × In n (9 ∷ 10 ∷ 11 ∷ 14 ∷ []))
+
+pub record CellsLeft (t : List ℕ) (h : ℕ) (a : Answer) (cells left : List ℕ) : Type 0 where
+  pub long : length left ≡ length cells
+  -- 'The cell at r × P + x holds N(r, x), or 18,446,744,073,709,551,615 if N(r, x) is that or more.'
+  pub filled : Fills a → (r x : ℕ) → r ≤ h → x < jointStates t → getD left (r * jointStates t + x) 0 ≡ min (N (rigAutomaton t) r x) most
+  -- 'Cells past (h+1) × P .. keep their contents.'
+  pub past : Fills a → (k : ℕ) → (h + 1) * jointStates t ≤ k → getD left k 0 ≡ getD cells k 0
+  -- 'after every other refusal they .. are untouched'
+  pub untouched : (Fills a → ⊥) → left ≡ cells
+
+-- n numbers are written where the answer serves
+pub record OutputLeft (n : ℕ) (a : Answer) (out left : List ℕ) : Type 0 where
+  pub long : length left ≡ length out
+  -- 'outputs past what is filled, keep their contents'
+  pub past : (k : ℕ) → n ≤ k → getD left k 0 ≡ getD out k 0
+  -- 'Output is untouched after each.'
+  pub untouched : (Served a → ⊥) → left ≡ out
+
+pub record Buffers : Type 0 where
+  pub count-cells : (t : List ℕ) (h : ℕ) (cells : List ℕ) → CellsLeft t h (count t h cells) cells (countCells t h cells)
+  pub scenarios-cells : (t : List ℕ) (h : ℕ) (is cells out : List ℕ) → CellsLeft t h (scenarios t h is cells out) cells (scenariosCells t h is cells out)
+  pub index-cells : (t s cells : List ℕ) → CellsLeft t (length s) (index t s cells) cells (indexCells t s cells)
+  pub scenarios-output : (t : List ℕ) (h : ℕ) (is cells out : List ℕ) → OutputLeft (length is * h) (scenarios t h is cells out) out (written t h is cells out)
+  -- 'Scenario number n of the list fills the h output bytes from n × h.'
+  pub scenarios-written : (t : List ℕ) (h : ℕ) (is cells out : List ℕ) → Served (scenarios t h is cells out) → (n : ℕ) → n < length is
+      → block h n (written t h is cells out) ≡ unrank (rigAutomaton t) h (start t) (getD is n 0)
+  pub shuffle-output : (n : ℕ) (ds scratch out : List ℕ) → OutputLeft (length ds) (shuffle n ds scratch out) out (shuffled n ds scratch out)
+  pub shuffle-written : (n : ℕ) (ds scratch out : List ℕ) → Served (shuffle n ds scratch out) → take (length ds) (shuffled n ds scratch out) ≡ swapping.shuffle ds

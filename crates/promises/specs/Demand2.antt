@@ -1,0 +1,55 @@
+-- Demand 2, stated of any four calls: counts, scenarios and indices are nb_traces and trace of source document 000 over its safe states, for the
+-- conjoint monitor of the text; the shuffle is the swapping of source document 001.
+--   Traces C t h Φ     == the calls agree with nb_traces and trace, Φ telling the safe states
+--   Demand2 C          == demand 2
+-- At a start that is not safe source document 000 has no generator: there 9 is said and nothing is compared. Assumes nothing.
+use mathlib.Core.Path.{_≡_}
+use mathlib.Core.Logic.{_↔_}
+use mathlib.Core.Bool.{Bool, true, false}
+use mathlib.Core.Option.{none, some}
+use mathlib.Core.List.{List, [], _∷_}
+use Prim.Native.Nat.{ℕ, _≤_, _<_}
+use lib.ListN.{length, getD, take}
+use Rattle.automaton.specs.Counting.{most}
+use Rattle.automaton.specs.Source000.{Safe, nb-traces, trace}
+use Rattle.automaton.specs.Source001.{rndPermPrefix}
+use Rattle.promises.specs.Answer.{served, refused, Served, SaysNone}
+use Rattle.promises.specs.Text.{Readable, Case7, Case8, Case8·scratch, Case12, Case12·draws, Case13}
+use Rattle.promises.specs.Rig.{rigAutomaton, start}
+use Rattle.promises.specs.Demand3.{Calls, ValidDraws, block}
+
+module _ (C : Calls) where
+  open Calls C using (count, scenarios, written, index, shuffle, shuffled)
+
+  -- where the start is safe and nb_traces(h) is a number that can be told
+  pub record Traced (t : List ℕ) (h : ℕ) (Φ : ℕ → Bool) : Type 0 where
+    -- Count's N is nb_traces(h)
+    pub counted : (cells : List ℕ) → (Case8 t h cells → ⊥) → (passes : ℕ) × (count t h cells ≡ served (nb-traces (rigAutomaton t) Φ (start t) h ∷ passes ∷ []))
+    -- block n of what Scenarios leaves is trace(index n, h)
+    pub traced : (is cells out : List ℕ) → (Case8 t h cells → ⊥) → (Case12 h is out → ⊥) → Served (scenarios t h is cells out)
+        → (n : ℕ) → n < length is → trace (rigAutomaton t) Φ (start t) (getD is n 0) h ≡ some (block h n (written t h is cells out))
+    -- and 11 is said exactly where trace's error 'index out of bounds' is met
+    pub bounded : (is cells out : List ℕ) → (Case8 t h cells → ⊥) → (Case12 h is out → ⊥)
+        → ((p : ℕ) × (scenarios t h is cells out ≡ refused 11 p)) ↔ ((n : ℕ) × (n < length is) × (trace (rigAutomaton t) Φ (start t) (getD is n 0) h ≡ none))
+    -- Index of trace(i, h) is i
+    pub indexed : (i : ℕ) (w cells : List ℕ) → trace (rigAutomaton t) Φ (start t) i h ≡ some w → (Case8 t h cells → ⊥) → index t w cells ≡ served (i ∷ [])
+
+  pub record Traces (t : List ℕ) (h : ℕ) (Φ : ℕ → Bool) : Type 0 where
+    -- 9 is said exactly where the start is not safe
+    pub unsafe-count : (cells : List ℕ) → (Case8 t h cells → ⊥) → SaysNone (count t h cells) ↔ (Φ (start t) ≡ false)
+    pub unsafe-scenarios : (is cells out : List ℕ) → (Case8 t h cells → ⊥) → (Case12 h is out → ⊥) → SaysNone (scenarios t h is cells out) ↔ (Φ (start t) ≡ false)
+    pub unsafe-index : (s cells : List ℕ) → length s ≡ h → (Case8 t h cells → ⊥) → ((p : ℕ) → Case13 t s p → ⊥) → SaysNone (index t s cells) ↔ (Φ (start t) ≡ false)
+    pub safe : Φ (start t) ≡ true → nb-traces (rigAutomaton t) Φ (start t) h < most → Traced t h Φ
+    -- and 10 where nb_traces(h) is 2^64 − 1 or more
+    pub too-many : Φ (start t) ≡ true → most ≤ nb-traces (rigAutomaton t) Φ (start t) h
+        → ((cells : List ℕ) → (Case8 t h cells → ⊥) → count t h cells ≡ refused 10 0)
+        × ((is cells out : List ℕ) → (Case8 t h cells → ⊥) → (Case12 h is out → ⊥) → scenarios t h is cells out ≡ refused 10 0)
+        × ((s cells : List ℕ) → length s ≡ h → (Case8 t h cells → ⊥) → ((p : ℕ) → Case13 t s p → ⊥) → index t s cells ≡ refused 10 0)
+
+  pub record Demand2 : Type 0 where
+    -- for any Φ that is the greatest solution of equation (1); there is one
+    pub traces : (t : List ℕ) (h : ℕ) → Readable t → (Case7 h → ⊥) → (Φ : ℕ → Bool) → Safe (rigAutomaton t) Φ → Traces t h Φ
+    pub safe-states : (t : List ℕ) → Readable t → (Φ : ℕ → Bool) × Safe (rigAutomaton t) Φ
+    -- rndPermPrefix on the same draws; 01 also allows no draws and n 0, where it puts out nothing
+    pub permuted : (n : ℕ) (ds scratch out : List ℕ) → ValidDraws n ds → (Case8·scratch ds scratch → ⊥) → (Case12·draws ds out → ⊥)
+        → Served (shuffle n ds scratch out) × (take (length ds) (shuffled n ds scratch out) ≡ rndPermPrefix ds)

@@ -1,0 +1,36 @@
+-- What a readable rig's lines say of sequences of events: the words of demand 3. No cell, set, count or record is named here.
+--   Admits m s w        == the monitor m, in state s, admits the sequence w
+--   AllAdmit t w        == every monitor of the text t admits w from its start state
+--   CarriedOn t w k     == w can be carried on by k events
+--   Belongs t h w       == w has h events, every monitor admits it, and it can be carried on by any further number of events
+--   Comes v w           == v comes before w in the order of their events
+-- Assumes nothing.
+use mathlib.Core.Path.{_≡_}
+use mathlib.Core.Logic.{_⊎_}
+use mathlib.Core.List.{List, [], _∷_, _++_, List·Memᴰ as In}
+use Prim.Native.Nat.{ℕ, _<_}
+use lib.ListN.{length}
+use Rattle.promises.specs.Text.{go, Monitor, monitors, startOf, decoded}
+
+-- 'A monitor admits a sequence if, from its start state, it admits each event in the state that the events before it led to.'
+unfoldable pub Admits : Monitor → ℕ → List ℕ → Type 0
+Admits m s [] = Unit {0}
+Admits m s (e ∷ w) = (t : ℕ) × In (go s e t) (m .body) × Admits m t w
+
+unfoldable pub AllAdmit : List ℕ → List ℕ → Type 0
+AllAdmit t w = (m : Monitor) → In m (monitors (decoded t)) → Admits m (startOf (m .head)) w
+
+-- 'some k events can be put after it so that every monitor admits the whole'
+unfoldable pub CarriedOn : List ℕ → List ℕ → ℕ → Type 0
+CarriedOn t w k = (v : List ℕ) × (length v ≡ k) × AllAdmit t (w ++ v)
+
+pub record Belongs (t : List ℕ) (h : ℕ) (w : List ℕ) : Type 0 where
+  pub long : length w ≡ h
+  pub admitted : AllAdmit t w
+  pub carried-on : (k : ℕ) → CarriedOn t w k
+
+-- 'Order is by the first differing event, lower first.'
+unfoldable pub Comes : List ℕ → List ℕ → Type 0
+Comes [] w = ⊥
+Comes (a ∷ v) [] = ⊥
+Comes (a ∷ v) (b ∷ w) = (a < b) ⊎ ((a ≡ b) × Comes v w)

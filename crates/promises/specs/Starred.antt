@@ -1,0 +1,32 @@
+-- The starred lines of paper 01, 'Rigs A, B, F', as one statement about the values of the definitions. Assumes nothing.
+use mathlib.Core.Path.{_≡_}
+use mathlib.Core.List.{List, [], _∷_}
+use Prim.Native.Nat.{ℕ}
+use lib.ListN.{replicate}
+use Rattle.promises.specs.Answer.{served, refused}
+use Rattle.promises.specs.Calls.{count, scenarios, written, index, shuffle, shuffled}
+use Rattle.promises.specs.Examples.{A, B}
+
+-- n numbers to lend
+abbrev pub lent : ℕ → List ℕ
+lent n = replicate n 7
+
+pub record Starred : Type 0 where
+  -- 'A, h 0: N 1. h 1: 2. h 2: 3. h 3: 5, passes 1.'
+  pub a-0 : count A 0 (lent 8) ≡ served (1 ∷ 1 ∷ [])
+  pub a-1 : count A 1 (lent 8) ≡ served (2 ∷ 1 ∷ [])
+  pub a-2 : count A 2 (lent 8) ≡ served (3 ∷ 1 ∷ [])
+  pub a-3 : count A 3 (lent 8) ≡ served (5 ∷ 1 ∷ [])
+  -- 'A, h 3, indices 4 2 2: bytes 1 0 1 0 1 0 0 1 0.'
+  pub a-listed : scenarios A 3 (4 ∷ 2 ∷ 2 ∷ []) (lent 8) (lent 9) ≡ served []
+  pub a-bytes : written A 3 (4 ∷ 2 ∷ 2 ∷ []) (lent 8) (lent 9) ≡ 1 ∷ 0 ∷ 1 ∷ 0 ∷ 1 ∷ 0 ∷ 0 ∷ 1 ∷ 0 ∷ []
+  -- 'A, sequence 1 0 1: index 4.'
+  pub a-index : index A (1 ∷ 0 ∷ 1 ∷ []) (lent 8) ≡ served (4 ∷ [])
+  -- 'B, h 1: N 1, passes 3. B, sequence 1: refusal 14, place 0.'
+  pub b-1 : count B 1 (lent 8) ≡ served (1 ∷ 3 ∷ [])
+  pub b-index : index B (1 ∷ []) (lent 8) ≡ refused 14 0
+  -- 'Shuffle, n 5, draws 4 4 4: 4 0 1. n 0, no draws: nothing.'
+  pub again-served : shuffle 5 (4 ∷ 4 ∷ 4 ∷ []) (lent 6) (lent 3) ≡ served []
+  pub again : shuffled 5 (4 ∷ 4 ∷ 4 ∷ []) (lent 6) (lent 3) ≡ 4 ∷ 0 ∷ 1 ∷ []
+  pub nothing-served : shuffle 0 [] [] [] ≡ served []
+  pub nothing : shuffled 0 [] [] [] ≡ []
