@@ -1,0 +1,3 @@
+-- The laws that the proofs of decoding share.
+pub mod Parts
+pub mod Numbers

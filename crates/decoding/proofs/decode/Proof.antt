@@ -1,0 +1,111 @@
+-- The word is what stands before the first byte 9, and the rest of the fields stand after it; without a byte 9 there is no field but the word.
+-- Assumes nothing.
+use mathlib.Core.Path.{sym, _∙_}
+use Prim.Native.Nat.{_-_}
+use lib.ListN.{take}
+use lib.Seq.{length-take-le}
+use Rattle.promises.specs.Text.{fields}
+use Rattle.decoding.proofs.Parts.{place-le}
+use Rattle.decoding.proofs.Numbers.{decode-first, decode-alone, form-rig, form-mon, form-go, form-other}
+use borrow.Author.Needs.{needs}
+use Rattle.decoding.proofs.decode.Statement.{statement}
+use Rattle.decoding.proofs.decode.Tie as tie
+
+until-requires : tie.Need-until-requires
+until-requires c κs = search needs
+
+slice-aggregate-word : tie.Need-slice-aggregate-word
+slice-aggregate-word c =
+    let l = c .before .before .before .before .args .line .now in
+    sym (length-take-le (c .before .before .until .result) l (rw (c .before .before .until .ensures) (place-le l 9)))
+
+add-a : tie.Need-add-a
+add-a c = search needs
+
+sub-rest : tie.Need-sub-rest
+sub-rest c = search needs
+
+part-rest-start : tie.Need-part-rest-start
+part-rest-start c = search needs
+
+part-rest-end : tie.Need-part-rest-end
+part-rest-end c = search needs
+
+slice-aggregate-same : tie.Need-slice-aggregate-same
+slice-aggregate-same c = search needs
+
+same-requires : tie.Need-same-requires
+same-requires c κs = search needs
+
+rig-form-requires : tie.Need-rig-form-requires
+rig-form-requires c κs = search needs
+
+returns : tie.Need-returns
+returns c =
+    let l = c .before .before .before .before .before .before .before .before .before .args .line .now in
+    let u = c .before .before .before .before .before .before .before .until in
+    c .rig-form .ensures ∙ sym (decode-first l (u .result) (u .ensures) (c .before .before .before .before .before .before .if1 .taken) ∙ form-rig (take (u .result) l) _ (sym (c .before .before .same .ensures) ∙ c .before .if2 .taken))
+
+slice-aggregate-same-2 : tie.Need-slice-aggregate-same-2
+slice-aggregate-same-2 c = search needs
+
+same-requires-2 : tie.Need-same-requires-2
+same-requires-2 c κs = search needs
+
+mon-form-requires : tie.Need-mon-form-requires
+mon-form-requires c κs = search needs
+
+returns-2 : tie.Need-returns-2
+returns-2 c =
+    let l = c .before .before .before .before .before .before .before .before .before .before .before .before .args .line .now in
+    let u = c .before .before .before .before .before .before .before .before .before .before .until in
+    c .mon-form .ensures ∙ sym (decode-first l (u .result) (u .ensures) (c .before .before .before .before .before .before .before .before .before .if1 .taken) ∙ form-mon (take (u .result) l) _ (sym (c .before .before .before .before .before .same .ensures) ∙ c .before .before .before .before .if2 .left) (sym (c .before .before .same2 .ensures) ∙ c .before .if3 .taken))
+
+slice-aggregate-same-3 : tie.Need-slice-aggregate-same-3
+slice-aggregate-same-3 c = search needs
+
+same-requires-3 : tie.Need-same-requires-3
+same-requires-3 c κs = search needs
+
+go-form-requires : tie.Need-go-form-requires
+go-form-requires c κs = search needs
+
+returns-3 : tie.Need-returns-3
+returns-3 c =
+    let l = c .before .before .before .before .before .before .before .before .before .before .before .before .before .before .before .args .line .now in
+    let u = c .before .before .before .before .before .before .before .before .before .before .before .before .before .until in
+    c .go-form .ensures ∙ sym (decode-first l (u .result) (u .ensures) (c .before .before .before .before .before .before .before .before .before .before .before .before .if1 .taken) ∙ form-go (take (u .result) l) _ (sym (c .before .before .before .before .before .before .before .before .same .ensures) ∙ c .before .before .before .before .before .before .before .if2 .left) (sym (c .before .before .before .before .before .same2 .ensures) ∙ c .before .before .before .before .if3 .left) (sym (c .before .before .same3 .ensures) ∙ c .before .if4 .taken))
+
+returns-4 : tie.Need-returns-4
+returns-4 c =
+    let l = c .before .before .before .before .before .before .before .before .before .before .before .before .before .before .args .line .now in
+    let u = c .before .before .before .before .before .before .before .before .before .before .before .before .until in
+    sym (decode-first l (u .result) (u .ensures) (c .before .before .before .before .before .before .before .before .before .before .before .if1 .taken) ∙ form-other (take (u .result) l) _ (sym (c .before .before .before .before .before .before .before .same .ensures) ∙ c .before .before .before .before .before .before .if2 .left) (sym (c .before .before .before .before .same2 .ensures) ∙ c .before .before .before .if3 .left) (sym (c .before .same3 .ensures) ∙ c .if4 .left))
+
+returns-5 : tie.Need-returns-5
+returns-5 c = sym (decode-alone (c .before .before .before .args .line .now) (rw (← c .before .until .ensures) (c .if1 .left)))
+
+pub decode-spec : {M : Type 1} → statement M
+decode-spec =
+    tie.close
+    (tie.spec
+    until-requires
+    slice-aggregate-word
+    add-a
+    sub-rest
+    part-rest-start
+    part-rest-end
+    slice-aggregate-same
+    same-requires
+    rig-form-requires
+    returns
+    slice-aggregate-same-2
+    same-requires-2
+    mon-form-requires
+    returns-2
+    slice-aggregate-same-3
+    same-requires-3
+    go-form-requires
+    returns-3
+    returns-4
+    returns-5)

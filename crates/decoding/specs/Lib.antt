@@ -1,0 +1,2 @@
+-- The definitions that the contracts of decoding cite.
+pub mod Forms

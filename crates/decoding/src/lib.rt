@@ -1,0 +1,180 @@
+// A line's bytes as its form: the word, and the numbers of its fields.
+ghost use mathlib.Core.Path.{_≡_};
+ghost use Prim.Native.Nat.{_<_, _≤_};
+ghost use lib.ListN.{length};
+ghost use Rattle.lists.specs.Lists.{place};
+ghost use Rattle.promises.specs.Text.{rig, mon, go, one, three, numbers, fields};
+ghost use Rattle.promises.specs.Text as text;
+ghost use Rattle.decoding.specs.Forms.{valueOf, fieldOf, lineOf};
+
+// What a field is: a number of paper 01, or none.
+pub enum Decimal {
+    Value(usize),
+    Wrong,
+}
+
+// A line's form with its numbers.
+pub enum Form {
+    Rig(usize),
+    Mon(usize),
+    Go(usize, usize, usize),
+    Other,
+}
+
+// The first field of what is left of a line: a number that is the last field, a number and where the next field starts, or no number.
+enum Field {
+    Last(usize),
+    More(usize, usize),
+    Bad,
+}
+
+// Where byte b first stands in s; the length of s where it does not.
+pub fn until(s: &[u8], b: u8) -> usize
+    ensures { λ r. ⌜ r ≡ place (now (s .entry)) b ⌝ }
+{
+    let mut i = 0;
+    while i < s.len() {
+        if s[i] == b {
+            return i;
+        }
+        i += 1;
+    }
+    i
+}
+
+// Whether two strings of bytes are the same.
+fn same(a: &[u8], b: &[u8]) -> bool
+    ensures { λ r. ⌜ r ≡ text.same (now (a .entry)) (now (b .entry)) ⌝ }
+{
+    if a.len() != b.len() {
+        return false;
+    }
+    let mut i = 0;
+    while i < a.len() {
+        if a[i] != b[i] {
+            return false;
+        }
+        i += 1;
+    }
+    true
+}
+
+// The number that at most five digits make.
+fn digits(field: &[u8]) -> Decimal
+    requires { ⌜ length (now field) ≤ 5 ⌝ }
+    ensures { λ r. ⌜ valueOf r ≡ text.digits 0 (now (field .entry)) ⌝ }
+{
+    let mut n = 0;
+    let mut i = 0;
+    while i < field.len() {
+        let b = field[i];
+        if b < 48 {
+            return Decimal::Wrong;
+        }
+        if 57 < b {
+            return Decimal::Wrong;
+        }
+        n = 10 * n + (b as usize - 48);
+        i += 1;
+    }
+    Decimal::Value(n)
+}
+
+// 'A number is one to five digits, no leading zero except 0 itself.'
+pub fn number(field: &[u8]) -> Decimal
+    ensures { λ r. ⌜ valueOf r ≡ text.number (now (field .entry)) ⌝ }
+{
+    let n = field.len();
+    if n == 1 {
+        return digits(field);
+    }
+    if n == 0 {
+        return Decimal::Wrong; // an empty field
+    }
+    if 5 < n {
+        return Decimal::Wrong; // more than five digits
+    }
+    if field[0] == 48 {
+        return Decimal::Wrong; // a leading zero
+    }
+    digits(field)
+}
+
+// The first field of what is left of a line.
+fn read_field(rest: &[u8]) -> Field
+    ensures { λ r. ⌜ r ≡ fieldOf (now (rest .entry)) ⌝ }
+{
+    let end = until(rest, 9);
+    match number(&rest[..end]) {
+        Decimal::Value(n) => {
+            if end < rest.len() {
+                Field::More(n, end + 1)
+            } else {
+                Field::Last(n)
+            }
+        }
+        Decimal::Wrong => Field::Bad,
+    }
+}
+
+// `rig`, E
+fn rig_form(rest: &[u8]) -> Form
+    ensures { λ r. ⌜ lineOf r ≡ one rig (numbers (fields (now (rest .entry)))) ⌝ }
+{
+    match read_field(rest) {
+        Field::Last(e) => Form::Rig(e),
+        Field::More(_, _) => Form::Other,
+        Field::Bad => Form::Other,
+    }
+}
+
+// `mon`, S
+fn mon_form(rest: &[u8]) -> Form
+    ensures { λ r. ⌜ lineOf r ≡ one mon (numbers (fields (now (rest .entry)))) ⌝ }
+{
+    match read_field(rest) {
+        Field::Last(s) => Form::Mon(s),
+        Field::More(_, _) => Form::Other,
+        Field::Bad => Form::Other,
+    }
+}
+
+// `go`, s, e, t
+fn go_form(rest: &[u8]) -> Form
+    ensures { λ r. ⌜ lineOf r ≡ three go (numbers (fields (now (rest .entry)))) ⌝ }
+{
+    let Field::More(s, a) = read_field(rest) else {
+        return Form::Other;
+    };
+    let second = &rest[a..];
+    let Field::More(e, b) = read_field(second) else {
+        return Form::Other;
+    };
+    let third = &second[b..];
+    let Field::Last(t) = read_field(third) else {
+        return Form::Other;
+    };
+    Form::Go(s, e, t)
+}
+
+// The form that a line is.
+pub fn decode(line: &[u8]) -> Form
+    ensures { λ r. ⌜ lineOf r ≡ text.decode (now (line .entry)) ⌝ }
+{
+    let end = until(line, 9);
+    if end < line.len() {
+        let word = &line[..end];
+        let a = end + 1;
+        let rest = &line[a..];
+        if same(word, b"rig") {
+            return rig_form(rest);
+        }
+        if same(word, b"mon") {
+            return mon_form(rest);
+        }
+        if same(word, b"go") {
+            return go_form(rest);
+        }
+    }
+    Form::Other
+}

@@ -1,0 +1,313 @@
+-- What the reader's state says of the lines that it has read, none of them bad: every test that the reader makes is the paper's, and a line more keeps it so.
+--   Holds r ls z mv ct == the sizes z and the tables mv and ct are those of the lines ls, read into the record r
+-- Assumes nothing.
+use mathlib.Core.Path.{_≡_, refl, sym, ap, _∙_}
+use mathlib.Core.Logic.{_⊎_, ⊎-elim}
+use mathlib.Core.Bool.{Bool, true, false, not, _||_}
+use mathlib.Core.List.{List, [], _∷_, _++_}
+use mathlib.Core.Option.{none, some}
+use Prim.Native.Nat.{ℕ, suc, _+_, _-_, _*_, _≤_, _<_}
+use native.Mathlib.Nat.{eq-or-lt-of-le}
+use native.Mathlib.Omega.{arith}
+use lib.ListN.{length, getD, set, length-set, length-append, List·getD-eq-default}
+use lib.Seq.{getD-set-same, getD-set-other}
+use lib.Dec.{eqb, ltb, leb}
+use borrow.Author.Tests.{eq-eqb, ne-eqb, eqb-true, eqb-false, ltb-false, leb-false, not-false}
+use Rattle.lists.specs.Lists.{pick}
+use Rattle.lists.proofs.Tests.{contra, case, ℕ-trichotomy}
+use Rattle.promises.specs.Text.{Line, rig, mon, go, role, Monitor, addLine, extended, monitorsFrom, monitors, statesOf, latest, product, eventsOf}
+use Rattle.promises.specs.Reading.{empty, moves, goOut, goAgain, tests, isOther, lineCase}
+use Rattle.promises.specs.Rig.{target}
+use Rattle.promises.proofs.Lines.{monitors-more}
+use Rattle.rig.specs.declared.Rig.{Rig}
+use Rattle.rig.specs.Record.{place, moveAt}
+use Rattle.decoding.specs.declared.Form.{Form}
+use Rattle.decoding.specs.declared.Form.the-variants.{Rig as RigForm, Mon, Go, Other}
+use Rattle.decoding.specs.Forms.{lineOf}
+use Rattle.reader.specs.declared.Sizes.{Sizes}
+use Rattle.reader.specs.Reading.{withLine, recordFrom}
+use Rattle.reader.specs.Record.{nobody}
+use Rattle.reader.specs.Taking.{Room, rigCase, rigSizes, monCase, monSizes, monCounts, goCase, goMoves, caseOf, sizesAfter, movesAfter, countsAfter}
+use Rattle.reader.proofs.Monitors.{monitorAt, events-snoc, empty-nil, empty-snoc, empty-length, length-addLine, product-addLine, addLine-at, addLine-beside, latest-at, new-before, new-at, new-after, product-new}
+use Rattle.reader.proofs.Tables.{Table, table-blank, table-beside, table-go}
+
+abbrev pub statesAt : List Monitor → ℕ → ℕ
+statesAt ms k = statesOf (monitorAt ms k .head)
+
+-- the monitors ms, as counts and tables: what holds of the first n of them and of their parts of the move table
+pub record Tabled (ms : List Monitor) (n E : ℕ) (mv ct : List ℕ) : Type 0 where
+  pub tables : (k : ℕ) → k < 4 → Table mv k (monitorAt ms k .body) E (statesAt ms k)
+  pub counts-are : (k : ℕ) → k < n → getD ct k 0 ≡ statesAt ms k
+  pub some-state : (k : ℕ) → k < n → 1 ≤ statesAt ms k
+  pub few-states : (k : ℕ) → k < n → statesAt ms k ≤ 32
+
+pub record Holds (r : Rig) (ls : List Line) (z : Sizes) (mv ct : List ℕ) : Type 0 where
+  pub events-are : eventsOf ls ≡ z .events
+  pub begun : empty ls ≡ eqb (z .events) 0
+  pub monitors-are : length (monitors ls) ≡ z .monitors
+  pub joint-is : product (monitors ls) ≡ z .joint
+  pub latest-is : (k : ℕ) → suc k ≡ z .monitors → statesAt (monitors ls) k ≡ z .latest
+  pub tabled : Tabled (monitors ls) (z .monitors) (z .events) mv ct
+  pub recorded : recordFrom r ls ≡ record { moves = mv; counts = ct; monitors = z .monitors; events = z .events }
+  pub room : Room z
+  pub long : length mv ≡ 2048
+  pub wide : length ct ≡ 4
+
+recordFrom-snoc : (r : Rig) (ls : List Line) (l : Line) → recordFrom r (ls ++ (l ∷ [])) ≡ withLine (recordFrom r ls) l
+unfolding recordFrom
+recordFrom-snoc r [] l = refl
+recordFrom-snoc r (k ∷ ls) l = recordFrom-snoc (withLine r k) ls l
+
+-- ---- no line yet
+
+pub holds-none : (mv ct : List ℕ) → ((i : ℕ) → i < 2048 → getD mv i 0 ≡ 255) → length mv ≡ 2048 → length ct ≡ 4
+    → Holds (record { moves = mv; counts = ct; monitors = 0; events = 0 }) [] (record { events = 0; monitors = 0; latest = 0; joint = 1 }) mv ct
+unfolding eventsOf monitors monitorsFrom product recordFrom
+holds-none mv ct blank long wide = record {
+  events-are = refl;
+  begun = refl;
+  monitors-are = refl;
+  joint-is = refl;
+  latest-is = λ k q. absurd (omega arith);
+  tabled = record {
+    tables = λ k h. table-blank mv k 0 _ (λ s e hs he. blank (place k s e) (omega arith));
+    counts-are = λ k h. absurd (omega arith);
+    some-state = λ k h. absurd (omega arith);
+    few-states = λ k h. absurd (omega arith);
+  };
+  recorded = refl;
+  room = record { few-events = omega arith; few-monitors = omega arith; few-latest = omega arith; few-joint = omega arith };
+  long = long;
+  wide = wide;
+}
+
+-- ---- tests
+
+or-left : (a b : Bool) → (a || b) ≡ false → a ≡ false
+or-left true b h = h
+or-left false b h = refl
+
+or-rest : (a b : Bool) → (a || b) ≡ false → b ≡ false
+or-rest true b h = contra refl h
+or-rest false b h = h
+
+same-picks : (a a′ b b′ c c′ : Bool) → a ≡ a′ → (a′ ≡ false → b ≡ b′) → (a′ ≡ false → b′ ≡ false → c ≡ c′)
+    → _≡_ {A = ℕ} (pick a 5 (pick b 3 (pick c 4 0))) (pick a′ 5 (pick b′ 3 (pick c′ 4 0)))
+same-picks a true b b′ c c′ p q r = rw p
+same-picks a false b true c c′ p q r = rw (p, q refl)
+same-picks a false b false c c′ p q r = rw (p, q refl, r refl refl)
+
+-- a case that does not hold
+pick-zero : (b : Bool) (n m : ℕ) → 0 < n → pick b n m ≡ 0 → (b ≡ false) × (m ≡ 0)
+pick-zero true n m h q = absurd (omega arith)
+pick-zero false n m h q = (refl, q)
+
+-- ---- the tables with one line more
+
+-- the first line: no monitor has a move yet
+more-events : (ms : List Monitor) (n E F : ℕ) (mv ct : List ℕ) → E ≡ 0 → Tabled ms n E mv ct → Tabled ms n F mv ct
+more-events ms n E F mv ct q T = record {
+  tables = λ k h. let U = T .tables k h in record { entry = U .entry; seen = U .seen; within = λ s e m. let w = U .within s e m in absurd (omega arith) };
+  counts-are = T .counts-are;
+  some-state = T .some-state;
+  few-states = T .few-states;
+}
+
+-- a monitor more
+abbrev fresh : ℕ → Monitor
+fresh s = record { head = mon s; body = [] }
+
+module _ (ms : List Monitor) (n E s : ℕ) (mv ct : List ℕ) (ln : length ms ≡ n) (wide : length ct ≡ 4) (few : n < 4) (low : 1 ≤ s) (high : s ≤ 32) (T : Tabled ms n E mv ct) where
+  -- what holds of the monitors so far, and of the new one, holds of all
+  each-new : (P : ℕ → ℕ → Type 0) → ((k : ℕ) → k < n → P k (statesAt ms k)) → P n s → (k : ℕ) → k < n + 1 → P k (statesAt (ms ++ (fresh s ∷ [])) k)
+  unfolding statesOf
+  each-new P f p k h = ⊎-elim old new (eq-or-lt-of-le (below k h))
+    where
+      below : (k : ℕ) → k < n + 1 → k ≤ n
+      below k h = omega arith
+
+      old : k ≡ n → P k (statesAt (ms ++ (fresh s ∷ [])) k)
+      old q = rw (new-at ms (fresh s) k (q ∙ sym ln), q) p
+
+      new : k < n → P k (statesAt (ms ++ (fresh s ∷ [])) k)
+      new l = rw (new-before ms (fresh s) k (omega arith)) (f k l)
+
+  one-more : Tabled (ms ++ (fresh s ∷ [])) (n + 1) E mv (set ct n s)
+  unfolding statesOf target
+  one-more = record {
+    tables = λ k h. ⊎-elim (before k h) (⊎-elim (at k h) (after k h)) (ℕ-trichotomy k (length ms));
+    counts-are = each-new (λ k v. getD (set ct n s) k 0 ≡ v) (λ k h. getD-set-other ct n k s 0 (λ q. omega arith) ∙ T .counts-are k h) (getD-set-same ct n s 0 (omega arith));
+    some-state = each-new (λ k v. 1 ≤ v) (λ k h. T .some-state k h) low;
+    few-states = each-new (λ k v. v ≤ 32) (λ k h. T .few-states k h) high;
+  }
+    where
+      before : (k : ℕ) → k < 4 → k < length ms → Table mv k (monitorAt (ms ++ (fresh s ∷ [])) k .body) E (statesAt (ms ++ (fresh s ∷ [])) k)
+      before k h l = rw (new-before ms (fresh s) k l) (T .tables k h)
+
+      at : (k : ℕ) → k < 4 → k ≡ length ms → Table mv k (monitorAt (ms ++ (fresh s ∷ [])) k .body) E (statesAt (ms ++ (fresh s ∷ [])) k)
+      at k h q = rw (new-at ms (fresh s) k q) (table-blank mv k E s (λ x y hx hy. T .tables k h .entry x y hx hy ∙ ap (λ m. target 255 (m .body) x y) (List·getD-eq-default ms nobody {n = k} (omega arith))))
+
+      after : (k : ℕ) → k < 4 → length ms < k → Table mv k (monitorAt (ms ++ (fresh s ∷ [])) k .body) E (statesAt (ms ++ (fresh s ∷ [])) k)
+      after k h l = rw (new-after ms (fresh s) k l) (T .tables k h)
+
+head-addLine : (l : Line) (ms : List Monitor) (k : ℕ) → monitorAt (addLine l ms) k .head ≡ monitorAt ms k .head
+head-addLine l ms k = case (eqb (suc k) (length ms)) (λ q. ap (λ m. m .head) (addLine-at l ms k (eqb-true (suc k) (length ms) q))) (λ q. ap (λ m. m .head) (addLine-beside l ms k (eqb-false (suc k) (length ms) q)))
+
+-- a move more, of the monitor m, which is the last
+module _ (ms : List Monitor) (n E m s e t : ℕ) (mv ct : List ℕ) (last : suc m ≡ length ms) (long : length mv ≡ 2048) (fewE : E ≤ 16) (fewS : statesAt ms m ≤ 32)
+    (hm : m < 4) (hs : s < statesAt ms m) (he : e < E) (ht : t < statesAt ms m) (free : moveAt mv m s e ≡ 255) (T : Tabled ms n E mv ct) where
+  one-move : Tabled (addLine (go s e t) ms) n E (set mv (place m s e) t) ct
+  one-move = record {
+    tables = λ k h. case (eqb k m) (λ q. at k h (eqb-true k m q)) (λ q. beside k h (eqb-false k m q));
+    counts-are = λ k h. T .counts-are k h ∙ sym (heads k);
+    some-state = λ k h. rw (heads k) (T .some-state k h);
+    few-states = λ k h. rw (heads k) (T .few-states k h);
+  }
+    where
+      heads : (k : ℕ) → statesAt (addLine (go s e t) ms) k ≡ statesAt ms k
+      heads k = ap statesOf (head-addLine (go s e t) ms k)
+
+      at : (k : ℕ) → k < 4 → k ≡ m → Table (set mv (place m s e) t) k (monitorAt (addLine (go s e t) ms) k .body) E (statesAt (addLine (go s e t) ms) k)
+      at k h q = rw (q, addLine-at (go s e t) ms m last) (table-go mv m s e t (monitorAt ms m .body) E (statesAt ms m) (T .tables m hm) hm long fewS fewE hs he ht free)
+
+      beside : (k : ℕ) → k < 4 → (k ≡ m → ⊥) → Table (set mv (place m s e) t) k (monitorAt (addLine (go s e t) ms) k .body) E (statesAt (addLine (go s e t) ms) k)
+      beside k h ne = rw (addLine-beside (go s e t) ms k (λ q. ne (omega arith))) (table-beside mv k m s e t (monitorAt ms k .body) E (statesAt ms k) ne (omega arith) (omega arith) (T .tables k h))
+
+module _ (r : Rig) (ls : List Line) (z : Sizes) (mv ct : List ℕ) (H : Holds r ls z mv ct) where
+  -- ---- the reader's tests are the paper's
+
+  rig-case : (e : ℕ) → rigCase z e ≡ lineCase ls (rig e)
+  unfolding rigCase lineCase tests isOther
+  rig-case e = rw (H .begun)
+
+  mon-case : (s : ℕ) → monCase z s ≡ lineCase ls (mon s)
+  unfolding monCase lineCase tests isOther
+  mon-case s = rw (H .begun, H .monitors-are, H .joint-is)
+
+  none-yet : empty ls ≡ true → z .monitors ≡ 0
+  unfolding monitors monitorsFrom
+  none-yet p = sym (H .monitors-are) ∙ ap (λ l. length (monitors l)) (empty-nil ls p)
+
+  misplaced : (empty ls || empty (monitors ls)) ≡ eqb (z .monitors) 0
+  misplaced = case (empty ls) (λ p. rw p (sym (eq-eqb _ _ (none-yet p)))) (λ p. rw p (empty-length (monitors ls) ∙ ap (λ n. eqb n 0) (H .monitors-are)))
+
+  -- the latest monitor
+  module _ (some-monitor : eqb (z .monitors) 0 ≡ false) where
+    last : suc (z .monitors - 1) ≡ length (monitors ls)
+    last = let h = eqb-false (z .monitors) 0 some-monitor in let k : z .monitors ≡ length (monitors ls) = sym (H .monitors-are) in positive (z .monitors) h ∙ k
+      where
+        positive : (n : ℕ) → (n ≡ 0 → ⊥) → suc (n - 1) ≡ n
+        positive n h = omega arith
+
+    latest-is-last : latest (monitors ls) ≡ some (monitorAt (monitors ls) (z .monitors - 1))
+    latest-is-last = latest-at (monitors ls) (z .monitors - 1) last
+
+    last-states : statesAt (monitors ls) (z .monitors - 1) ≡ z .latest
+    last-states = H .latest-is (z .monitors - 1) (last ∙ H .monitors-are)
+
+    out-of-range : (s e t : ℕ) → goOut (eventsOf ls) s e t (latest (monitors ls)) ≡ (leb (z .latest) s || (leb (z .events) e || leb (z .latest) t))
+    unfolding goOut
+    out-of-range s e t = rw (latest-is-last, last-states, H .events-are)
+
+    again : (s e t : ℕ) → (leb (z .latest) s || (leb (z .events) e || leb (z .latest) t)) ≡ false → goAgain s e (latest (monitors ls)) ≡ not (eqb (moveAt mv (z .monitors - 1) s e) 255)
+    unfolding goAgain
+    again s e t p =
+        let a = leb-false (z .latest) s (or-left (leb (z .latest) s) _ p) in
+        let b = leb-false (z .events) e (or-left (leb (z .events) e) _ (or-rest (leb (z .latest) s) _ p)) in
+        let room = H .room in
+        ap (goAgain s e) latest-is-last ∙ H .tabled .tables (z .monitors - 1) (omega (arith, room .few-monitors)) .seen s e (omega (arith, room .few-latest)) (omega (arith, room .few-events))
+
+  go-case : (s e t : ℕ) → goCase mv z s e t ≡ lineCase ls (go s e t)
+  unfolding goCase lineCase tests isOther
+  go-case s e t = sym (same-picks _ _ _ _ _ _ misplaced (λ p. out-of-range p s e t) (λ p. again p s e t))
+
+  pub case-is : (f : Form) → caseOf mv z f ≡ lineCase ls (lineOf f)
+  unfolding lineCase isOther
+  case-is (RigForm e) = rig-case e
+  case-is (Mon s) = mon-case s
+  case-is (Go s e t) = go-case s e t
+  case-is Other = refl
+
+  -- ---- one line more
+
+  recorded-more : (l : Line) → recordFrom r (ls ++ (l ∷ [])) ≡ withLine (record { moves = mv; counts = ct; monitors = z .monitors; events = z .events }) l
+  recorded-more l = recordFrom-snoc r ls l ∙ ap (λ q. withLine q l) (H .recorded)
+
+  holds-rig : (e : ℕ) → rigCase z e ≡ 0 → Holds r (ls ++ (rig e ∷ [])) (rigSizes z e) mv ct
+  unfolding rigCase withLine role extended eventsOf
+  holds-rig e q =
+      let (p, q₁) = pick-zero (not (eqb (z .events) 0)) 5 _ (omega arith) q in
+      let (o, q₂) = pick-zero (ltb e 1 || ltb 16 e) 3 0 (omega arith) q₁ in
+      let low : 1 ≤ e = ltb-false e 1 (or-left (ltb e 1) (ltb 16 e) o) in
+      let high : e ≤ 16 = ltb-false 16 e (or-rest (ltb e 1) (ltb 16 e) o) in
+      let first : eqb (z .events) 0 ≡ true = not-false _ p in
+      let none : ls ≡ [] = empty-nil ls (H .begun ∙ first) in
+      let ms : monitors (ls ++ (rig e ∷ [])) ≡ monitors ls = monitors-more ls (rig e) in
+      record {
+        events-are = rw none;
+        begun = empty-snoc ls (rig e) ∙ sym (ne-eqb e 0 (λ n. omega arith));
+        monitors-are = rw ms (H .monitors-are);
+        joint-is = rw ms (H .joint-is);
+        latest-is = rw ms (H .latest-is);
+        tabled = rw ms (more-events (monitors ls) (z .monitors) (z .events) e mv ct (eqb-true (z .events) 0 first) (H .tabled));
+        recorded = recorded-more (rig e);
+        room = record { few-events = high; few-monitors = H .room .few-monitors; few-latest = H .room .few-latest; few-joint = H .room .few-joint };
+        long = H .long;
+        wide = H .wide;
+      }
+
+  holds-mon : (s : ℕ) → monCase z s ≡ 0 → Holds r (ls ++ (mon s ∷ [])) (monSizes z s) mv (monCounts ct z s)
+  unfolding monCase withLine role extended statesOf
+  holds-mon s q =
+      let (p, q₁) = pick-zero (eqb (z .events) 0) 5 _ (omega arith) q in
+      let (o, q₂) = pick-zero (ltb s 1 || (ltb 32 s || leb 4 (z .monitors))) 3 _ (omega arith) q₁ in
+      let (j, q₃) = pick-zero (ltb 1024 (z .joint * s)) 6 0 (omega arith) q₂ in
+      let rest = or-rest (ltb s 1) _ o in
+      let low : 1 ≤ s = ltb-false s 1 (or-left (ltb s 1) _ o) in
+      let high : s ≤ 32 = ltb-false 32 s (or-left (ltb 32 s) _ rest) in
+      let few : z .monitors < 4 = leb-false 4 (z .monitors) (or-rest (ltb 32 s) _ rest) in
+      let ms : monitors (ls ++ (mon s ∷ [])) ≡ monitors ls ++ (fresh s ∷ []) = monitors-more ls (mon s) in
+      record {
+        events-are = events-snoc ls (mon s) (H .begun ∙ p) ∙ H .events-are;
+        begun = empty-snoc ls (mon s) ∙ sym p;
+        monitors-are = rw (ms, length-append, H .monitors-are);
+        joint-is = rw (ms, product-new, H .joint-is);
+        latest-is = λ k l. rw (ms, new-at (monitors ls) (fresh s) k (omega (arith, H .monitors-are)));
+        tabled = rw ms (one-more (monitors ls) (z .monitors) (z .events) s mv ct (H .monitors-are) (H .wide) few low high (H .tabled));
+        recorded = recorded-more (mon s);
+        room = record { few-events = H .room .few-events; few-monitors = omega arith; few-latest = high; few-joint = ltb-false 1024 (z .joint * s) j };
+        long = H .long;
+        wide = length-set ct (z .monitors) s ∙ H .wide;
+      }
+
+  holds-go : (s e t : ℕ) → goCase mv z s e t ≡ 0 → Holds r (ls ++ (go s e t ∷ [])) z (goMoves mv z s e t) ct
+  unfolding goCase withLine role extended
+  holds-go s e t q =
+      let (p, q₁) = pick-zero (eqb (z .monitors) 0) 5 _ (omega arith) q in
+      let (o, q₂) = pick-zero (leb (z .latest) s || (leb (z .events) e || leb (z .latest) t)) 3 _ (omega arith) q₁ in
+      let (a, q₃) = pick-zero (not (eqb (moveAt mv (z .monitors - 1) s e) 255)) 4 0 (omega arith) q₂ in
+      let rest = or-rest (leb (z .latest) s) _ o in
+      let hs : s < z .latest = leb-false (z .latest) s (or-left (leb (z .latest) s) _ o) in
+      let he : e < z .events = leb-false (z .events) e (or-left (leb (z .events) e) _ rest) in
+      let ht : t < z .latest = leb-false (z .latest) t (or-rest (leb (z .events) e) _ rest) in
+      let free : moveAt mv (z .monitors - 1) s e ≡ 255 = eqb-true _ 255 (not-false _ a) in
+      let begun : empty ls ≡ false = case (empty ls) (λ w. contra (eq-eqb (z .monitors) 0 (none-yet w)) p) (λ w. w) in
+      let ms : monitors (ls ++ (go s e t ∷ [])) ≡ addLine (go s e t) (monitors ls) = monitors-more ls (go s e t) in
+      record {
+        events-are = events-snoc ls (go s e t) begun ∙ H .events-are;
+        begun = empty-snoc ls (go s e t) ∙ sym begun ∙ H .begun;
+        monitors-are = rw (ms, length-addLine) (H .monitors-are);
+        joint-is = rw (ms, product-addLine) (H .joint-is);
+        latest-is = λ k l. rw ms (ap statesOf (head-addLine (go s e t) (monitors ls) k) ∙ H .latest-is k l);
+        tabled = rw ms (one-move (monitors ls) (z .monitors) (z .events) (z .monitors - 1) s e t mv ct (last p) (H .long) (H .room .few-events) (rw (last-states p) (H .room .few-latest)) (omega (arith, H .room .few-monitors)) (rw (last-states p) hs) he (rw (last-states p) ht) free (H .tabled));
+        recorded = recorded-more (go s e t);
+        room = H .room;
+        long = length-set mv (place (z .monitors - 1) s e) t ∙ H .long;
+        wide = H .wide;
+      }
+
+  pub holds-more : (f : Form) → caseOf mv z f ≡ 0 → Holds r (ls ++ (lineOf f ∷ [])) (sizesAfter z f) (movesAfter mv z f) (countsAfter ct z f)
+  holds-more (RigForm e) q = holds-rig e q
+  holds-more (Mon s) q = holds-mon s q
+  holds-more (Go s e t) q = holds-go s e t q
+  holds-more Other q = absurd (omega arith)

@@ -1,0 +1,8 @@
+-- The laws that the proofs of reader share.
+pub mod Taking
+pub mod Lines
+pub mod Monitors
+pub mod Tables
+pub mod Held
+pub mod Passing
+pub mod Record

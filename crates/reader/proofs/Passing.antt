@@ -1,0 +1,167 @@
+-- The reader on its way through a text: what it has passed, and what is left to read. Assumes nothing.
+--   wholeReading t      == what reading the lines of t gives
+--   Passed r t z n i mv ct == the lines before byte i of t are read into r with no refusal; the next one is line n
+use mathlib.Core.Path.{_≡_, refl, sym, ap, ap₂, _∙_}
+use mathlib.Core.Bool.{Bool, true, false, not}
+use mathlib.Core.List.{List, [], _∷_, _++_, append-assoc, append-nil}
+use Prim.Native.Nat.{ℕ, suc, _+_, _-_, _≤_, _<_}
+use native.Mathlib.Omega.{arith}
+use lib.ListN.{length, getD, take, drop, length-append, length-drop, drop-of-length-le}
+use lib.Seq.{drop-drop}
+use lib.Dec.{eqb}
+use borrow.Author.Tests.{eq-eqb, ne-eqb, eqb-true, le-ltb, lt-ltb}
+use Rattle.lists.specs.Lists.{pick, place}
+use Rattle.lists.proofs.Tests.{case}
+use Rattle.promises.specs.Answer.{Answer, served, refused}
+use Rattle.promises.specs.Text.{Line, monitors, decode, decoded, unended}
+use Rattle.promises.specs.Reading.{empty, lineCase, readingFrom, reading}
+use Rattle.rig.specs.declared.Rig.{Rig}
+use Rattle.rig.specs.Record.{emptyRig}
+use Rattle.decoding.specs.declared.Form.{Form}
+use Rattle.decoding.specs.Forms.{lineOf}
+use Rattle.decoding.proofs.Parts.{place-le}
+use Rattle.decoding.proofs.Numbers.{rest-whole}
+use Rattle.reader.specs.declared.Reading.{Reading}
+use Rattle.reader.specs.declared.Sizes.{Sizes}
+use Rattle.reader.specs.declared.Taken.the-variants.{Next, Bad}
+use Rattle.reader.specs.Reading.{answerOf, recordFrom, whereServed, recordOf}
+use Rattle.reader.specs.Taking.{onlyIf, taken, refusal, caseOf, sizesAfter, movesAfter, countsAfter}
+use Rattle.reader.proofs.Lines.{decoded-first, unended-first, decoded-none, unended-all}
+use Rattle.reader.proofs.Monitors.{empty-length}
+use Rattle.reader.proofs.Held.{Holds, holds-none, case-is, holds-more}
+
+abbrev pub wholeReading : List ℕ → Answer
+wholeReading t = readingFrom [] (decoded t) (unended t)
+
+pub record Passed (r : Rig) (t : List ℕ) (z : Sizes) (line at : ℕ) (mv ct : List ℕ) : Type 0 where
+  pub front : List Line
+  pub holds : Holds r front z mv ct
+  pub counted : suc (length front) ≡ line
+  pub inside : at ≤ length t
+  pub early : line ≤ at + 1
+  pub left : wholeReading t ≡ readingFrom front (decoded (drop at t)) (unended (drop at t))
+  pub split : decoded t ≡ front ++ decoded (drop at t)
+
+pub passed-none : (t mv ct : List ℕ) → ((i : ℕ) → i < 2048 → getD mv i 0 ≡ 255) → length mv ≡ 2048 → length ct ≡ 4
+    → Passed (record { moves = mv; counts = ct; monitors = 0; events = 0 }) t (record { events = 0; monitors = 0; latest = 0; joint = 1 }) 1 0 mv ct
+passed-none t mv ct blank long wide = record { front = []; holds = holds-none mv ct blank long wide; counted = refl; inside = omega arith; early = omega arith; left = refl; split = refl }
+
+-- ---- what a line comes to
+
+taken-next : (n : ℕ) (z y : Sizes) → Next y ≡ taken n z → (n ≡ 0) × (y ≡ z)
+taken-next n z y q = go (eqb n 0) refl q
+  where
+    go : (b : Bool) → eqb n 0 ≡ b → Next y ≡ pick b (Next z) (Bad n) → (n ≡ 0) × (y ≡ z)
+    go true p q = (eqb-true n 0 p, cc)
+    go false p q = let w : _≡_ {A = ℕ} 0 1 = cc in absurd (omega arith)
+
+taken-bad : (n m : ℕ) (z : Sizes) → Bad m ≡ taken n z → (eqb n 0 ≡ false) × (m ≡ n)
+taken-bad n m z q = go (eqb n 0) refl q
+  where
+    go : (b : Bool) → eqb n 0 ≡ b → Bad m ≡ pick b (Next z) (Bad n) → (eqb n 0 ≡ false) × (m ≡ n)
+    go true p q = let w : _≡_ {A = ℕ} 0 1 = cc in absurd (omega arith)
+    go false p q = (p, cc)
+
+-- ---- the next line
+
+module _ (r : Rig) (t : List ℕ) (z : Sizes) (line at : ℕ) (mv ct : List ℕ) (P : Passed r t z line at mv ct) where
+  -- the last line is not ended
+  pub stops-unended : at < length t → (end : ℕ) → end ≡ place (take (length t - at) (drop at t)) 10 → end ≡ length (take (length t - at) (drop at t)) → wholeReading t ≡ refused 2 line
+  unfolding readingFrom
+  stops-unended h end e q =
+      let e′ : end ≡ place (drop at t) 10 = rw (rest-whole t at) at e in
+      let q′ : end ≡ length (drop at t) = rw (rest-whole t at) at q in
+      let none : length (drop at t) ≤ place (drop at t) 10 = omega arith in
+      P .left ∙ rw (decoded-none (drop at t) none, unended-all (drop at t) none, filled, P .counted)
+    where
+      filled : empty (drop at t) ≡ false
+      filled = empty-length (drop at t) ∙ ne-eqb (length (drop at t)) 0 (λ w. omega (arith, length-drop at t))
+
+  module _ (end : ℕ) (e : end ≡ place (take (length t - at) (drop at t)) 10) (q : end ≡ length (take (length t - at) (drop at t)) → ⊥)
+      (f : Form) (d : lineOf f ≡ decode (take end (take (length t - at) (drop at t)))) where
+    at-end : end ≡ place (drop at t) 10
+    at-end = rw (rest-whole t at) at e
+
+    ended : end < length (drop at t)
+    ended = let n : (end ≡ length (drop at t) → ⊥) = rw (rest-whole t at) at q in omega (arith, at-end, place-le (drop at t) 10)
+
+    is-form : decode (take end (drop at t)) ≡ lineOf f
+    is-form = sym (rw (rest-whole t at) at d)
+
+    lines-left : decoded (drop at t) ≡ lineOf f ∷ decoded (drop (at + (end + 1)) t)
+    lines-left = decoded-first (drop at t) end at-end ended ∙ ap₂ _∷_ is-form (ap decoded (drop-drop (end + 1) at t))
+
+    unended-left : unended (drop at t) ≡ unended (drop (at + (end + 1)) t)
+    unended-left = unended-first (drop at t) end at-end ended ∙ ap unended (drop-drop (end + 1) at t)
+
+    -- a case holds of it
+    pub stops-bad : (n : ℕ) → Bad n ≡ taken (caseOf mv z f) (sizesAfter z f) → wholeReading t ≡ refused n line
+    unfolding readingFrom
+    stops-bad n b =
+        let (p, m) = taken-bad (caseOf mv z f) n (sizesAfter z f) b in
+        let c : lineCase (P .front) (lineOf f) ≡ n = sym (case-is r (P .front) z mv ct (P .holds) f) ∙ sym m in
+        let p′ : eqb n 0 ≡ false = rw (← m) at p in
+        P .left ∙ rw (lines-left, c, p′, P .counted)
+
+    reads-on : lineCase (P .front) (lineOf f) ≡ 0
+        → readingFrom (P .front) (decoded (drop at t)) (unended (drop at t)) ≡ readingFrom (P .front ++ (lineOf f ∷ [])) (decoded (drop (at + (end + 1)) t)) (unended (drop (at + (end + 1)) t))
+    unfolding readingFrom
+    reads-on c = rw (lines-left, unended-left, c)
+
+    -- no case holds of it
+    pub goes-on : (y : Sizes) (nv nt : List ℕ) → Next y ≡ taken (caseOf mv z f) (sizesAfter z f) → nv ≡ onlyIf (caseOf mv z f) (movesAfter mv z f) mv
+        → nt ≡ onlyIf (caseOf mv z f) (countsAfter ct z f) ct → Passed r t y (line + 1) (at + (end + 1)) nv nt
+    goes-on y nv nt b mq cq =
+        let (p, s) = taken-next (caseOf mv z f) (sizesAfter z f) y b in
+        let c : lineCase (P .front) (lineOf f) ≡ 0 = sym (case-is r (P .front) z mv ct (P .holds) f) ∙ p in
+        let m′ : nv ≡ movesAfter mv z f = rw p at mq in
+        let c′ : nt ≡ countsAfter ct z f = rw p at cq in
+        record {
+          front = P .front ++ (lineOf f ∷ []);
+          holds = rw (s, m′, c′) (holds-more r (P .front) z mv ct (P .holds) f p);
+          counted = rw length-append (omega (arith, P .counted));
+          inside = omega (arith, ended, length-drop at t);
+          early = omega (arith, P .early);
+          left = P .left ∙ reads-on c;
+          split = P .split ∙ ap (λ l. P .front ++ l) lines-left ∙ sym (append-assoc (P .front) (lineOf f ∷ []) (decoded (drop (at + (end + 1)) t)));
+        }
+
+  -- ---- the end
+
+  module _ (over : length t ≤ at) where
+    no-lines : decoded (drop at t) ≡ []
+    no-lines = ap decoded (drop-of-length-le t {i = at} over) ∙ decoded-none [] (omega arith)
+
+    no-tail : unended (drop at t) ≡ []
+    no-tail = ap unended (drop-of-length-le t {i = at} over) ∙ unended-all [] (omega arith)
+
+    pub ends-none : z .monitors ≡ 0 → wholeReading t ≡ refused 5 line
+    unfolding readingFrom
+    ends-none q = P .left ∙ rw (no-lines, no-tail, empty-length (monitors (P .front)), P .holds .monitors-are, eq-eqb (z .monitors) 0 q, P .counted)
+
+    pub ends-served : (z .monitors ≡ 0 → ⊥) → wholeReading t ≡ served []
+    unfolding readingFrom
+    ends-served q = P .left ∙ rw (no-lines, no-tail, empty-length (monitors (P .front)), P .holds .monitors-are, ne-eqb (z .monitors) 0 q)
+
+    pub ends-record : recordFrom r (decoded t) ≡ record { moves = mv; counts = ct; monitors = z .monitors; events = z .events }
+    ends-record = ap (recordFrom r) (P .split ∙ ap (λ l. P .front ++ l) no-lines ∙ append-nil (P .front)) ∙ P .holds .recorded
+
+-- ---- the answer
+
+module _ (t : List ℕ) where
+  pub reading-long : 65535 < length t → reading t ≡ refused 1 0
+  unfolding reading
+  reading-long h = rw (lt-ltb _ _ h)
+
+  pub reading-whole : length t ≤ 65535 → (a : Answer) → wholeReading t ≡ a → reading t ≡ a
+  unfolding reading
+  reading-whole h a q = rw (le-ltb _ _ h) q
+
+  -- a refusal has the empty record beside it
+  pub answers-refusal : (x : Reading) (n p : ℕ) → x ≡ refusal n p → reading t ≡ refused n p → (answerOf (x .verdict) ≡ reading t) × (x .rig ≡ recordOf t)
+  unfolding recordOf
+  answers-refusal x n p q a = (ap (λ y. answerOf (y .verdict)) q ∙ sym a, ap (λ y. y .rig) q ∙ sym (ap (λ b. whereServed b (recordFrom emptyRig (decoded t)) emptyRig) a))
+
+  pub answers-record : (x : Rig) → reading t ≡ served [] → recordFrom emptyRig (decoded t) ≡ x → (served [] ≡ reading t) × (x ≡ recordOf t)
+  unfolding recordOf
+  answers-record x a q = (sym a, sym q ∙ sym (ap (λ b. whereServed b (recordFrom emptyRig (decoded t)) emptyRig) a))

@@ -1,0 +1,281 @@
+-- The record of a readable text: its automaton is the one that the lines describe. The tables hold the moves of the bodies (Held), and a body's moves
+-- are its automaton's. Assumes nothing.
+use mathlib.Core.Path.{_≡_, refl, sym, ap, ap₂, _∙_, fun-ext}
+use mathlib.Core.Logic.{_↔_, _≢_}
+use mathlib.Core.Bool.{Bool, true, false, _&&_}
+use mathlib.Core.List.{List, [], _∷_, _++_, map, append-nil, append-assoc}
+use mathlib.Core.List.{List·Memᴰ as In, List·Memᴰ·head as here, List·Memᴰ·tail as there}
+use Prim.Native.Nat.{ℕ, _+_, _*_, _≤_, _<_}
+use native.Mathlib.Omega.{arith}
+use lib.ListN.{length, getD, length-map, length-replicate, getD-replicate, replicate}
+use lib.Seq.{ext-getD}
+use lib.Dec.{ltb}
+use borrow.Author.Tests.{eqb-false, lt-ltb, le-ltb, ltb-true}
+use Rattle.lists.specs.Lists.{pick, tab, range}
+use Rattle.lists.proofs.Tests.{contra, case}
+use Rattle.lists.proofs.Tells.{tells-true}
+use Rattle.lists.proofs.Tables.{length-tab, getD-tab}
+use Rattle.lists.proofs.Members.{getD-map-lt, getD-in}
+use Rattle.automaton.specs.Joint.{At, joint, jointState, sizes}
+use Rattle.promises.specs.Text.{Line, rig, mon, go, other, Monitor, monitorsFrom, monitors, decoded, statesOf, startOf, eventsOf, product, jointStates, AllSound, Readable}
+use Rattle.promises.specs.Reading.{empty, isMove, moves, lineCase}
+use Rattle.promises.specs.Rig.{leadsTo, target, rigAutomaton, linesAutomaton, linesStart, start}
+use Rattle.promises.specs.Rig as lines
+use Rattle.promises.proofs.Lines.{readable-formed}
+use Rattle.promises.proofs.Reading.{is-move, tells-moves, sound-case, readable-said}
+use Rattle.rig.specs.declared.Rig.{Rig}
+use Rattle.rig.specs.Record.{moveAt, countOf, moveOf, monitorAt, standing, recordAutomaton, recordStart, WellFormed, emptyRig}
+use Rattle.decoding.specs.declared.Form.{Form}
+use Rattle.decoding.specs.declared.Form.the-variants.{Rig as RigForm, Mon, Go, Other}
+use Rattle.decoding.specs.Forms.{lineOf}
+use Rattle.reader.specs.declared.Sizes.{Sizes}
+use Rattle.reader.specs.Reading.{recordFrom, whereServed, recordOf}
+use Rattle.reader.specs.Record.{nobody, monitorIn, ReadFrom}
+use Rattle.reader.specs.Taking.{sizesAfter, movesAfter, countsAfter}
+use Rattle.reader.proofs.Monitors.{empty-nil, target-none, target-any}
+use Rattle.reader.proofs.Tables.{Table}
+use Rattle.reader.proofs.Held.{Tabled, Holds, holds-none, case-is, holds-more}
+
+-- ---- every line read
+
+-- the reader's state after some lines, whatever it is
+pub record Held (r : Rig) (ls : List Line) : Type 0 where
+  pub sizes-are : Sizes
+  pub moves-are : List ℕ
+  pub counts-are : List ℕ
+  pub holds : Holds r ls sizes-are moves-are counts-are
+
+formOf : Line → Form
+formOf (rig e) = RigForm e
+formOf (mon s) = Mon s
+formOf (go s e t) = Go s e t
+formOf other = Other
+
+line-form : (l : Line) → lineOf (formOf l) ≡ l
+unfolding formOf
+line-form (rig e) = refl
+line-form (mon s) = refl
+line-form (go s e t) = refl
+line-form other = refl
+
+held-more : (r : Rig) (ls : List Line) (f : Form) → Held r ls → lineCase ls (lineOf f) ≡ 0 → Held r (ls ++ (lineOf f ∷ []))
+held-more r ls f H q =
+    let z = H .sizes-are in
+    let mv = H .moves-are in
+    let ct = H .counts-are in
+    record { sizes-are = sizesAfter z f; moves-are = movesAfter mv z f; counts-are = countsAfter ct z f; holds = holds-more r ls z mv ct (H .holds) f (case-is r ls z mv ct (H .holds) f ∙ q) }
+
+held-all : (r : Rig) (front back : List Line) → Held r front → AllSound front back → Held r (front ++ back)
+unfolding AllSound
+held-all r front [] H s = rw append-nil H
+held-all r front (l ∷ back) H s = rw (← append-assoc front (l ∷ []) back) (held-all r (front ++ (l ∷ [])) back more (s .1))
+  where
+    more : Held r (front ++ (l ∷ []))
+    more = rw (line-form l) at (held-more r front (formOf l) H (ap (lineCase front) (line-form l) ∙ sound-case front l (s .0)))
+
+held-none : Held emptyRig []
+held-none = record {
+  sizes-are = record { events = 0; monitors = 0; latest = 0; joint = 1 };
+  moves-are = replicate 2048 255;
+  counts-are = replicate 4 0;
+  holds = holds-none (replicate 2048 255) (replicate 4 0) (λ i h. getD-replicate 2048 i 255 0 h) (length-replicate {A = ℕ} 2048 255) (length-replicate {A = ℕ} 4 0);
+}
+
+held-readable : (t : List ℕ) → Readable t → Held emptyRig (decoded t)
+held-readable t R = held-all emptyRig [] (decoded t) held-none (R .sound)
+
+-- ---- one monitor
+
+-- a body that moves from s on e has the line that says where to
+target-in : (n : ℕ) (b : List Line) (s e : ℕ) → moves s e b ≡ true → In (go s e (target n b s e)) b
+unfolding moves target leadsTo
+target-in n [] s e h = contra h refl
+target-in n (l ∷ b) s e h = case (isMove s e l) first (λ q. rw q (there (target-in n b s e (rw q at h))))
+  where
+    leads : (u : ℕ) → go s e u ≡ l → go s e (leadsTo l) ≡ l
+    leads u q = ap (λ k. go s e (leadsTo k)) (sym q) ∙ q
+
+    first : isMove s e l ≡ true → In (go s e (pick (isMove s e l) (leadsTo l) (target n b s e))) (l ∷ b)
+    first q = let (u, w) = is-move s e l .yes q in rw q (here (leads u w))
+
+-- an entry in range is where the monitor moves; any other stands for no move
+entry-moves : (v S E s e : ℕ) → s < S → e < E → v < S → pick ((ltb s S && ltb e E) && ltb v S) v S ≡ v
+entry-moves v S E s e a b c = rw (lt-ltb _ _ a, lt-ltb _ _ b, lt-ltb _ _ c)
+
+entry-still : (v S E s e : ℕ) → (s < S → e < E → S ≤ v) → pick ((ltb s S && ltb e E) && ltb v S) v S ≡ S
+entry-still v S E s e h = go (ltb s S) (ltb e E) refl refl
+  where
+    go : (a b : Bool) → ltb s S ≡ a → ltb e E ≡ b → pick ((a && b) && ltb v S) v S ≡ S
+    go true true p q = rw (le-ltb v S (h (ltb-true s S p) (ltb-true e E q)))
+    go true false p q = refl
+    go false b p q = refl
+
+-- monitor k of the record is the monitor m of the lines
+module _ (r : Rig) (m : Monitor) (k : ℕ) (T : Table (r .moves) k (m .body) (r .events) (statesOf (m .head)))
+    (c : countOf r k ≡ statesOf (m .head)) (few : statesOf (m .head) ≤ 32) (fewE : r .events ≤ 16) where
+  pub move-is : (s e : ℕ) → moveOf r k s e ≡ target (statesOf (m .head)) (m .body) s e
+  unfolding moveOf
+  move-is s e = rw c (case (moves s e (m .body)) moved still)
+    where
+      moved : moves s e (m .body) ≡ true
+          → pick ((ltb s (statesOf (m .head)) && ltb e (r .events)) && ltb (moveAt (r .moves) k s e) (statesOf (m .head))) (moveAt (r .moves) k s e) (statesOf (m .head)) ≡ target (statesOf (m .head)) (m .body) s e
+      moved q =
+          let w = T .within s e q in
+          let v : moveAt (r .moves) k s e ≡ target 255 (m .body) s e = T .entry s e (omega arith) (omega arith) in
+          entry-moves (moveAt (r .moves) k s e) (statesOf (m .head)) (r .events) s e (w .0) (w .1) (rw v (w .2)) ∙ v ∙ target-any 255 (statesOf (m .head)) (m .body) s e q
+
+      still : moves s e (m .body) ≡ false
+          → pick ((ltb s (statesOf (m .head)) && ltb e (r .events)) && ltb (moveAt (r .moves) k s e) (statesOf (m .head))) (moveAt (r .moves) k s e) (statesOf (m .head)) ≡ target (statesOf (m .head)) (m .body) s e
+      still q =
+          entry-still (moveAt (r .moves) k s e) (statesOf (m .head)) (r .events) s e (λ a b. large (T .entry s e (omega arith) (omega arith) ∙ target-none 255 (m .body) s e q))
+          ∙ sym (target-none (statesOf (m .head)) (m .body) s e q)
+        where
+          large : moveAt (r .moves) k s e ≡ 255 → statesOf (m .head) ≤ moveAt (r .moves) k s e
+          large p = omega arith
+
+  pub monitor-is : monitorAt r k ≡ lines.monitorOf (r .events) m
+  unfolding monitorAt lines.monitorOf
+  monitor-is = ap₂ (λ n f. record { states = n; events = range (r .events); next = f; stop = λ s. false }) c (fun-ext (λ s. fun-ext (λ e. move-is s e)))
+
+-- ---- all monitors
+
+-- what the record of sound lines is, whatever it was read by
+pub record Recorded (ls : List Line) (r : Rig) : Type 0 where
+  pub events-are : r .events ≡ eventsOf ls
+  pub monitors-are : r .monitors ≡ length (monitors ls)
+  pub tabled : Tabled (monitors ls) (r .monitors) (r .events) (r .moves) (r .counts)
+  pub few-events : r .events ≤ 16
+  pub few-monitors : r .monitors ≤ 4
+
+module _ (ls : List Line) (r : Rig) (H : Recorded ls r) where
+  at-monitor : (k : ℕ) → k < r .monitors → monitorAt r k ≡ lines.monitorOf (r .events) (getD (monitors ls) k nobody)
+  at-monitor k h = monitor-is r (getD (monitors ls) k nobody) k (H .tabled .tables k (omega (arith, H .few-monitors))) (H .tabled .counts-are k h) (H .tabled .few-states k h) (H .few-events)
+
+  pub standing-is : standing r ≡ lines.standing (eventsOf ls) (monitors ls)
+  unfolding standing lines.standing startOf
+  standing-is = ext-getD nowhere _ _ (length-tab inRecord (r .monitors) ∙ H .monitors-are ∙ sym (length-map (monitors ls) inLines)) (λ i h. same i (rw (length-tab inRecord (r .monitors)) at h))
+    where
+      nowhere : At
+      nowhere = record { of = monitorAt r 0; state = 0 }
+
+      inRecord : ℕ → At
+      inRecord k = record { of = monitorAt r k; state = 0 }
+
+      inLines : Monitor → At
+      inLines m = record { of = lines.monitorOf (eventsOf ls) m; state = startOf (m .head) }
+
+      same : (i : ℕ) → i < r .monitors → getD (tab inRecord (r .monitors)) i nowhere ≡ getD (map inLines (monitors ls)) i nowhere
+      same i h =
+          getD-tab inRecord (r .monitors) i nowhere h
+          ∙ ap (λ a. record { of = a; state = 0 }) (at-monitor i h ∙ ap (λ E. lines.monitorOf E (getD (monitors ls) i nobody)) (H .events-are))
+          ∙ sym (getD-map-lt inLines (monitors ls) i nobody nowhere (rw (← H .monitors-are) h))
+
+  pub automaton-of : recordAutomaton r ≡ linesAutomaton ls
+  unfolding recordAutomaton linesAutomaton
+  automaton-of = ap₂ joint (ap range (H .events-are)) standing-is
+
+  pub start-of : recordStart r ≡ linesStart ls
+  unfolding recordStart linesStart
+  start-of = ap jointState standing-is
+
+sizes-lines : (E : ℕ) (ms : List Monitor) → sizes (lines.standing E ms) ≡ product ms
+unfolding lines.standing sizes product lines.monitorOf
+sizes-lines E [] = refl
+sizes-lines E (m ∷ ms) = ap (λ p. statesOf (m .head) * p) (sizes-lines E ms)
+
+-- ---- a readable text
+
+module _ (t : List ℕ) (R : Readable t) where
+  held : Held emptyRig (decoded t)
+  held = held-readable t R
+
+  recordOf-is : recordOf t ≡ record { moves = held .moves-are; counts = held .counts-are; monitors = held .sizes-are .monitors; events = held .sizes-are .events }
+  unfolding recordOf
+  recordOf-is = ap (λ a. whereServed a (recordFrom emptyRig (decoded t)) emptyRig) (readable-said t R) ∙ held .holds .recorded
+
+  recorded : Recorded (decoded t) (recordOf t)
+  recorded = rw recordOf-is (record {
+    events-are = sym (held .holds .events-are);
+    monitors-are = sym (held .holds .monitors-are);
+    tabled = held .holds .tabled;
+    few-events = held .holds .room .few-events;
+    few-monitors = held .holds .room .few-monitors;
+  })
+
+  some-monitor : 1 ≤ recordOf t .monitors
+  some-monitor = rw (recorded .monitors-are) (filled (monitors (decoded t)) (R .monitored))
+    where
+      filled : (ms : List Monitor) → ms ≢ [] → 1 ≤ length ms
+      filled [] h = absurd (h refl)
+      filled (m ∷ ms) h = omega arith
+
+  begun : empty (decoded t) ≡ false
+  unfolding monitors monitorsFrom
+  begun = case (empty (decoded t)) (λ p. absurd (R .monitored (ap monitors (empty-nil (decoded t) p)))) (λ p. p)
+
+  some-event : 1 ≤ recordOf t .events
+  some-event = rw recordOf-is (positive (eqb-false (held .sizes-are .events) 0 (sym (held .holds .begun) ∙ begun)))
+    where
+      positive : {n : ℕ} → (n ≡ 0 → ⊥) → 1 ≤ n
+      positive h = omega arith
+
+  joint-of : sizes (standing (recordOf t)) ≡ jointStates t
+  unfolding jointStates
+  joint-of = ap sizes (standing-is (decoded t) (recordOf t) recorded) ∙ sizes-lines (eventsOf (decoded t)) (monitors (decoded t))
+
+  few-joint : jointStates t ≤ 1024
+  unfolding jointStates
+  few-joint = rw (held .holds .joint-is) (held .holds .room .few-joint)
+
+  well-formed : WellFormed (recordOf t)
+  well-formed = record {
+    some-event = some-event;
+    few-events = recorded .few-events;
+    some-monitor = some-monitor;
+    few-monitors = recorded .few-monitors;
+    some-state = λ m h. rw (recorded .tabled .counts-are m h) (recorded .tabled .some-state m h);
+    few-states = λ m h. rw (recorded .tabled .counts-are m h) (recorded .tabled .few-states m h);
+    few-joint = rw joint-of few-joint;
+  }
+
+  -- 'for each monitor, a move from s on e to u exactly when its body has the line'
+  moves-of : (m s e u : ℕ) → m < recordOf t .monitors → ((moveOf (recordOf t) m s e ≡ u) × (u < countOf (recordOf t) m)) ↔ In (go s e u) (monitorIn t m .body)
+  moves-of m s e u h = (to, from)
+    where
+      known : In (monitorIn t m) (monitors (decoded t))
+      known = getD-in (monitors (decoded t)) m nobody (rw (← recorded .monitors-are) h)
+
+      is : moveOf (recordOf t) m s e ≡ target (statesOf (monitorIn t m .head)) (monitorIn t m .body) s e
+      is =
+          move-is (recordOf t) (monitorIn t m) m (recorded .tabled .tables m (omega (arith, recorded .few-monitors))) (recorded .tabled .counts-are m h)
+          (recorded .tabled .few-states m h) (recorded .few-events) s e
+
+      to : (moveOf (recordOf t) m s e ≡ u) × (u < countOf (recordOf t) m) → In (go s e u) (monitorIn t m .body)
+      to (q, l) =
+          case (moves s e (monitorIn t m .body))
+          (λ p. rw (sym is ∙ q) at (target-in (statesOf (monitorIn t m .head)) (monitorIn t m .body) s e p))
+          (λ p. absurd (outside (sym (target-none (statesOf (monitorIn t m .head)) (monitorIn t m .body) s e p) ∙ sym is ∙ q)))
+        where
+          outside : statesOf (monitorIn t m .head) ≡ u → ⊥
+          outside z = omega (arith, recorded .tabled .counts-are m h)
+
+      from : In (go s e u) (monitorIn t m .body) → (moveOf (recordOf t) m s e ≡ u) × (u < countOf (recordOf t) m)
+      from i =
+          let F = readable-formed t R .monitored in
+          let p = tells-true (tells-moves s e (monitorIn t m .body)) (u, i) in
+          let j = target-in (statesOf (monitorIn t m .head)) (monitorIn t m .body) s e p in
+          let w = F .ranged (monitorIn t m) known s e u i in
+          (is ∙ F .once (monitorIn t m) known s e (target (statesOf (monitorIn t m .head)) (monitorIn t m .body) s e) u j i, rw (recorded .tabled .counts-are m h) (w .2))
+
+  pub read-from : ReadFrom t (recordOf t)
+  unfolding rigAutomaton start
+  read-from = record {
+    well-formed = well-formed;
+    events-are = recorded .events-are;
+    monitors-are = recorded .monitors-are;
+    counts-are = recorded .tabled .counts-are;
+    moves-are = moves-of;
+    automaton-is = automaton-of (decoded t) (recordOf t) recorded;
+    start-is = start-of (decoded t) (recordOf t) recorded;
+    joint-states-are = joint-of;
+  }

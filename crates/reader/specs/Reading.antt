@@ -1,0 +1,41 @@
+-- What `read` answers and the record that it gives. Paper 01, 'Rig text' and 'Numbers of refusal'.
+--   answerOf v         == the verdict v in the paper's numbers
+--   withLine r l       == the record r with the line l
+--   recordFrom r ls    == the record r with the lines ls, one after the other
+--   whereServed a r s  == r where the answer a is served, else s
+--   recordOf t         == the record of the text t, empty where t is refused
+-- A new line form is one clause of withLine. Assumes nothing.
+use mathlib.Core.List.{List, [], _∷_}
+use Prim.Native.Nat.{ℕ, _+_, _-_}
+use lib.ListN.{set}
+use Rattle.promises.specs.Answer.{Answer, served, refused}
+use Rattle.promises.specs.Text.{Line, rig, mon, go, other, decoded}
+use Rattle.promises.specs.Reading.{reading}
+use Rattle.rig.specs.declared.Rig.{Rig}
+use Rattle.rig.specs.Record.{place, emptyRig}
+use Rattle.reader.specs.declared.Verdict.{Verdict}
+use Rattle.reader.specs.declared.Verdict.the-variants.{Readable, Refused}
+
+-- 'A refusal is its number and a place'
+abbrev pub answerOf : Verdict → Answer
+answerOf Readable = served []
+answerOf (Refused number place) = refused number place
+
+-- '`rig`, E'; '`mon`, S: a new monitor'; '`go`, s, e, t: the latest monitor moves from s to t on event e'
+unfoldable pub withLine : Rig → Line → Rig
+withLine r (rig e) = record { moves = r .moves; counts = r .counts; monitors = r .monitors; events = e }
+withLine r (mon s) = record { moves = r .moves; counts = set (r .counts) (r .monitors) s; monitors = r .monitors + 1; events = r .events }
+withLine r (go s e t) = record { moves = set (r .moves) (place (r .monitors - 1) s e) t; counts = r .counts; monitors = r .monitors; events = r .events }
+withLine r other = r
+
+unfoldable pub recordFrom : Rig → List Line → Rig
+recordFrom r [] = r
+recordFrom r (l ∷ ls) = recordFrom (withLine r l) ls
+
+abbrev pub whereServed : Answer → Rig → Rig → Rig
+whereServed (served vs) r s = r
+whereServed (refused number place) r s = s
+
+-- 'The read rig is one record that holds its move tables.'
+unfoldable pub recordOf : List ℕ → Rig
+recordOf t = whereServed (reading t) (recordFrom emptyRig (decoded t)) emptyRig

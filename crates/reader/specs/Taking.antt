@@ -1,0 +1,95 @@
+-- One line more, in the reader's own state: the sizes so far and the two tables. The laws of `proofs/Held` tie it to the lines.
+--   Room z             == sizes within the paper's limits
+--   onlyIf n a b       == a where the number n is 0, else b
+--   taken n z          == Next z where the number n is 0, else Bad n
+--   refusal n p        == the answer to a text that is refused
+--   rigCase, monCase, goCase == the number of the first case that holds of such a line, 0 where none does
+--   rigSizes, monSizes, monCounts, goMoves == what such a line changes, where no case holds of it
+--   caseOf, sizesAfter, movesAfter, countsAfter == the same for any line
+-- A new line form is one section and its clauses of the last four. Assumes nothing.
+use mathlib.Core.Bool.{not, _||_}
+use mathlib.Core.List.{List}
+use Prim.Native.Nat.{ℕ, _+_, _-_, _*_, _≤_}
+use lib.ListN.{set}
+use lib.Dec.{ltb, leb, eqb}
+use Rattle.lists.specs.Lists.{pick}
+use Rattle.rig.specs.Record.{place, moveAt, emptyRig}
+use Rattle.decoding.specs.declared.Form.{Form}
+use Rattle.decoding.specs.declared.Form.the-variants.{Rig, Mon, Go, Other}
+use Rattle.reader.specs.declared.Reading.{Reading}
+use Rattle.reader.specs.declared.Sizes.{Sizes}
+use Rattle.reader.specs.declared.Taken.{Taken}
+use Rattle.reader.specs.declared.Taken.the-variants.{Next, Bad}
+use Rattle.reader.specs.declared.Verdict.the-variants.{Refused}
+
+pub record Room (z : Sizes) : Type 0 where
+  pub few-events : z .events ≤ 16
+  pub few-monitors : z .monitors ≤ 4
+  pub few-latest : z .latest ≤ 32
+  pub few-joint : z .joint ≤ 1024
+
+abbrev pub onlyIf : {A : Type 0} → ℕ → A → A → A
+onlyIf n a b = pick (eqb n 0) a b
+
+abbrev pub taken : ℕ → Sizes → Taken
+taken n z = onlyIf n (Next z) (Bad n)
+
+abbrev pub refusal : ℕ → ℕ → Reading
+refusal n p = record { verdict = Refused n p; rig = emptyRig }
+
+-- ---- `rig`, E
+
+unfoldable pub rigCase : Sizes → ℕ → ℕ
+rigCase z e = pick (not (eqb (z .events) 0)) 5 (pick (ltb e 1 || ltb 16 e) 3 0)
+
+abbrev pub rigSizes : Sizes → ℕ → Sizes
+rigSizes z e = record { events = e; monitors = z .monitors; latest = z .latest; joint = z .joint }
+
+-- ---- `mon`, S
+
+unfoldable pub monCase : Sizes → ℕ → ℕ
+monCase z s = pick (eqb (z .events) 0) 5 (pick (ltb s 1 || (ltb 32 s || leb 4 (z .monitors))) 3 (pick (ltb 1024 (z .joint * s)) 6 0))
+
+abbrev pub monSizes : Sizes → ℕ → Sizes
+monSizes z s = record { events = z .events; monitors = z .monitors + 1; latest = s; joint = z .joint * s }
+
+abbrev pub monCounts : List ℕ → Sizes → ℕ → List ℕ
+monCounts ct z s = set ct (z .monitors) s
+
+-- ---- `go`, s, e, t
+
+unfoldable pub goCase : List ℕ → Sizes → ℕ → ℕ → ℕ → ℕ
+goCase mv z s e t =
+    pick (eqb (z .monitors) 0) 5
+    (pick (leb (z .latest) s || (leb (z .events) e || leb (z .latest) t)) 3
+    (pick (not (eqb (moveAt mv (z .monitors - 1) s e) 255)) 4
+    0))
+
+abbrev pub goMoves : List ℕ → Sizes → ℕ → ℕ → ℕ → List ℕ
+goMoves mv z s e t = set mv (place (z .monitors - 1) s e) t
+
+-- ---- any line
+
+abbrev pub caseOf : List ℕ → Sizes → Form → ℕ
+caseOf mv z (Rig e) = rigCase z e
+caseOf mv z (Mon s) = monCase z s
+caseOf mv z (Go s e t) = goCase mv z s e t
+caseOf mv z Other = 2
+
+abbrev pub sizesAfter : Sizes → Form → Sizes
+sizesAfter z (Rig e) = rigSizes z e
+sizesAfter z (Mon s) = monSizes z s
+sizesAfter z (Go s e t) = z
+sizesAfter z Other = z
+
+abbrev pub movesAfter : List ℕ → Sizes → Form → List ℕ
+movesAfter mv z (Rig e) = mv
+movesAfter mv z (Mon s) = mv
+movesAfter mv z (Go s e t) = goMoves mv z s e t
+movesAfter mv z Other = mv
+
+abbrev pub countsAfter : List ℕ → Sizes → Form → List ℕ
+countsAfter ct z (Rig e) = ct
+countsAfter ct z (Mon s) = monCounts ct z s
+countsAfter ct z (Go s e t) = ct
+countsAfter ct z Other = ct

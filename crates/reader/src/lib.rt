@@ -1,0 +1,190 @@
+// Reading a rig's text: its record, or the first of the refusals 1 to 6. One pass over the text, line by line; the tables are filled in place.
+use decoding::Form;
+use rig::Rig;
+ghost use mathlib.Core.Path.{_≡_};
+ghost use Prim.Native.Nat.{_<_, _≤_};
+ghost use lib.ListN.{length};
+ghost use Rattle.promises.specs.Reading as promised;
+ghost use Rattle.reader.specs.Reading.{answerOf, recordOf};
+ghost use Rattle.reader.specs.Taking.{Room, taken, rigCase, rigSizes, monCase, monSizes, monCounts, goCase, goMoves, caseOf, sizesAfter, movesAfter, countsAfter, onlyIf};
+ghost use Rattle.reader.specs.Taking as taking;
+
+// What reading answers: the text is readable, or a number and a place.
+pub enum Verdict {
+    Readable,
+    Refused(u64, u64),
+}
+
+// The answer, and the record beside it: the empty one where the text is refused.
+pub struct Reading {
+    pub verdict: Verdict,
+    pub rig: Rig,
+}
+
+// What the lines so far say: E, how many monitors there are, the latest one's S, and P.
+struct Sizes {
+    events: usize,
+    monitors: usize,
+    latest: usize,
+    joint: usize,
+}
+
+// What a line comes to: the sizes after it, or the number of the first case that holds of it.
+enum Taken {
+    Next(Sizes),
+    Bad(u64),
+}
+
+// A refusal, with the empty record.
+fn refused(number: u64, place: u64) -> Reading
+    ensures { λ r. ⌜ r ≡ taking.refusal number place ⌝ }
+{
+    Reading {
+        verdict: Verdict::Refused(number, place),
+        rig: rig::empty_rig(),
+    }
+}
+
+// `rig`, E: 'the first line and only there', 'E from 1 to 16'.
+fn take_rig(z: Sizes, e: usize) -> Taken
+    ensures { λ r. ⌜ r ≡ taken (rigCase z e) (rigSizes z e) ⌝ }
+{
+    if z.events != 0 {
+        return Taken::Bad(5); // `rig` later
+    }
+    if e < 1 {
+        return Taken::Bad(3); // no event
+    }
+    if 16 < e {
+        return Taken::Bad(3); // more than 16 events
+    }
+    Taken::Next(Sizes {
+        events: e,
+        monitors: z.monitors,
+        latest: z.latest,
+        joint: z.joint,
+    })
+}
+
+// `mon`, S: 'S from 1 to 32', 'One to four monitors', P 'at most 1,024'.
+fn take_mon(counts: &mut [u8], z: Sizes, s: usize) -> Taken
+    requires { ⌜ (length (now counts) ≡ 4) × Room z ⌝ }
+    ensures { λ r. ⌜ r ≡ taken (monCase z s) (monSizes z s) ⌝ }
+    ensures { λ _. ⌜ now (counts .exit) ≡ onlyIf (monCase z s) (monCounts (now (counts .entry)) z s) (now (counts .entry)) ⌝ }
+{
+    if z.events == 0 {
+        return Taken::Bad(5); // first line not `rig`
+    }
+    if s < 1 {
+        return Taken::Bad(3); // no state
+    }
+    if 32 < s {
+        return Taken::Bad(3); // more than 32 states
+    }
+    if 4 <= z.monitors {
+        return Taken::Bad(3); // a fifth monitor
+    }
+    let joint = z.joint * s;
+    if 1024 < joint {
+        return Taken::Bad(6); // P over 1,024
+    }
+    let m = z.monitors;
+    counts[m] = s as u8;
+    Taken::Next(Sizes {
+        events: z.events,
+        monitors: m + 1,
+        latest: s,
+        joint,
+    })
+}
+
+// `go`, s, e, t: 'the latest monitor moves from s to t on event e'. A move that stands already is seen in the table.
+fn take_go(moves: &mut [u8], z: Sizes, s: usize, e: usize, t: usize) -> Taken
+    requires { ⌜ (length (now moves) ≡ 2048) × Room z ⌝ }
+    ensures { λ r. ⌜ r ≡ taken (goCase (now (moves .entry)) z s e t) z ⌝ }
+    ensures { λ _. ⌜ now (moves .exit) ≡ onlyIf (goCase (now (moves .entry)) z s e t) (goMoves (now (moves .entry)) z s e t) (now (moves .entry)) ⌝ }
+{
+    if z.monitors == 0 {
+        return Taken::Bad(5); // `go` before `mon`
+    }
+    if z.latest <= s {
+        return Taken::Bad(3); // s is no state
+    }
+    if z.events <= e {
+        return Taken::Bad(3); // e is no event
+    }
+    if z.latest <= t {
+        return Taken::Bad(3); // t is no state
+    }
+    let at = ((z.monitors - 1) * 32 + s) * 16 + e;
+    if moves[at] != 255 {
+        return Taken::Bad(4); // s and e again
+    }
+    moves[at] = t as u8;
+    Taken::Next(z)
+}
+
+// One line more.
+fn take_line(moves: &mut [u8], counts: &mut [u8], z: Sizes, line: Form) -> Taken
+    requires { ⌜ (length (now moves) ≡ 2048) × (length (now counts) ≡ 4) × Room z ⌝ }
+    ensures { λ r. ⌜ r ≡ taken (caseOf (now (moves .entry)) z line) (sizesAfter z line) ⌝ }
+    ensures { λ _. ⌜ now (moves .exit) ≡ onlyIf (caseOf (now (moves .entry)) z line) (movesAfter (now (moves .entry)) z line) (now (moves .entry)) ⌝ }
+    ensures { λ _. ⌜ now (counts .exit) ≡ onlyIf (caseOf (now (moves .entry)) z line) (countsAfter (now (counts .entry)) z line) (now (counts .entry)) ⌝ }
+{
+    match line {
+        Form::Rig(e) => take_rig(z, e),
+        Form::Mon(s) => take_mon(counts, z, s),
+        Form::Go(s, e, t) => take_go(moves, z, s, e, t),
+        Form::Other => Taken::Bad(2),
+    }
+}
+
+// Reads a text of any length.
+pub fn read(text: &[u8]) -> Reading
+    ensures { λ r. ⌜ answerOf (r .verdict) ≡ promised.reading (now (text .entry)) ⌝ }
+    ensures { λ r. ⌜ r .rig ≡ recordOf (now (text .entry)) ⌝ }
+{
+    if 65535 < text.len() {
+        return refused(1, 0);
+    }
+    let mut moves = [255u8; 2048];
+    let mut counts = [0u8; 4];
+    let mut sizes = Sizes {
+        events: 0,
+        monitors: 0,
+        latest: 0,
+        joint: 1,
+    };
+    let mut line = 1;
+    let mut at = 0;
+    while at < text.len() {
+        let rest = &text[at..];
+        let end = decoding::until(rest, 10);
+        if end == rest.len() {
+            return refused(2, line);
+        }
+        let form = decoding::decode(&rest[..end]);
+        match take_line(&mut moves, &mut counts, sizes, form) {
+            Taken::Next(z) => {
+                sizes = z;
+            }
+            Taken::Bad(number) => {
+                return refused(number, line);
+            }
+        }
+        line += 1;
+        at += end + 1;
+    }
+    if sizes.monitors == 0 {
+        return refused(5, line);
+    }
+    Reading {
+        verdict: Verdict::Readable,
+        rig: Rig {
+            moves,
+            counts,
+            monitors: sizes.monitors,
+            events: sizes.events,
+        },
+    }
+}

@@ -1,0 +1,115 @@
+// Reads texts and prints what each gives: `read`, E, the number of moves and each S; or `no`, the number and the place.
+// The texts of standard input each have a name up to a line end before them and byte 28 after them; those at the limit of 65,535 bytes are made here.
+use libc::STDIN_FILENO;
+use libc::STDOUT_FILENO;
+use reader::Verdict;
+use rig::Rig;
+ghost use Prim.Native.Nat.{_≤_};
+ghost use lib.ListN.{length};
+
+fn say(bytes: &[u8]) {
+    io::write_all(STDOUT_FILENO, bytes);
+}
+
+fn say_number(n: u64) {
+    say(b"\t");
+    io::print_decimal(STDOUT_FILENO, n);
+}
+
+fn one_if_move(entry: u8) -> u64
+    ensures { λ r. ⌜ r ≤ 1 ⌝ }
+{
+    if entry == 255 { 0 } else { 1 }
+}
+
+// How many entries of a move table are moves.
+fn moves_in(moves: &[u8; 2048]) -> u64 {
+    let mut n = 0;
+    for i in 0..2048 {
+        n += one_if_move(moves[i]);
+    }
+    n
+}
+
+fn say_record(r: Rig) {
+    say(b"\tread");
+    say_number(r.events as u64);
+    say_number(moves_in(&r.moves));
+    let counts = r.counts;
+    for m in 0..4 {
+        if m < r.monitors {
+            say_number(counts[m] as u64);
+        }
+    }
+}
+
+fn show(name: &[u8], text: &[u8]) {
+    say(name);
+    let r = reader::read(text);
+    let v = r.verdict;
+    match v {
+        Verdict::Readable => {
+            say_record(r.rig);
+        }
+        Verdict::Refused(number, place) => {
+            say(b"\tno");
+            say_number(number);
+            say_number(place);
+        }
+    }
+    say(b"\n");
+}
+
+// How many bytes stand before byte b.
+fn before(s: &[u8], b: u8) -> usize
+    ensures { λ r. ⌜ r ≤ length (now (s .entry)) ⌝ }
+{
+    decoding::until(s, b)
+}
+
+// A stored text: its name, a line end, its bytes.
+fn show_stored(stored: &[u8]) {
+    let end = before(stored, b'\n');
+    if end < stored.len() {
+        let start = end + 1;
+        show(&stored[..end], &stored[start..]);
+    }
+}
+
+fn show_all(stored: &[u8]) {
+    let mut at = 0;
+    while at < stored.len() {
+        let rest = &stored[at..];
+        let end = before(rest, 28);
+        show_stored(&rest[..end]);
+        at += end + 1;
+    }
+}
+
+// Texts of line ends, at the limit of 65,535 bytes and past it.
+fn line_ends() {
+    let most = [b'\n'; 65535];
+    show(b"65,535 line ends", &most);
+    let over = [b'\n'; 65536];
+    show(b"65,536 line ends", &over);
+}
+
+// A line of 65,534 bytes, ended, and with one byte more, and not ended.
+fn long_line() {
+    let mut ended = [b'x'; 65535];
+    ended[65534] = b'\n';
+    show(b"one line of 65,534 bytes", &ended);
+    let mut over = [b'x'; 65536];
+    over[65534] = b'\n';
+    show(b"one line of 65,534 bytes, and one byte", &over);
+    let unended = [b'x'; 65534];
+    show(b"65,534 bytes unended", &unended);
+}
+
+fn main() {
+    let mut stored = io::large_buffer();
+    let n = io::read_full(STDIN_FILENO, &mut stored);
+    show_all(&stored[..n]);
+    line_ends();
+    long_line();
+}

@@ -1,0 +1,2 @@
+-- What the record means.
+pub mod Record
