@@ -1,0 +1,2 @@
+-- What the cells are filled from.
+pub mod Tabled
