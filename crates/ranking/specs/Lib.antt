@@ -1,0 +1,2 @@
+-- What unranking and ranking read, and what they tell.
+pub mod Ranks
