@@ -1,0 +1,66 @@
+-- `shuffle::count_up` meets its contract. The first k places are the table's, the rest as they were; one store more is one entry more.
+use mathlib.Core.Path.{_≡_, refl, ap, _∙_}
+use mathlib.Core.List.{List, _++_}
+use Prim.Native.Nat.{ℕ, _-_, _≤_}
+use native.Mathlib.Omega.{arith}
+use lib.ListN.{length, set, drop, length-set}
+use borrow.Author.Needs.{needs}
+use Rattle.lists.specs.Lists.{tab}
+use Rattle.lists.proofs.Tables.{tab-more}
+use Rattle.shuffle.specs.Places.{itself}
+use Rattle.shuffle.proofs.count_up.Statement.{statement}
+use Rattle.shuffle.proofs.count_up.Tie as tie
+
+abbrev Inv-loop : tie.InvT-loop
+Inv-loop scratch₀ m k₀ scratch k =
+    (k ≤ m) × (length scratch ≡ length scratch₀) × (scratch ≡ tab itself k ++ drop k scratch₀)
+
+abbrev μ-loop : tie.MeasureT-loop
+μ-loop scratch₀ m k₀ scratch k = m - k
+
+loop-holds : tie.Need-loop-holds Inv-loop μ-loop
+unfolding tab
+loop-holds c = (omega arith, refl, refl)
+
+mul-scratch : tie.Need-mul-scratch Inv-loop μ-loop
+mul-scratch c = search needs
+
+slice-write-scratch : tie.Need-slice-write-scratch Inv-loop μ-loop
+slice-write-scratch c = search needs
+
+add-k : tie.Need-add-k Inv-loop μ-loop
+add-k c = search needs
+
+loop-less : tie.Need-loop-less Inv-loop μ-loop
+loop-less c = search needs
+
+loop-again : tie.Need-loop-again Inv-loop μ-loop
+loop-again c =
+    let st = c .before .before in
+    let lp = c .before .loop in
+    (omega arith, simp length-set (lp .inv .1), ap (λ (l : List ℕ). set l (lp .k) (itself (lp .k))) (lp .inv .2) ∙ tab-more itself (st .args .scratch .now) (lp .k) (itself (lp .k)) 0 (omega arith) refl)
+
+same-length : tie.Need-same-length Inv-loop μ-loop
+same-length c = search needs
+
+returns : tie.Need-returns Inv-loop μ-loop
+returns c =
+    let st = c .before .before in
+    let lp = c .before .loop in
+    let e : lp .k ≡ st .args .m = omega arith in
+    lp .inv .2 ∙ ap (λ (n : ℕ). tab itself n ++ drop n (st .args .scratch .now)) e
+
+pub count-up-spec : {M : Type 1} → statement M
+count-up-spec =
+    tie.close
+    (tie.spec
+    Inv-loop
+    μ-loop
+    loop-holds
+    mul-scratch
+    slice-write-scratch
+    add-k
+    loop-less
+    loop-again
+    same-length
+    returns)

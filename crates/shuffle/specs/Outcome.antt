@@ -1,0 +1,11 @@
+-- The answer of the call in the paper's numbers.
+--   answerOf r == `Served` is served, with nothing told; `Refused number place` is that refusal
+-- Assumes nothing.
+use mathlib.Core.List.{[]}
+use Rattle.promises.specs.Answer.{Answer, served, refused}
+use Rattle.shuffle.specs.declared.Shuffled.{Shuffled}
+use Rattle.shuffle.specs.declared.Shuffled.the-variants.{Served, Refused}
+
+abbrev pub answerOf : Shuffled → Answer
+answerOf Served = served []
+answerOf (Refused number place) = refused number place
