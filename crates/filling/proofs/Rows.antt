@@ -1,0 +1,113 @@
+-- Rows 1 to 10 as a whole call sees them: what a refusal up to 8 leaves, what the start's cell tells, and that what is counted of the record is
+-- counted of the text. Assumes nothing.
+use mathlib.Core.Path.{_≡_, refl, sym, ap, _∙_}
+use mathlib.Core.Bool.{true, false}
+use mathlib.Core.List.{List, [], _∷_}
+use Prim.Native.Nat.{ℕ, _+_, _*_, _≤_, _<_, min}
+use native.Mathlib.Omega.{arith}
+use native.Mathlib.Nat.{add-zero, suc-mul}
+use native.Mathlib.Numerals.{add-one}
+use lib.ListN.{length, getD}
+use lib.Dec.{leb, eqb}
+use borrow.Author.Tests.{ne-eqb}
+use Rattle.lists.proofs.Tests.{case}
+use Rattle.automaton.specs.Automaton.{Automaton}
+use Rattle.automaton.specs.Pruning.{passes}
+use Rattle.automaton.specs.Counting.{N, most, cell}
+use Rattle.rig.specs.Record.{recordAutomaton}
+use Rattle.promises.specs.Answer.{Answer, served, refused}
+use Rattle.promises.specs.Rig.{rigAutomaton}
+use Rattle.promises.specs.Calls.{filled, fills, cellsAfter, outputAfter, sized, total, counted, count, countCells}
+use Rattle.promises.proofs.Buffers.{filled-at}
+use Rattle.promises.proofs.Meaning.{rig-start}
+use Rattle.opening.specs.Opening.{checkedOr, Ready, Opens}
+use Rattle.opening.specs.declared.Checked.{Checked}
+use Rattle.opening.specs.declared.Checked.the-variants.{Passed, Refused}
+use Rattle.opening.specs.declared.Opened.{Opened}
+use Rattle.filling.specs.Weighing.{weighed, Tells}
+use Rattle.filling.proofs.Weighing.{told-passed}
+
+-- ---- the cells
+
+-- the start's cell
+pub start-cell : (A : Automaton) (h : ℕ) (cells after : List ℕ) (p : ℕ) → p ≡ A .states → 0 < p → after ≡ filled A h cells → getD after (h * p) 0 ≡ min (N A h 0) most
+unfolding cell
+start-cell A h cells after p q some e =
+    ap (λ (l : List ℕ). getD l (h * p) 0) e
+    ∙ ap (λ (i : ℕ). getD (filled A h cells) i 0) (ap (λ (n : ℕ). h * n) q ∙ sym (add-zero (h * A .states)))
+    ∙ filled-at A h cells h 0 (omega arith) (omega arith)
+
+-- no refusal up to 8 fills the cells
+pub early-fills : (n p : ℕ) → n ≤ 8 → fills (refused n p) ≡ false
+unfolding fills
+early-fills n p le = rw (ne-eqb n 9 (λ q. omega arith), ne-eqb n 10 (λ q. omega arith), ne-eqb n 11 (λ q. omega arith), ne-eqb n 14 (λ q. omega arith))
+
+-- 9 and 10 do, and so does what fills them by itself
+pub weighed-fills : (n : ℕ) (a : Answer) → fills a ≡ true → fills (weighed n a) ≡ true
+unfolding weighed fills
+weighed-fills n a f = case (eqb n 0) (λ q. rw q) (λ q. rw q (case (leb most n) (λ r. rw r) (λ r. rw r f)))
+
+-- N and the passes, told
+pub told-count : (c n s s′ : ℕ) (k : Checked) → Tells c k → c ≡ min n most → k ≡ Passed → s ≡ s′ → served (c ∷ s ∷ []) ≡ weighed n (served (n ∷ s′ ∷ []))
+told-count c n s s′ k t q e r = rw (t .exact e n q .0, r) (told-passed c n k (served (n ∷ s′ ∷ [])) t q e)
+
+pub cell-room : (h p n : ℕ) → 0 < p → (h + 1) * p ≤ n → h * p < n
+cell-room h p n some le = omega (arith, suc-mul h p, ap (λ (i : ℕ). i * p) (add-one h))
+
+-- ---- rows 1 to 8, as the whole call sees them
+
+module _ (t : List ℕ) (h room : ℕ) (o : Opened) (op : Opens t h room o) (cells : List ℕ) (l : length cells ≡ room) where
+  -- a row up to 8 applied: its refusal is the answer, and the cells are as before
+  pub early-answer : (m p : ℕ) → o .checked ≡ Refused m p → (a : Answer) → refused m p ≡ sized t h cells a
+  early-answer m p e a = sym (op .answer cells a l ∙ ap (λ (k : Checked). checkedOr k a) e)
+
+  pub early-cells : (m p : ℕ) → o .checked ≡ Refused m p → (a : Answer) (A : Automaton) → cells ≡ cellsAfter (sized t h cells a) A h cells
+  unfolding cellsAfter
+  early-cells m p e a A = rw (← early-answer m p e a, early-fills m p (op .early m p e))
+
+  pub early-output : (m p : ℕ) → o .checked ≡ Refused m p → (a : Answer) (fresh out : List ℕ) → out ≡ outputAfter (sized t h cells a) fresh out
+  unfolding outputAfter
+  early-output m p e a fresh out = rw (← early-answer m p e a)
+
+  pub early-count : (m p : ℕ) → o .checked ≡ Refused m p → refused m p ≡ count t h cells
+  unfolding count
+  early-count m p e = early-answer m p e _
+
+  pub early-count-cells : (m p : ℕ) → o .checked ≡ Refused m p → cells ≡ countCells t h cells
+  unfolding countCells count
+  early-count-cells m p e = early-cells m p e _ _
+
+  module _ (e : o .checked ≡ Passed) where
+    pub passed-answer : (a : Answer) → sized t h cells a ≡ a
+    passed-answer a = op .answer cells a l ∙ ap (λ (k : Checked). checkedOr k a) e
+
+    ready : Ready t h room (o .rig) (o .states)
+    ready = op .ready e
+
+    pub some-states : 0 < o .states
+    some-states = omega (arith, rig-start t (ready .readable), ready .starts, ready .joint, ap (λ (A : Automaton). A .states) (ready .automaton))
+
+    -- rows 9 and 10 on the record's automaton are those on the text's
+    pub counted-is : (a : Answer) → weighed (N (recordAutomaton (o .rig)) h 0) a ≡ counted t h a
+    unfolding counted total weighed
+    counted-is a = rw (ready .automaton, ready .starts)
+
+    pub total-is : N (recordAutomaton (o .rig)) h 0 ≡ total t h
+    unfolding total
+    total-is = rw (ready .automaton, ready .starts)
+
+    -- what fills the cells leaves them as promised
+    pub passed-cells : (a : Answer) (after : List ℕ) → fills a ≡ true → after ≡ filled (recordAutomaton (o .rig)) h cells → after ≡ cellsAfter (sized t h cells a) (rigAutomaton t) h cells
+    unfolding cellsAfter
+    passed-cells a after f q = rw (passed-answer a, f, ← ready .automaton) q
+
+    pub count-is : weighed (N (recordAutomaton (o .rig)) h 0) (served (N (recordAutomaton (o .rig)) h 0 ∷ passes (recordAutomaton (o .rig)) ∷ [])) ≡ count t h cells
+    unfolding count
+    count-is = rw (passed-answer, ← ready .automaton, ← total-is) (counted-is _)
+
+    pub count-cells-are : (after : List ℕ) → after ≡ filled (recordAutomaton (o .rig)) h cells → after ≡ countCells t h cells
+    unfolding countCells count counted weighed fills
+    count-cells-are after q = passed-cells (counted t h told) after (weighed-fills (total t h) told refl) q
+      where
+        told : Answer
+        told = served (total t h ∷ passes (rigAutomaton t) ∷ [])

@@ -1,0 +1,2 @@
+-- The answers in the paper's numbers.
+pub mod Outcomes

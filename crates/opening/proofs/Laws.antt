@@ -1,0 +1,113 @@
+-- What the checks come to, case by case. Assumes nothing.
+use mathlib.Core.Path.{_≡_, refl, sym, ap, _∙_}
+use mathlib.Core.List.{List, [], _∷_}
+use Prim.Native.Nat.{ℕ, zero, suc, _+_, _*_, _≤_, _<_}
+use native.Mathlib.Omega.{arith}
+use native.Mathlib.Nat.{mul-le-mul, zero-mul}
+use borrow.Author.Tests.{lt-ltb, le-ltb}
+use Rattle.lists.specs.Lists.{tab}
+use Rattle.automaton.specs.Joint.{At, sizes, jointState}
+use Rattle.automaton.proofs.Joint.{joint-number}
+use Rattle.rig.specs.declared.Rig.{Rig}
+use Rattle.rig.specs.Record.{recordAutomaton, recordStart, standing, WellFormed}
+use Rattle.promises.specs.Answer.{Served}
+use Rattle.promises.specs.Text.{Readable, jointStates}
+use Rattle.promises.specs.Reading as promised
+use Rattle.promises.specs.Rig.{rigAutomaton}
+use Rattle.promises.specs.Calls.{sized}
+use Rattle.promises.proofs.Meaning.{rig-states}
+use Rattle.promises.proofs.Reading.{reading-serves, reading-refuses, fault-number}
+use Rattle.reader.specs.Reading.{answerOf, recordOf}
+use Rattle.reader.specs.declared.Verdict.the-variants.{Readable as Read, Refused as Unread}
+use Rattle.reader.specs.Record.{ReadFrom}
+use Rattle.reader.proofs.Record.{read-from}
+use Rattle.opening.specs.Opening.{Opens, Weighs}
+use Rattle.opening.specs.declared.Checked.the-variants.{Passed, Refused}
+use Rattle.opening.specs.declared.Opened.{Opened}
+
+-- ---- the horizon and the room
+
+pub cells-few : (h p : ℕ) → h ≤ 1000 → p ≤ 1024 → (h + 1) * p ≤ 1001 * 1024
+cells-few h p a b = mul-le-mul {n₁ = h + 1} {m₁ = p} {n₂ = 1001} {m₂ = 1024} (omega arith) b
+
+refused-early : (n p m q : ℕ) → n ≤ 8 → Refused n p ≡ Refused m q → m ≤ 8
+refused-early n p m q le e = let z : n ≡ m = cc in omega arith
+
+passed-not : (n p : ℕ) → Refused n p ≡ Passed → ⊥
+passed-not n p e = let z : _≡_ {A = ℕ} 0 1 = cc in omega arith
+
+pub weighs-7 : (r : Rig) (h room : ℕ) → 1000 < h → Weighs r h room (record { checked = Refused 7 0; rig = r; states = 0 })
+weighs-7 r h room c = record {
+  answer = λ a. rw (lt-ltb 1000 h c);
+  early = λ n p. refused-early 7 0 n p (omega arith);
+  passed = λ e. absurd (passed-not 7 0 e);
+}
+
+pub weighs-8 : (r : Rig) (h room states : ℕ) → h ≤ 1000 → states ≡ recordAutomaton r .states → room < (h + 1) * states → Weighs r h room (record { checked = Refused 8 0; rig = r; states = 0 })
+weighs-8 r h room states c q lt = record {
+  answer = λ a. rw (le-ltb 1000 h c, ← q, lt-ltb room ((h + 1) * states) lt);
+  early = λ n p. refused-early 8 0 n p (omega arith);
+  passed = λ e. absurd (passed-not 8 0 e);
+}
+
+pub weighs-on : (r : Rig) (h room states : ℕ) → h ≤ 1000 → states ≡ recordAutomaton r .states → (h + 1) * states ≤ room → Weighs r h room (record { checked = Passed; rig = r; states = states })
+weighs-on r h room states c q le = record {
+  answer = λ a. rw (le-ltb 1000 h c, ← q, le-ltb room ((h + 1) * states) le);
+  early = λ n p e. absurd (passed-not n p (sym e));
+  passed = λ e. (refl, q, c, le);
+}
+
+-- ---- the text
+
+-- every monitor starts in 0, so all of them together do
+zero-start : (f : ℕ → At) → ((m : ℕ) → f m .state ≡ 0) → (n : ℕ) → jointState (tab f n) ≡ 0
+unfolding tab jointState sizes
+zero-start f z zero = refl
+zero-start f z (suc n) = joint-number (tab f n) (f n ∷ []) ∙ rw (zero-start f z n, z n, zero-mul (f n .of .states * 1), zero-mul 1)
+
+pub record-start : (r : Rig) → recordStart r ≡ 0
+unfolding recordStart standing
+record-start r = zero-start _ (λ m. refl) (r .monitors)
+
+-- a refused text: the refusal is that of reading, whatever the rest says
+pub opens-refused : (t : List ℕ) (h room n p : ℕ) (r : Rig) → answerOf (Unread n p) ≡ promised.reading t → Opens t h room (record { checked = Refused n p; rig = r; states = 0 })
+unfolding sized
+opens-refused t h room n p r q = record {
+  answer = λ cells a l. rw (sym q);
+  early = λ m k e. refused-early n p m k (omega (arith, fault-number t n p (reading-refuses t n p .0 (sym q)))) e;
+  ready = λ e. absurd (passed-not n p e);
+}
+
+-- a readable text: rows 7 and 8 of its record
+pub opens-readable : (t : List ℕ) (h room : ℕ) (r : Rig) (o : Opened) → answerOf Read ≡ promised.reading t → r ≡ recordOf t → Weighs r h room o → Opens t h room o
+unfolding sized Served
+opens-readable t h room r o q e w = record {
+  answer = λ cells a l. rw (← q, l, ← states) (w .answer a);
+  early = w .early;
+  ready = λ c. let (x, y, z, u) = w .passed c in rw x (record {
+    readable = readable;
+    automaton = automaton;
+    well-formed = rw e (from .well-formed);
+    joint = y;
+    events = rw e (from .events-are);
+    starts = sym (from .start-is) ∙ record-start (recordOf t);
+    horizon = z;
+    enough = u;
+  });
+}
+  where
+    readable : Readable t
+    readable = reading-serves t .0 ([], sym q)
+
+    from : ReadFrom t (recordOf t)
+    from = read-from t readable
+
+    automaton : recordAutomaton r ≡ rigAutomaton t
+    automaton = ap recordAutomaton e ∙ from .automaton-is
+
+    states : recordAutomaton r .states ≡ jointStates t
+    states = ap (λ A. A .states) automaton ∙ rig-states t
+
+pub read-well-formed : (t : List ℕ) (r : Rig) → answerOf Read ≡ promised.reading t → r ≡ recordOf t → WellFormed r
+unfolding Served
+read-well-formed t r q e = rw e (read-from t (reading-serves t .0 ([], sym q)) .well-formed)

@@ -1,0 +1,2 @@
+-- What the checks come to.
+pub mod Opening
