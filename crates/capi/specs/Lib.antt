@@ -1,0 +1,2 @@
+-- Answers as the numbers that C is told.
+pub mod Words

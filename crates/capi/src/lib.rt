@@ -1,0 +1,114 @@
+// The four calls for C and Rust: each answers in numbers, 0 where it serves and else the number of refusal, and writes what else it tells to `answer` or `place`.
+use generator::Counted;
+use generator::Indexed;
+use generator::Listed;
+use shuffle::Shuffled;
+ghost use mathlib.Core.Path.{_≡_};
+ghost use Rattle.promises.specs.Calls.{ScratchKept};
+ghost use Rattle.promises.specs.Calls as promised;
+ghost use Rattle.capi.specs.Words.{numberOf, wordsOf, wordOf};
+
+// Count. The answer is N and the passes, or the place and 0.
+#[no_mangle]
+pub extern "C" fn wandukhai_count(
+    text: &[u8],
+    h: u64,
+    cells: &mut [u64],
+    answer: &mut [u64; 2],
+) -> u64
+    ensures { λ r. ⌜ r ≡ numberOf (promised.count (now (text .entry)) h (now (cells .entry))) ⌝ }
+    ensures { λ _. ⌜ now (answer .exit) ≡ wordsOf (promised.count (now (text .entry)) h (now (cells .entry))) ⌝ }
+    ensures { λ _. ⌜ now (cells .exit) ≡ promised.countCells (now (text .entry)) h (now (cells .entry)) ⌝ }
+{
+    let counted = generator::count(text, h, cells);
+    match counted {
+        Counted::Served(n, passes) => {
+            *answer = [n, passes];
+            0
+        }
+        Counted::Refused(number, at) => {
+            *answer = [at, 0];
+            number
+        }
+    }
+}
+
+// Scenarios. The place is 0 where served.
+#[no_mangle]
+pub extern "C" fn wandukhai_scenarios(
+    text: &[u8],
+    h: u64,
+    list: &[u64],
+    cells: &mut [u64],
+    out: &mut [u8],
+    place: &mut u64,
+) -> u64
+    ensures { λ r. ⌜ r ≡ numberOf (promised.scenarios (now (text .entry)) h (now (list .entry)) (now (cells .entry)) (now (out .entry))) ⌝ }
+    ensures { λ _. ⌜ now (place .exit) ≡ wordOf (promised.scenarios (now (text .entry)) h (now (list .entry)) (now (cells .entry)) (now (out .entry))) ⌝ }
+    ensures { λ _. ⌜ now (cells .exit) ≡ promised.scenariosCells (now (text .entry)) h (now (list .entry)) (now (cells .entry)) (now (out .entry)) ⌝ }
+    ensures { λ _. ⌜ now (out .exit) ≡ promised.written (now (text .entry)) h (now (list .entry)) (now (cells .entry)) (now (out .entry)) ⌝ }
+{
+    let listed = generator::scenarios(text, h, list, cells, out);
+    match listed {
+        Listed::Served => {
+            *place = 0;
+            0
+        }
+        Listed::Refused(number, at) => {
+            *place = at;
+            number
+        }
+    }
+}
+
+// Index. The answer is the index, or the place.
+#[no_mangle]
+pub extern "C" fn wandukhai_index(
+    text: &[u8],
+    sequence: &[u8],
+    cells: &mut [u64],
+    answer: &mut u64,
+) -> u64
+    ensures { λ r. ⌜ r ≡ numberOf (promised.index (now (text .entry)) (now (sequence .entry)) (now (cells .entry))) ⌝ }
+    ensures { λ _. ⌜ now (answer .exit) ≡ wordOf (promised.index (now (text .entry)) (now (sequence .entry)) (now (cells .entry))) ⌝ }
+    ensures { λ _. ⌜ now (cells .exit) ≡ promised.indexCells (now (text .entry)) (now (sequence .entry)) (now (cells .entry)) ⌝ }
+{
+    let indexed = generator::index(text, sequence, cells);
+    match indexed {
+        Indexed::Served(i) => {
+            *answer = i;
+            0
+        }
+        Indexed::Refused(number, at) => {
+            *answer = at;
+            number
+        }
+    }
+}
+
+// Shuffle. The place is 0 where served.
+#[no_mangle]
+pub extern "C" fn wandukhai_shuffle(
+    n: u64,
+    draws: &[u64],
+    scratch: &mut [u64],
+    out: &mut [u64],
+    place: &mut u64,
+) -> u64
+    ensures { λ r. ⌜ r ≡ numberOf (promised.shuffle n (now (draws .entry)) (now (scratch .entry)) (now (out .entry))) ⌝ }
+    ensures { λ _. ⌜ now (place .exit) ≡ wordOf (promised.shuffle n (now (draws .entry)) (now (scratch .entry)) (now (out .entry))) ⌝ }
+    ensures { λ _. ⌜ now (out .exit) ≡ promised.shuffled n (now (draws .entry)) (now (scratch .entry)) (now (out .entry)) ⌝ }
+    ensures { λ _. ⌜ ScratchKept (promised.shuffle n (now (draws .entry)) (now (scratch .entry)) (now (out .entry))) (now (draws .entry)) (now (scratch .entry)) (now (scratch .exit)) ⌝ }
+{
+    let shuffled = generator::shuffle_indices(n, draws, scratch, out);
+    match shuffled {
+        Shuffled::Served => {
+            *place = 0;
+            0
+        }
+        Shuffled::Refused(number, at) => {
+            *place = at;
+            number
+        }
+    }
+}

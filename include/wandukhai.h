@@ -1,0 +1,80 @@
+/* Wandukhai: counts the scenarios of a rig, turns indices into scenarios and back, and shuffles indices.
+ *
+ * Link with libcapi.a (`rt staticlib capi` writes target/staticlib/libcapi.a, for x86-64). The functions keep no state, allocate nothing,
+ * and end on any input. Of the stack wandukhai_scenarios uses up to about 90 KB, the others less.
+ *
+ * What each asks of its caller, and nothing more:
+ *   - a pointer and the length after it are a buffer of that many elements, aligned as its type, and valid for the whole call;
+ *   - every pointer is non-null, also that of an empty buffer;
+ *   - a buffer that is not `const`, the answer's included, overlaps no other buffer.
+ * What the buffers hold before a call does not matter.
+ *
+ * Rig text: at most 65,535 bytes; lines end with byte 10, fields are parted by one byte 9:
+ *   rig E      first line; events are 0 to E-1, E from 1 to 16
+ *   mon S      a new monitor with states 0 to S-1, S from 1 to 32, starting in 0; one to four monitors
+ *   go s e t   the latest monitor moves from s to t on event e
+ * P is the product of all S, at most 1,024. The horizon h is 0 to 1,000. N is the number of scenarios of h events.
+ *
+ * Returned: 0 where the call is served, else the number of refusal, with a place (0 where none is named):
+ *    1  text over 65,535 bytes
+ *    2  no such line form, a field that is no number, or the last line unended   place: line, from 1
+ *    3  a number out of its range, or a fifth `mon`                              place: line
+ *    4  s and e again in one monitor                                             place: line
+ *    5  first line not `rig`, `rig` later, `go` before `mon`, or no `mon`        place: line; at the end, lines + 1
+ *    6  P over 1,024                                                             place: `mon` line
+ *    7  h over 1,000
+ *    8  cells_len below (h + 1) * P; scratch_len below 2 * draws_len
+ *    9  N is 0: no scenario
+ *   10  N is 18,446,744,073,709,551,615 or more
+ *   11  index not below N                                                        place: position in the list, from 0
+ *   12  out_len below indices_len * h, or below draws_len
+ *   13  event byte E or more                                                     place: position in the sequence, from 0
+ *   14  the sequence is no scenario                                              place: the first event that leads astray, from 0
+ *   15  draw i not from i to n-1                                                 place: position, from 0
+ * Checks go in the order 1, 2 to 6 line by line (on one line 2, 5, 3, 4, 6), 7, 8, 12, 13, 9, 10, 11, 14, 15.
+ */
+#ifndef WANDUKHAI_H
+#define WANDUKHAI_H
+
+#include <stddef.h>
+#include <stdint.h>
+
+#ifdef __cplusplus
+extern "C" {
+#endif
+
+/* Counts the scenarios of h events.
+ * cells: at least (h + 1) * P numbers. Served or refused with 9 or 10, the cell at r * P + x holds the number of admitted sequences of r
+ * events from joint state x through live states, or 2^64 - 1 where that is 2^64 - 1 or more; the cells past (h + 1) * P are kept.
+ * After every other refusal all cells are kept.
+ * answer: served, N and the passes of pruning; refused, the place and 0. */
+uint64_t wandukhai_count(const uint8_t *text, size_t text_len, uint64_t h, uint64_t *cells, size_t cells_len, uint64_t answer[2]);
+
+/* Writes the scenarios of the given indices, each below N; an index may repeat.
+ * cells: as for wandukhai_count, filled after 11 too.
+ * out: at least indices_len * h bytes. Scenario number k of the list fills the h bytes from k * h, one byte an event; the bytes past
+ * indices_len * h are kept, and all of them after a refusal.
+ * place: 0 where served, else the place. */
+uint64_t wandukhai_scenarios(const uint8_t *text, size_t text_len, uint64_t h, const uint64_t *indices, size_t indices_len,
+                             uint64_t *cells, size_t cells_len, uint8_t *out, size_t out_len, uint64_t *place);
+
+/* Finds the index of a sequence of event bytes; its length is the horizon.
+ * cells: as for wandukhai_count, filled after 14 too.
+ * answer: served, the index; refused, the place. */
+uint64_t wandukhai_index(const uint8_t *text, size_t text_len, const uint8_t *sequence, size_t sequence_len, uint64_t *cells,
+                         size_t cells_len, uint64_t *answer);
+
+/* Shuffles: begins with 0 to n-1 in order; for each i from 0, swaps the numbers at i and at draw i; number i of the output is then the
+ * number at i. Draw i is from i to n-1. No array of n numbers is needed; n may be any number.
+ * scratch: at least 2 * draws_len numbers. The first 2 * draws_len hold anything after a served call; the others are kept, and all of
+ * them after a refusal.
+ * out: at least draws_len numbers; those past draws_len are kept, and all of them after a refusal.
+ * place: 0 where served, else the place. */
+uint64_t wandukhai_shuffle(uint64_t n, const uint64_t *draws, size_t draws_len, uint64_t *scratch, size_t scratch_len, uint64_t *out,
+                           size_t out_len, uint64_t *place);
+
+#ifdef __cplusplus
+}
+#endif
+
+#endif
