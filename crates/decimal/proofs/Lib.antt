@@ -1,0 +1,2 @@
+-- The laws of decimal digits.
+pub mod Digits

@@ -1,0 +1,5 @@
+-- The laws of the crate.
+pub mod Asking
+pub mod Beginning
+pub mod Whole
+pub mod Worked

@@ -1,0 +1,41 @@
+-- The listing that paper 01 prints whole, and the least inputs: each side computes to the other. Assumes nothing.
+use mathlib.Core.Path.{_≡_, refl}
+use mathlib.Core.List.{List, [], _∷_, _++_}
+use Prim.Native.Nat.{ℕ}
+use Rattle.lists.specs.Lists.{range, place}
+use Rattle.automaton.specs.Joint.{both, join, idle, joint, sizes, jointState}
+use Rattle.automaton.specs.Pruning.{keep, set, size, passesFrom, passes, live}
+use Rattle.automaton.specs.Counting.{N, most}
+use Rattle.automaton.specs.Ranking.{choose, unrank}
+use Rattle.promises.specs.Text.{onto, parted, butLast, lastOf, lines, unended, fields, digits, number, same, numbers, one, three, form, decode, decoded, role, addLine, extended, monitorsFrom, monitors, statesOf, startOf, latest, product, eventsOf, jointStates}
+use Rattle.promises.specs.Reading.{goOut, isMove, moves, goAgain, tests, isOther, lineCase, readingFrom, reading}
+use Rattle.promises.specs.Rig.{leadsTo, target, monitorOf, standing, linesAutomaton, linesStart, rigAutomaton, start}
+use Rattle.promises.specs.Calls.{sized, total, counted, count}
+use Rattle.promises.specs.Examples.{A}
+use Rattle.decimal.specs.Decimal as decimals
+use Rattle.decimal.specs.Decimal.{decimal}
+use Rattle.line.specs.Line.{lineOf, numbersOf}
+use Rattle.listing.specs.Listing.{firstLine, askedIn, asked, text, owned, answer, horizon, scenarioLine, listing}
+
+-- `no`, 2, 0
+abbrev bad : List ℕ
+bad = 110 ∷ 111 ∷ 9 ∷ 50 ∷ 9 ∷ 48 ∷ 10 ∷ []
+
+-- 'For `ask` 3 and A, whole'
+pub worked : listing ((97 ∷ 115 ∷ 107 ∷ 9 ∷ 51 ∷ 10 ∷ []) ++ A) ≡ 99 ∷ 111 ∷ 117 ∷ 110 ∷ 116 ∷ 9 ∷ 53 ∷ 9 ∷ 49 ∷ 10 ∷ 48 ∷ 9 ∷ 48 ∷ 9 ∷ 48 ∷ 9 ∷ 48 ∷ 10 ∷ 49 ∷ 9 ∷ 48 ∷ 9 ∷ 48 ∷ 9 ∷ 49 ∷ 10 ∷ 50 ∷ 9 ∷ 48 ∷ 9 ∷ 49 ∷ 9 ∷ 48 ∷ 10 ∷ 51 ∷ 9 ∷ 49 ∷ 9 ∷ 48 ∷ 9 ∷ 48 ∷ 10 ∷ 52 ∷ 9 ∷ 49 ∷ 9 ∷ 48 ∷ 9 ∷ 49 ∷ 10 ∷ []
+unfolding listing answer asked askedIn firstLine text owned horizon scenarioLine place lineOf numbersOf decimal decimals.digits reading readingFrom lineCase isOther tests goOut goAgain moves isMove decoded lines unended parted onto butLast lastOf decode fields form one three numbers number digits same monitors monitorsFrom extended role addLine latest statesOf product eventsOf startOf jointStates leadsTo target monitorOf standing linesAutomaton linesStart rigAutomaton start range both join idle joint sizes jointState keep set size passesFrom passes live N most choose unrank sized total counted count
+worked = refl
+
+pub nothing : listing [] ≡ bad
+unfolding listing answer asked place numbersOf decimal decimals.digits range
+nothing = refl
+
+-- `ask`, 3, unended
+pub unended-ask : listing (97 ∷ 115 ∷ 107 ∷ 9 ∷ 51 ∷ []) ≡ bad
+unfolding listing answer asked place numbersOf decimal decimals.digits range
+unended-ask = refl
+
+-- `ask`, 03
+pub leading-zero : listing ((97 ∷ 115 ∷ 107 ∷ 9 ∷ 48 ∷ 51 ∷ 10 ∷ []) ++ A) ≡ bad
+unfolding listing answer asked askedIn firstLine place numbersOf decimal decimals.digits range same number digits
+leading-zero = refl

@@ -1,0 +1,38 @@
+-- The part that is lent has h bytes, and unranking fills it; the bytes past it are as they were. Assumes nothing.
+use lib.Seq.{length-take-le}
+use mathlib.Core.Path.{sym}
+use borrow.Author.Needs.{needs}
+use Rattle.listing.proofs.Beginning.{events-front}
+use Rattle.listing.proofs.write_events.Statement.{statement}
+use Rattle.listing.proofs.write_events.Tie as tie
+
+slice-relend-prefix-unrank : tie.Need-slice-relend-prefix-unrank
+slice-relend-prefix-unrank c = search needs
+
+slice-aggregate-unrank : tie.Need-slice-aggregate-unrank
+slice-aggregate-unrank c =
+    let st = c .before .before .before in
+    sym (length-take-le (st .args .h) (st .args .events .now) (st .pre .3))
+
+unrank-requires : tie.Need-unrank-requires
+unrank-requires c κs =
+    let st = c .before .before .before in
+    (st .pre .0, st .pre .1, rw (length-take-le (st .args .h) (st .args .events .now) (st .pre .3)) (st .pre .2))
+
+same-length : tie.Need-same-length
+same-length c = search needs
+
+returns : tie.Need-returns
+returns c =
+    let st = c .before .before .before .before .before .before in
+    λ A e n r b x. events-front A (st .args .cells .now) (st .args .h) _ (st .args .i) _ _ (length-take-le (st .args .h) (st .args .events .now) (st .pre .3)) (c .before .before .unrank .ensures A e n) r b x
+
+pub write-events-spec : {M : Type 1} → statement M
+write-events-spec =
+    tie.close
+    (tie.spec
+    slice-relend-prefix-unrank
+    slice-aggregate-unrank
+    unrank-requires
+    same-length
+    returns)
