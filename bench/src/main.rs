@@ -1,0 +1,144 @@
+//! How long the calls take beside plain Rust on the same input, in the same run: the best of some rounds, taken in turn. Buffers are lent as
+//! the round before left them. Every answer is compared.
+mod plain;
+
+use outside::{calls, random::Random};
+use plain::{prune, read};
+use std::time::Instant;
+
+fn timed(f: &mut dyn FnMut()) -> f64 {
+    let start = Instant::now();
+    f();
+    start.elapsed().as_secs_f64() * 1e3
+}
+
+/// Prints the best times of both in milliseconds, and their ratio.
+fn row(name: &str, rounds: usize, ours: &mut dyn FnMut(), plain: &mut dyn FnMut()) {
+    let (mut a, mut b) = (f64::MAX, f64::MAX);
+    for _ in 0..rounds {
+        a = a.min(timed(ours));
+        b = b.min(timed(plain));
+    }
+    println!("{name:58} {a:10.3} {b:10.3} {:7.2}", a / b);
+}
+
+/// Every monitor has every move, to random states.
+fn full_rig(monitors: &[u64], rng: &mut Random) -> Vec<u8> {
+    let mut t = "rig\t16\n".to_string();
+    for &s in monitors {
+        t += &format!("mon\t{s}\n");
+        for (x, e) in (0..s).flat_map(|x| (0..16).map(move |e| (x, e))) {
+            t += &format!("go\t{x}\t{e}\t{}\n", rng.below(s));
+        }
+    }
+    t.into_bytes()
+}
+
+/// 1,024 joint states in a row, each led to by the one before: event 0 counts the second monitor up, event 1 carries.
+fn dead_path() -> Vec<u8> {
+    let mut t = "rig\t2\nmon\t32\n".to_string();
+    for s in 0..32 {
+        t += &format!("go\t{s}\t0\t{s}\n");
+        if s < 31 {
+            t += &format!("go\t{s}\t1\t{}\n", s + 1);
+        }
+    }
+    t += "mon\t32\n";
+    for s in 0..31 {
+        t += &format!("go\t{s}\t0\t{}\n", s + 1);
+    }
+    (t + "go\t31\t1\t0\n").into_bytes()
+}
+
+/// Event 15 goes on, event 7 fewer than `levels` times in all; the other monitors turn round with both. Few counts are large.
+fn slow_growth(levels: u64, others: &[u64]) -> Vec<u8> {
+    let mut t = format!("rig\t16\nmon\t{levels}\n");
+    for s in 0..levels {
+        t += &format!("go\t{s}\t15\t{s}\n");
+        if s + 1 < levels {
+            t += &format!("go\t{s}\t7\t{}\n", s + 1);
+        }
+    }
+    for &states in others {
+        t += &format!("mon\t{states}\n");
+        for s in 0..states {
+            t += &format!("go\t{s}\t15\t{}\ngo\t{s}\t7\t{}\n", (s + 1) % states, (s + 5) % states);
+        }
+    }
+    t.into_bytes()
+}
+
+fn count(name: &str, rounds: usize, t: &[u8], h: usize) {
+    let p = read(t).map(|r| prune(&r).states).unwrap();
+    let (mut a, mut b) = (vec![0; (h + 1) * p], vec![0; (h + 1) * p]);
+    let (mut told, mut passes) = (None, 0);
+    row(name, rounds, &mut || told = Some(calls::count(t, h as u64, &mut a)), &mut || {
+        let pruned = prune(&read(t).unwrap());
+        pruned.fill(h, &mut b);
+        passes = pruned.passes;
+    });
+    let told = told.unwrap();
+    assert!(a == b && (told.number != 0 || told.words == [b[h * p], passes]));
+}
+
+fn scenarios(name: &str, t: &[u8], h: usize, list: usize, rng: &mut Random) {
+    let p = read(t).map(|r| prune(&r).states).unwrap();
+    let (mut cells, mut other) = (vec![0; (h + 1) * p], vec![0; (h + 1) * p]);
+    let n = calls::count(t, h as u64, &mut cells).words[0];
+    let indices: Vec<u64> = (0..list).map(|_| rng.below(n)).collect();
+    let (mut a, mut b) = (vec![0; list * h], vec![0; list * h]);
+    row(name, 5, &mut || assert!(calls::scenarios(t, h as u64, &indices, &mut cells, &mut a).number == 0), &mut || {
+        let pruned = prune(&read(t).unwrap());
+        pruned.fill(h, &mut other);
+        for (i, part) in indices.iter().zip(b.chunks_mut(h)) {
+            pruned.unrank(&other, *i, part);
+        }
+    });
+    assert!(a == b);
+    let (mut i, mut j) = (None, None);
+    row(&format!("index of one of these, {h} events"), 20, &mut || i = Some(calls::index(t, &a[..h], &mut cells).words[0]), &mut || {
+        let pruned = prune(&read(t).unwrap());
+        pruned.fill(h, &mut other);
+        j = pruned.rank(&other, &b[..h]);
+    });
+    assert!(i == j);
+}
+
+fn shuffle(name: &str, n: u64, draws: Vec<u64>, array: bool) {
+    let z = draws.len();
+    let (mut scratch, mut a, mut b) = (vec![0; 2 * z], vec![0; z], vec![0; z]);
+    row(name, 5, &mut || assert!(calls::shuffle(n, &draws, &mut scratch, &mut a).number == 0), &mut || {
+        if array {
+            plain::shuffle_array(n, &draws, &mut b)
+        } else {
+            plain::shuffle_map(&draws, &mut b)
+        }
+    });
+    assert!(a == b);
+}
+
+fn main() {
+    let rng = &mut Random::seeded(1);
+    println!("{:58} {:>10} {:>10} {:>7}", "", "ours ms", "plain ms", "ratio");
+    let two = full_rig(&[32, 32], rng);
+    count("count, P 1,024 of 2 monitors, E 16, h 1,000", 5, &two, 1000);
+    count("count, P 1,024 of 4 monitors, E 16, h 1,000", 5, &full_rig(&[8, 4, 8, 4], rng), 1000);
+    count("count, P 1,024 of 3 monitors, no full cell, E 16, h 1,000", 5, &slow_growth(4, &[32, 8]), 1000);
+    count("count, a dead path of 1,024 joint states, h 0", 20, &dead_path(), 0);
+    count(&format!("count, the largest readable text ({} bytes), h 0", two.len()), 50, &two, 0);
+    let slow = slow_growth(6, &[32]);
+    scenarios("20,000 scenarios of 1,000 events, P 192, E 16", &slow, 1000, 20_000, rng);
+    scenarios("200,000 scenarios of 30 events, P 192, E 16", &slow, 30, 200_000, rng);
+    let full = 1_000_000;
+    shuffle("shuffle, all of 10^6, against an array", full, (0..full).map(|i| rng.from_to(i, full - 1)).collect(), true);
+    shuffle("shuffle, all of 10^6, against a map", full, (0..full).map(|i| rng.from_to(i, full - 1)).collect(), false);
+    let most = u64::MAX;
+    shuffle("shuffle, 10^5 of 2^64 - 1, against a map", most, (0..100_000).map(|i| rng.from_to(i, most - 1)).collect(), false);
+    shuffle(
+        "shuffle, 10^5 clustered draws of 2^64 - 1, against a map",
+        most,
+        (0..100_000u64).map(|i| 200_000 + i % 7 * 65_536 + i / 1000).collect(),
+        false,
+    );
+    shuffle("shuffle, 10^5 equal draws, against a map", most, vec![most - 1; 100_000], false);
+}

@@ -1,0 +1,40 @@
+/* Lists the scenarios of a rig in a shuffled order, each with its index and its events. */
+#include <stdio.h>
+#include <string.h>
+#include "wandukhai.h"
+
+enum { HORIZON = 3, STATES = 2, CELLS = (HORIZON + 1) * STATES, MOST = 8 };
+
+int main(void)
+{
+    /* No two 1s together. */
+    const char *rig = "rig\t2\nmon\t2\ngo\t0\t0\t0\ngo\t0\t1\t1\ngo\t1\t0\t0\n";
+    const uint8_t *text = (const uint8_t *)rig;
+    const size_t len = strlen(rig);
+    /* Draw i is from i to N-1; a real caller draws them at random. */
+    const uint64_t draws[MOST] = {4, 2, 4, 3, 4};
+    uint64_t cells[CELLS], scratch[2 * MOST], order[MOST], answer[2], place, index, number;
+    uint8_t events[MOST * HORIZON];
+    size_t i;
+    int k;
+
+    number = wandukhai_count(text, len, HORIZON, cells, CELLS, answer);
+    if (number != 0) {
+        printf("no\t%llu\t%llu\n", (unsigned long long)number, (unsigned long long)answer[0]);
+        return 1;
+    }
+    printf("count\t%llu\t%llu\n", (unsigned long long)answer[0], (unsigned long long)answer[1]);
+    if (answer[0] > MOST || wandukhai_shuffle(answer[0], draws, answer[0], scratch, 2 * MOST, order, MOST, &place) != 0)
+        return 1;
+    if (wandukhai_scenarios(text, len, HORIZON, order, answer[0], cells, CELLS, events, sizeof events, &place) != 0)
+        return 1;
+    for (i = 0; i < answer[0]; i++) {
+        if (wandukhai_index(text, len, events + i * HORIZON, HORIZON, cells, CELLS, &index) != 0 || index != order[i])
+            return 1;
+        printf("%llu", (unsigned long long)index);
+        for (k = 0; k < HORIZON; k++)
+            printf("\t%d", events[i * HORIZON + k]);
+        printf("\n");
+    }
+    return 0;
+}

@@ -1,0 +1,57 @@
+//! Lists the scenarios of a rig in a shuffled order, each with its index and its events.
+extern "C" {
+    fn wandukhai_count(text: *const u8, len: usize, h: u64, cells: *mut u64, cells_len: usize, answer: *mut u64) -> u64;
+    fn wandukhai_scenarios(
+        text: *const u8, len: usize, h: u64, list: *const u64, list_len: usize,
+        cells: *mut u64, cells_len: usize, out: *mut u8, out_len: usize, place: *mut u64,
+    ) -> u64;
+    fn wandukhai_shuffle(
+        n: u64, draws: *const u64, draws_len: usize, scratch: *mut u64, scratch_len: usize,
+        out: *mut u64, out_len: usize, place: *mut u64,
+    ) -> u64;
+}
+
+/// N and the passes; or the number of refusal and its place.
+fn count(text: &[u8], h: u64, cells: &mut [u64]) -> Result<(u64, u64), (u64, u64)> {
+    let mut answer = [0; 2];
+    let number = unsafe { wandukhai_count(text.as_ptr(), text.len(), h, cells.as_mut_ptr(), cells.len(), answer.as_mut_ptr()) };
+    if number == 0 { Ok((answer[0], answer[1])) } else { Err((number, answer[0])) }
+}
+
+fn scenarios(text: &[u8], h: u64, list: &[u64], cells: &mut [u64], out: &mut [u8]) -> Result<(), (u64, u64)> {
+    let mut place = 0;
+    let number = unsafe {
+        wandukhai_scenarios(
+            text.as_ptr(), text.len(), h, list.as_ptr(), list.len(),
+            cells.as_mut_ptr(), cells.len(), out.as_mut_ptr(), out.len(), &mut place,
+        )
+    };
+    if number == 0 { Ok(()) } else { Err((number, place)) }
+}
+
+fn shuffle(n: u64, draws: &[u64], scratch: &mut [u64], out: &mut [u64]) -> Result<(), (u64, u64)> {
+    let mut place = 0;
+    let number = unsafe {
+        wandukhai_shuffle(n, draws.as_ptr(), draws.len(), scratch.as_mut_ptr(), scratch.len(), out.as_mut_ptr(), out.len(), &mut place)
+    };
+    if number == 0 { Ok(()) } else { Err((number, place)) }
+}
+
+fn main() -> Result<(), (u64, u64)> {
+    // No two 1s together.
+    let rig = b"rig\t2\nmon\t2\ngo\t0\t0\t0\ngo\t0\t1\t1\ngo\t1\t0\t0\n";
+    let (h, states) = (3, 2);
+    let mut cells = vec![0; (h + 1) * states];
+    let (n, passes) = count(rig, h as u64, &mut cells)?;
+    println!("count\t{n}\t{passes}");
+    // Draw i is from i to n - 1; a real caller draws them at random.
+    let draws = [4, 2, 4, 3, 4];
+    let mut order = vec![0; draws.len()];
+    shuffle(n, &draws, &mut vec![0; 2 * draws.len()], &mut order)?;
+    let mut events = vec![0; order.len() * h];
+    scenarios(rig, h as u64, &order, &mut cells, &mut events)?;
+    for (index, scenario) in order.iter().zip(events.chunks(h)) {
+        println!("{index}{}", scenario.iter().map(|e| format!("\t{e}")).collect::<String>());
+    }
+    Ok(())
+}

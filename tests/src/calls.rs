@@ -1,0 +1,86 @@
+//! Safe wrappers of the four C functions of include/wandukhai.h: slices are valid, non-null also when empty, and don't overlap.
+
+extern "C" {
+    fn wandukhai_count(text: *const u8, text_len: usize, h: u64, cells: *mut u64, cells_len: usize, answer: *mut u64) -> u64;
+    fn wandukhai_scenarios(
+        text: *const u8,
+        text_len: usize,
+        h: u64,
+        indices: *const u64,
+        indices_len: usize,
+        cells: *mut u64,
+        cells_len: usize,
+        out: *mut u8,
+        out_len: usize,
+        place: *mut u64,
+    ) -> u64;
+    fn wandukhai_index(
+        text: *const u8,
+        text_len: usize,
+        sequence: *const u8,
+        sequence_len: usize,
+        cells: *mut u64,
+        cells_len: usize,
+        answer: *mut u64,
+    ) -> u64;
+    fn wandukhai_shuffle(
+        n: u64,
+        draws: *const u64,
+        draws_len: usize,
+        scratch: *mut u64,
+        scratch_len: usize,
+        out: *mut u64,
+        out_len: usize,
+        place: *mut u64,
+    ) -> u64;
+}
+
+/// What a function returns and the words it writes beside. Scenarios, Index and Shuffle write one word: the second is 0.
+#[derive(Clone, Copy, Debug, PartialEq, Eq)]
+pub struct Told {
+    pub number: u64,
+    pub words: [u64; 2],
+}
+
+const GUARD: u64 = 0xA5C3_96F0_0F69_3C5A;
+
+/// Lends room for `N` words between two guard words, and gives back what was written there.
+fn told<const N: usize>(call: impl FnOnce(*mut u64) -> u64) -> Told {
+    let mut room = [GUARD; 6];
+    let number = call(room[2..].as_mut_ptr());
+    assert!(room[..2] == [GUARD; 2] && room[2 + N..].iter().all(|&w| w == GUARD), "a word beside the answer was written");
+    Told { number, words: [room[2], if N == 2 { room[3] } else { 0 }] }
+}
+
+pub fn count(text: &[u8], h: u64, cells: &mut [u64]) -> Told {
+    told::<2>(|answer| unsafe { wandukhai_count(text.as_ptr(), text.len(), h, cells.as_mut_ptr(), cells.len(), answer) })
+}
+
+pub fn scenarios(text: &[u8], h: u64, indices: &[u64], cells: &mut [u64], out: &mut [u8]) -> Told {
+    told::<1>(|place| unsafe {
+        wandukhai_scenarios(
+            text.as_ptr(),
+            text.len(),
+            h,
+            indices.as_ptr(),
+            indices.len(),
+            cells.as_mut_ptr(),
+            cells.len(),
+            out.as_mut_ptr(),
+            out.len(),
+            place,
+        )
+    })
+}
+
+pub fn index(text: &[u8], sequence: &[u8], cells: &mut [u64]) -> Told {
+    told::<1>(|answer| unsafe {
+        wandukhai_index(text.as_ptr(), text.len(), sequence.as_ptr(), sequence.len(), cells.as_mut_ptr(), cells.len(), answer)
+    })
+}
+
+pub fn shuffle(n: u64, draws: &[u64], scratch: &mut [u64], out: &mut [u64]) -> Told {
+    told::<1>(|place| unsafe {
+        wandukhai_shuffle(n, draws.as_ptr(), draws.len(), scratch.as_mut_ptr(), scratch.len(), out.as_mut_ptr(), out.len(), place)
+    })
+}

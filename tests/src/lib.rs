@@ -1,0 +1,7 @@
+//! The library seen from outside: safe calls of the C functions, and an independent implementation of the papers to compare them with.
+pub mod brute;
+pub mod calls;
+pub mod guarded;
+pub mod model;
+pub mod random;
+pub mod texts;

@@ -1,0 +1,455 @@
+//! Compares the C functions with an independent implementation of the papers: every word told, and every element of every lent buffer and
+//! of the guards around it. The last line is the number of comparisons and of differences; the exit status is 0 only without any.
+use outside::brute::{sequences, Runs};
+use outside::calls::{self, Told};
+use outside::guarded::{bytes, noise_bytes, noise_words, words, Guarded};
+use outside::model;
+use outside::random::Random;
+use outside::texts::{self, damage, text, Shape};
+use std::collections::BTreeMap;
+
+#[derive(Default)]
+struct Tally {
+    comparisons: u64,
+    differences: u64,
+    /// By call and number expected: how many comparisons, and how many differed.
+    answers: BTreeMap<(&'static str, u64), (u64, u64)>,
+}
+
+impl Tally {
+    /// Notes a comparison; `wrong` says what differs.
+    fn note(&mut self, call: &'static str, number: u64, wrong: Option<String>, input: impl FnOnce() -> String) {
+        self.comparisons += 1;
+        let seen = self.answers.entry((call, number)).or_default();
+        seen.0 += 1;
+        if let Some(what) = wrong {
+            seen.1 += 1;
+            self.differences += 1;
+            if self.differences <= 10 {
+                println!("{call}: {what}\n  {}", input());
+            }
+        }
+    }
+}
+
+fn told_differs(told: Told, number: u64, words: [u64; 2]) -> Option<String> {
+    (told != Told { number, words }).then(|| format!("told {} {:?}, expected {number} {words:?}", told.number, told.words))
+}
+
+fn named<T: Copy + PartialEq>(name: &str, now: &Guarded<T>, was: &Guarded<T>, expected: &[T], free: usize) -> Option<String> {
+    now.differs(was, expected, free).map(|d| format!("{name}: {d}"))
+}
+
+fn shown(t: &[u8]) -> String {
+    format!("text {:?}", String::from_utf8_lossy(&t[..t.len().min(400)]))
+}
+
+/// Compares one Count call, and gives back what is expected of it.
+fn count(tally: &mut Tally, rng: &mut Random, t: &[u8], h: u64, cells: usize) -> model::Expected {
+    let (t, was) = (bytes(t, rng), noise_words(cells, rng));
+    let (t0, mut now) = (t.clone(), was.clone());
+    let told = calls::count(t.lent(), h, now.lend());
+    let want = model::count(t.lent(), h, was.lent());
+    let wrong =
+        told_differs(told, want.number, want.words).or(named("cells", &now, &was, &want.cells, 0)).or(named("text", &t, &t0, t0.lent(), 0));
+    tally.note("count", want.number, wrong, || format!("h {h}, {cells} cells, {}", shown(t.lent())));
+    want
+}
+
+fn scenarios(tally: &mut Tally, rng: &mut Random, t: &[u8], h: u64, list: &[u64], cells: usize, out: usize) -> model::Expected {
+    let (t, list, was, out_was) = (bytes(t, rng), words(list, rng), noise_words(cells, rng), noise_bytes(out, rng));
+    let (t0, list0, mut now, mut out_now) = (t.clone(), list.clone(), was.clone(), out_was.clone());
+    let told = calls::scenarios(t.lent(), h, list.lent(), now.lend(), out_now.lend());
+    let want = model::scenarios(t.lent(), h, list.lent(), was.lent(), out_was.lent());
+    let wrong = told_differs(told, want.number, want.words)
+        .or(named("cells", &now, &was, &want.cells, 0))
+        .or(named("output", &out_now, &out_was, &want.out, 0))
+        .or(named("list", &list, &list0, list0.lent(), 0))
+        .or(named("text", &t, &t0, t0.lent(), 0));
+    tally.note("scenarios", want.number, wrong, || {
+        format!("h {h}, list {:?}, {cells} cells, {out} bytes, {}", list.lent(), shown(t.lent()))
+    });
+    want
+}
+
+fn index(tally: &mut Tally, rng: &mut Random, t: &[u8], sequence: &[u8], cells: usize) -> model::Expected {
+    let (t, sequence, was) = (bytes(t, rng), bytes(sequence, rng), noise_words(cells, rng));
+    let (t0, sequence0, mut now) = (t.clone(), sequence.clone(), was.clone());
+    let told = calls::index(t.lent(), sequence.lent(), now.lend());
+    let want = model::index(t.lent(), sequence.lent(), was.lent());
+    let wrong = told_differs(told, want.number, want.words)
+        .or(named("cells", &now, &was, &want.cells, 0))
+        .or(named("sequence", &sequence, &sequence0, sequence0.lent(), 0))
+        .or(named("text", &t, &t0, t0.lent(), 0));
+    tally.note("index", want.number, wrong, || format!("sequence {:?}, {cells} cells, {}", sequence.lent(), shown(t.lent())));
+    want
+}
+
+/// Compares one Shuffle call, and gives back the output that is expected of it.
+fn shuffle(tally: &mut Tally, rng: &mut Random, n: u64, draws: &[u64], scratch: usize, out: usize) -> Vec<u64> {
+    let (draws, was, out_was) = (words(draws, rng), noise_words(scratch, rng), noise_words(out, rng));
+    let (draws0, mut now, mut out_now) = (draws.clone(), was.clone(), out_was.clone());
+    let told = calls::shuffle(n, draws.lent(), now.lend(), out_now.lend());
+    let ((number, place), want) = model::shuffle(n, draws.lent(), scratch, out_was.lent());
+    let free = if number == 0 { 2 * draws.lent().len() } else { 0 };
+    let wrong = told_differs(told, number, [place, 0])
+        .or(named("scratch", &now, &was, was.lent(), free))
+        .or(named("output", &out_now, &out_was, &want, 0))
+        .or(named("draws", &draws, &draws0, draws0.lent(), 0));
+    tally.note("shuffle", number, wrong, || {
+        format!("n {n}, {} draws {:?}, {scratch} scratch, {out} output", draws.lent().len(), &draws.lent()[..draws.lent().len().min(20)])
+    });
+    want
+}
+
+/// The worked examples of the paper and of its table of refusals, with the answers written there.
+fn worked(tally: &mut Tally, rng: &mut Random) {
+    use texts::{A, B, F, ONE};
+    let at = |t: &str, h: u64, cells: usize, number: u64, words: [u64; 2]| (t.as_bytes().to_vec(), h, cells, number, words);
+    let two = "rig\t1\nmon\t32\nmon\t32\n".to_string();
+    let mut counts = vec![
+        at(A, 0, 2, 0, [1, 1]),
+        at(A, 1, 4, 0, [2, 1]),
+        at(A, 2, 6, 0, [3, 1]),
+        at(A, 3, 8, 0, [5, 1]),
+        at(B, 1, 8, 0, [1, 3]),
+        at(F, 63, 64, 0, [9223372036854775808, 1]),
+        at(F, 64, 65, 10, [0, 0]),
+        at(ONE, 1000, 1001, 0, [1, 1]),
+        at(ONE, 1001, 1002, 7, [0, 0]),
+        at(A, 3, 7, 8, [0, 0]),
+        at(&two, 0, 1024, 9, [0, 0]),
+        at(&two, 0, 1023, 8, [0, 0]),
+        at("rig\t1\nmon\t1\n", 1, 2, 9, [0, 0]),
+        at("rig\t2\nmon\n", 1, 2, 2, [2, 0]),
+        at("rig\t17\n", 1, 2, 3, [1, 0]),
+        at("", 1, 2, 5, [1, 0]),
+        at(&(two.clone() + "mon\t2\n"), 1, 2, 6, [4, 0]),
+        at("rig\t1\nmon\t1\ngo\t0\t0\t0\ngo\t0\t0\t0\n", 1, 2, 4, [4, 0]),
+        at(&"\n".repeat(65536), 1, 2, 1, [0, 0]),
+        at(&"\n".repeat(65535), 1, 2, 2, [1, 0]),
+        at("rig\t2\nmon\t2\ngo\t0\t0\t0\ngo\t1\t0\t1\ngo\t1\t1\t1\n", 100, 202, 0, [1, 1]),
+    ];
+    let path: String = (0..31).map(|s| format!("go\t{s}\t0\t{}\n", s + 1)).collect();
+    counts.push(at(&format!("rig\t1\nmon\t32\n{path}"), 0, 32, 9, [0, 0]));
+    for (t, h, cells, number, words) in counts {
+        let want = count(tally, rng, &t, h, cells);
+        assert_eq!((want.number, want.words), (number, words), "the independent count of a worked example");
+    }
+    let (a, b, f) = (A.as_bytes(), B.as_bytes(), F.as_bytes());
+    let want = scenarios(tally, rng, a, 3, &[4, 2, 2], 8, 9);
+    assert_eq!((want.number, want.out), (0, vec![1, 0, 1, 0, 1, 0, 0, 1, 0]));
+    for (list, out, number, place) in [(vec![0, 1], 5, 12, 0), (vec![5], 3, 11, 0), (vec![4, 9, 5], 9, 11, 1), (vec![], 0, 0, 0)] {
+        let want = scenarios(tally, rng, a, 3, &list, 8, out);
+        assert_eq!((want.number, want.words[0]), (number, place), "the independent scenarios of a worked example");
+    }
+    let sequences: [(&[u8], &[u8], u64, u64); 6] =
+        [(a, &[1, 0, 1], 0, 4), (b, &[1], 14, 0), (a, &[0, 2], 13, 1), (a, &[0, 1, 1], 14, 2), (f, &[2; 64], 13, 0), (f, &[0; 64], 10, 0)];
+    for (t, w, number, word) in sequences {
+        let want = index(tally, rng, t, w, 300);
+        assert_eq!((want.number, want.words[0]), (number, word), "the independent index of a worked example");
+    }
+    assert_eq!(shuffle(tally, rng, 5, &[4, 4, 4], 6, 3), [4, 0, 1]);
+    assert_eq!(shuffle(tally, rng, 0, &[], 0, 0), []);
+    shuffle(tally, rng, 2, &[0, 0], 4, 2);
+    assert_eq!(model::shuffle(2, &[0, 0], 4, &[0, 0]).0, (15, 1));
+}
+
+/// A length at, below or above what is needed.
+fn about(rng: &mut Random, need: usize) -> usize {
+    match rng.below(12) {
+        0 => need.saturating_sub(1),
+        1 => rng.below(need as u64 + 1) as usize,
+        2 | 3 => need + rng.from_to(1, 40) as usize,
+        4 => need + 1,
+        _ => need,
+    }
+}
+
+fn horizon(rng: &mut Random) -> u64 {
+    match rng.below(40) {
+        0 => *rng.pick(&[1000, 1001, 1002, 65536, 1 << 32, 1 << 63, u64::MAX]),
+        1 | 2 => rng.from_to(50, 90),
+        3 | 4 => rng.from_to(9, 30),
+        _ => rng.below(8),
+    }
+}
+
+/// The three calls on one text, readable or not.
+fn calls_on(tally: &mut Tally, rng: &mut Random, t: &[u8]) {
+    let h = horizon(rng);
+    let rig = model::read(t);
+    let states = rig.as_ref().map_or(3, |r| r.joint_states());
+    let events = rig.as_ref().map_or(2, |r| r.events as u64);
+    let need = (h.min(1000) as usize + 1) * states;
+    let cells = about(rng, need);
+    let counted = count(tally, rng, t, h, cells);
+    let n = if counted.number == 0 { counted.words[0] } else { 1 + rng.below(5) };
+    let mut list: Vec<u64> = (0..rng.below(6)).map(|_| rng.below(n)).collect();
+    for i in &mut list {
+        match rng.below(20) {
+            0 => *i = n,
+            1 => *i = *rng.pick(&[u64::MAX, n - 1, n.saturating_add(1), 0]),
+            _ => (),
+        }
+    }
+    let (cells, out) = (about(rng, need), about(rng, list.len() * h.min(1001) as usize));
+    let listed = scenarios(tally, rng, t, h, &list, cells, out);
+    let length = h.min(1001) as usize;
+    let mut sequence: Vec<u8> = (0..length).map(|_| rng.below(events) as u8).collect();
+    if listed.number == 0 && !list.is_empty() && rng.chance(3, 4) {
+        sequence.copy_from_slice(&listed.out[..length]);
+    }
+    if length > 0 {
+        let at = rng.below(length as u64) as usize;
+        match rng.below(12) {
+            0 => sequence[at] = events as u8,
+            1 => sequence[at] = rng.word() as u8,
+            2 | 3 => sequence[at] = rng.below(events) as u8,
+            _ => (),
+        }
+    }
+    let cells = about(rng, need);
+    index(tally, rng, t, &sequence, cells);
+}
+
+/// Demand 3 on one small rig: count, order, scenarios, indices and full shuffles against every sequence of h events.
+fn demand(tally: &mut Tally, rng: &mut Random, t: &[u8], h: usize) {
+    let rig = model::read(t).expect("a readable text");
+    let runs = Runs::of(&rig);
+    let all = sequences(&rig, &runs, h);
+    let belong: Vec<&Vec<u8>> = all.iter().filter(|(_, bad)| bad.is_none()).map(|(w, _)| w).collect();
+    let n = belong.len() as u64;
+    let room = (h + 1) * rig.joint_states();
+    let input = || format!("h {h}, {}", shown(t));
+    let mut cells = vec![7u64; room];
+    let number = if n == 0 { 9 } else { 0 };
+    let words = if n == 0 { [0, 0] } else { [n, runs.passes()] };
+    tally.note("demand 3: count", number, told_differs(calls::count(t, h as u64, &mut cells), number, words), input);
+    let mut list: Vec<u64> = (0..n).collect();
+    list.extend((0..n.min(5)).map(|_| rng.below(n)));
+    let mut out = vec![0xEEu8; list.len() * h + 3];
+    let told = calls::scenarios(t, h as u64, &list, &mut cells, &mut out);
+    let mut want: Vec<u8> = list.iter().flat_map(|&i| belong[i as usize].clone()).collect();
+    want.extend([0xEE; 3]);
+    let wrong = told_differs(told, number, [0, 0]).or((out != want).then(|| "other scenarios or another order".into()));
+    tally.note("demand 3: scenarios", number, wrong, input);
+    let mut i = 0;
+    for (w, bad) in &all {
+        let (number, word) = match (n, bad) {
+            (0, _) => (9, 0),
+            (_, Some(k)) => (14, *k),
+            (_, None) => {
+                i += 1;
+                (0, i - 1)
+            }
+        };
+        let told = calls::index(t, w, &mut cells);
+        tally.note("demand 3: index", number, told_differs(told, number, [word, 0]), || format!("sequence {w:?}, {}", shown(t)));
+    }
+    for _ in 0..if n == 0 { 0 } else { 3 } {
+        let draws: Vec<u64> = (0..n).map(|i| rng.from_to(i, n - 1)).collect();
+        let (mut scratch, mut mixed) = (vec![9u64; 2 * draws.len()], vec![1u64; draws.len() + 2]);
+        let told = calls::shuffle(n, &draws, &mut scratch, &mut mixed);
+        let mut out = vec![0u8; draws.len() * h];
+        let listed = calls::scenarios(t, h as u64, &mixed[..draws.len()], &mut cells, &mut out);
+        let mut given: Vec<Vec<u8>> = (0..draws.len()).map(|k| out[k * h..(k + 1) * h].to_vec()).collect();
+        given.sort();
+        let once = given.iter().collect::<Vec<_>>() == belong;
+        let wrong =
+            told_differs(told, 0, [0, 0]).or(told_differs(listed, 0, [0, 0])).or((!once).then(|| "not each scenario exactly once".into()));
+        tally.note("demand 3: shuffle", 0, wrong, input);
+    }
+}
+
+/// Draws for a shuffle of n numbers, most of them valid.
+fn draws(rng: &mut Random, n: u64, z: usize) -> Vec<u64> {
+    let kind = rng.below(5);
+    let mut ds: Vec<u64> = (0..z as u64)
+        .map(|i| match (i < n, kind) {
+            (false, _) => i,
+            (_, 0) => n - 1,
+            (_, 1) => rng.from_to(i, (n - 1).min(i.saturating_add(3))),
+            (_, 2) => (n - 1).min(z as u64 + i % 3).max(i),
+            (_, 3) => i,
+            _ => rng.from_to(i, n - 1),
+        })
+        .collect();
+    if z > 0 && rng.chance(1, 6) {
+        let at = rng.below(z as u64) as usize;
+        ds[at] = *rng.pick(&[n, u64::MAX, 0, (at as u64).saturating_sub(1), n.saturating_sub(1), n.saturating_add(1)]);
+    }
+    ds
+}
+
+/// Every list of up to five draws from 0 to n, valid or not, for every n up to 5; each permutation of n numbers comes from one of them.
+fn all_shuffles(tally: &mut Tally, rng: &mut Random) {
+    for n in 0..=5u64 {
+        let mut permutations = vec![];
+        for z in 0..=5usize {
+            for code in 0..(n + 1).pow(z as u32) {
+                let ds: Vec<u64> = (0..z as u32).map(|i| code / (n + 1).pow(i) % (n + 1)).collect();
+                let out = shuffle(tally, rng, n, &ds, 2 * z, z);
+                if z as u64 == n && (0..z).all(|i| (i as u64..n).contains(&ds[i])) {
+                    permutations.push(out);
+                }
+            }
+        }
+        permutations.sort();
+        permutations.dedup();
+        assert_eq!(permutations.len() as u64, (1..=n).product(), "the independent shuffle gives each permutation once");
+    }
+}
+
+fn shuffles(tally: &mut Tally, rng: &mut Random, rounds: u64) {
+    for _ in 0..rounds {
+        let n = match rng.below(8) {
+            0 => rng.below(3),
+            1 => *rng.pick(&[u64::MAX, u64::MAX - 1, 1 << 63, 1 << 32, (1 << 32) - 1]),
+            2 => rng.word(),
+            _ => rng.below(60),
+        };
+        let z = match rng.below(5) {
+            0 => n.min(200) as usize,
+            1 => n.saturating_add(rng.below(3)).min(200) as usize,
+            _ => rng.below(n.min(100) + 1) as usize,
+        };
+        let ds = draws(rng, n, z);
+        let (scratch, out) = (about(rng, 2 * z), about(rng, z));
+        shuffle(tally, rng, n, &ds, scratch, out);
+    }
+    for (n, z) in [(100_000, 100_000), (u64::MAX, 50_000), (150_000, 100_000), (1 << 40, 60_000), (50_001, 50_000)] {
+        let ds: Vec<u64> = (0..z).map(|i| rng.from_to(i, n - 1)).collect();
+        let sorted = |mut v: Vec<u64>| {
+            v.sort();
+            v
+        };
+        let out = shuffle(tally, rng, n, &ds, 2 * z as usize, z as usize);
+        assert!(n != z || sorted(out).iter().copied().eq(0..n), "the independent shuffle is a permutation");
+    }
+}
+
+/// Rigs whose N is just below, at and above the limit of refusal 10: sixteen events a step, but the very last step along the last events
+/// has only `last`, so N at h 16 is 16^16 − 16 + last.
+fn limits(tally: &mut Tally, rng: &mut Random) {
+    for last in [13u64, 14, 15, 16] {
+        let mut t = "rig\t16\nmon\t17\n".to_string();
+        for e in 0..16 {
+            t += &format!("go\t16\t{e}\t16\n");
+            for s in 0..16 {
+                if s < 15 || e < last {
+                    t += &format!("go\t{s}\t{e}\t{}\n", if e == 15 && s < 15 { s + 1 } else { 16 });
+                }
+            }
+        }
+        let t = t.as_bytes();
+        let want = count(tally, rng, t, 16, 17 * 17);
+        let n = (1u128 << 64) - 16 + last as u128;
+        let (number, word) = if n < u64::MAX as u128 { (0, n as u64) } else { (10, 0) };
+        assert_eq!((want.number, want.words[0]), (number, word), "the independent count at the limit");
+        for i in [0, 1 << 63, u64::MAX - 4, u64::MAX - 3, u64::MAX - 2, u64::MAX - 1, u64::MAX] {
+            let want = scenarios(tally, rng, t, 16, &[i, 5], 17 * 17, 32);
+            let sequence = if want.number == 0 { &want.out[..16] } else { &[15; 16] };
+            index(tally, rng, t, sequence, 17 * 17);
+        }
+    }
+}
+
+/// The largest rigs, the longest horizon, the longest texts.
+fn large(tally: &mut Tally, rng: &mut Random) {
+    for (monitors, density) in
+        [(vec![32, 32], 100), (vec![32, 32], 20), (vec![4, 8, 4, 8], 60), (vec![2, 2, 16, 16], 90), (vec![32, 16, 2], 50)]
+    {
+        let t = text(&Shape { events: 16, monitors, density }, rng);
+        let h = rng.below(40);
+        count(tally, rng, &t, h, (h as usize + 1) * 1024 + 5);
+        let counted = count(tally, rng, &t, 12, 13 * 1024);
+        let n = counted.words[0].max(1);
+        let list: Vec<u64> = (0..50).map(|_| rng.below(n)).collect();
+        let listed = scenarios(tally, rng, &t, 12, &list, 13 * 1024, 50 * 12);
+        index(tally, rng, &t, &listed.out[..12], 13 * 1024);
+    }
+    let t = text(&Shape { events: 3, monitors: vec![4, 3, 2], density: 70 }, rng);
+    count(tally, rng, &t, 1000, 1001 * 24);
+    let path: String = (0..31).map(|s| format!("go\t{s}\t0\t{}\n", s + 1)).collect();
+    let still: String = (0..32).map(|s| format!("go\t{s}\t0\t{s}\n")).collect();
+    for t in [
+        format!("rig\t1\nmon\t32\n{path}"),
+        format!("rig\t1\nmon\t32\n{path}go\t31\t0\t31\n"),
+        format!("rig\t1\nmon\t32\n{still}mon\t32\n{path}"),
+    ] {
+        for h in [0, 1, 31, 1000] {
+            let cells = (h as usize + 1) * 1024;
+            count(tally, rng, t.as_bytes(), h, cells);
+            index(tally, rng, t.as_bytes(), &vec![0; h as usize], cells);
+        }
+    }
+    let one = texts::ONE.as_bytes();
+    let repeated: Vec<u64> = vec![0; 2000];
+    scenarios(tally, rng, one, 1000, &repeated[..20], 1001, 20_000);
+    scenarios(tally, rng, one, 0, &repeated, 1, 0);
+    scenarios(tally, rng, one, 1001, &repeated, 2000, 0);
+    for over in [65_530usize, 65_535, 65_536, 70_000] {
+        for fill in [b'\n', b'0', b'\t', b'g'] {
+            let mut t = texts::A.as_bytes().to_vec();
+            t.resize(over, fill);
+            count(tally, rng, &t, 2, 6);
+            scenarios(tally, rng, &t, 2, &[0], 6, 2);
+            *t.last_mut().unwrap() = b'\n';
+            index(tally, rng, &t, &[0, 0], 6);
+        }
+    }
+}
+
+fn main() {
+    let mut tally = Tally::default();
+    let rng = &mut Random::seeded(20_261_115);
+    worked(&mut tally, rng);
+    for _ in 0..60_000 {
+        let most = *rng.pick(&[4, 12, 40]);
+        let shape = Shape::small(rng, 4, most);
+        let t = text(&shape, rng);
+        calls_on(&mut tally, rng, &t);
+    }
+    for _ in 0..1_500 {
+        let monitors = (0..rng.from_to(1, 5)).map(|_| *rng.pick(&[1, 2, 3, 8, 16, 31, 32, 33])).collect();
+        let t = text(&Shape { events: rng.from_to(1, 3), monitors, density: 60 }, rng);
+        calls_on(&mut tally, rng, &t);
+    }
+    for _ in 0..120_000 {
+        let shape = Shape::small(rng, 3, 8);
+        let mut t = text(&shape, rng);
+        for _ in 0..rng.from_to(1, 3) {
+            t = damage(&t, rng);
+        }
+        calls_on(&mut tally, rng, &t);
+    }
+    for _ in 0..5_000 {
+        let shape = Shape::small(rng, 3, 24);
+        let t = text(&shape, rng);
+        let h = rng.below(if shape.events == 3 { 6 } else { 8 }) as usize;
+        demand(&mut tally, rng, &t, h);
+    }
+    all_shuffles(&mut tally, rng);
+    shuffles(&mut tally, rng, 200_000);
+    limits(&mut tally, rng);
+    large(&mut tally, rng);
+    for (call, numbers) in [
+        ("count", &[0u64, 1, 2, 3, 4, 5, 6, 7, 8, 9, 10][..]),
+        ("scenarios", &[0, 1, 2, 3, 4, 5, 6, 7, 8, 9, 10, 11, 12]),
+        ("index", &[0, 1, 2, 3, 4, 5, 6, 7, 8, 9, 10, 13, 14]),
+        ("shuffle", &[0, 8, 12, 15]),
+    ] {
+        for &number in numbers {
+            assert!(tally.answers.contains_key(&(call, number)), "no {call} call is expected to answer {number}");
+        }
+    }
+    for ((call, number), (times, wrong)) in &tally.answers {
+        let answer = if *number == 0 { "served".into() } else { format!("refusal {number}") };
+        println!("{call:20} {answer:12} {times:8} {wrong:8}");
+    }
+    println!("{} comparisons, {} differences", tally.comparisons, tally.differences);
+    if tally.differences > 0 {
+        std::process::exit(1);
+    }
+}

@@ -1,0 +1,132 @@
+//! Rig texts: random ones that are readable, and damage done to them.
+use crate::random::Random;
+
+pub const A: &str = "rig\t2\nmon\t2\ngo\t0\t0\t0\ngo\t0\t1\t1\ngo\t1\t0\t0\n";
+pub const B: &str = "rig\t2\nmon\t2\ngo\t0\t0\t0\ngo\t0\t1\t1\ngo\t1\t0\t0\nmon\t2\ngo\t0\t0\t0\ngo\t0\t1\t1\ngo\t1\t1\t1\n";
+pub const F: &str = "rig\t2\nmon\t1\ngo\t0\t0\t0\ngo\t0\t1\t0\n";
+pub const ONE: &str = "rig\t1\nmon\t1\ngo\t0\t0\t0\n";
+
+/// The shape of a rig: events, states of each monitor, and how many in a hundred moves it has.
+pub struct Shape {
+    pub events: u64,
+    pub monitors: Vec<u64>,
+    pub density: u64,
+}
+
+impl Shape {
+    /// A small rig of 1 to 4 monitors with at most `most` joint states.
+    pub fn small(rng: &mut Random, events: u64, most: u64) -> Shape {
+        let mut left = most;
+        let monitors = (0..rng.from_to(1, 4))
+            .map(|_| {
+                let s = rng.from_to(1, left.min(6));
+                left /= s;
+                s
+            })
+            .collect();
+        Shape { events: rng.from_to(1, events), monitors, density: *rng.pick(&[25, 50, 70, 85, 100]) }
+    }
+}
+
+/// A readable text of this shape; the `go` lines of a monitor stand in random order.
+pub fn text(shape: &Shape, rng: &mut Random) -> Vec<u8> {
+    let mut t = format!("rig\t{}\n", shape.events);
+    for &s in &shape.monitors {
+        t += &format!("mon\t{s}\n");
+        let mut lines = vec![];
+        for (x, e) in (0..s).flat_map(|x| (0..shape.events).map(move |e| (x, e))) {
+            if rng.chance(shape.density, 100) {
+                let at = rng.below(lines.len() as u64 + 1) as usize;
+                lines.insert(at, format!("go\t{x}\t{e}\t{}\n", rng.below(s)));
+            }
+        }
+        t += &lines.concat();
+    }
+    t.into_bytes()
+}
+
+const ODD: &[u8] = b"0123456789\t\n\r rigmongo-+\0\x7f\xff";
+const FIELDS: &[&str] =
+    &["0", "1", "2", "3", "4", "5", "8", "16", "17", "32", "33", "99999", "100000", "00", "01", "", "-1", "1 ", "x", "4294967297"];
+const LINES: &[&str] = &[
+    "",
+    "rig\t2",
+    "mon\t2",
+    "mon\t5",
+    "mon\t32",
+    "mon\t32",
+    "mon\t31",
+    "go\t1\t0\t1",
+    "go\t0\t1\t0",
+    "mon\t0",
+    "mon\t33",
+    "mon",
+    "go\t0\t0\t0",
+    "go\t0\t0",
+    "go\t0\t0\t0\t0",
+    "rig",
+    "RIG\t2",
+    "rig\t2\t",
+    "\trig\t2",
+    "ord\t0",
+    "stop\t0",
+    "mon\t2\t1",
+    "rig\t17",
+    "rig\t0",
+];
+
+fn lines(t: &[u8]) -> Vec<Vec<u8>> {
+    t.split_inclusive(|&b| b == 10).map(|l| l.to_vec()).collect()
+}
+
+/// One random edit of a text.
+pub fn damage(t: &[u8], rng: &mut Random) -> Vec<u8> {
+    let mut t = t.to_vec();
+    let at = rng.below(t.len() as u64 + 1) as usize;
+    match rng.below(20) {
+        0 if at < t.len() => t[at] = *rng.pick(ODD),
+        1 if at < t.len() => t[at] = rng.word() as u8,
+        2 if at < t.len() => {
+            t.remove(at);
+        }
+        3 => t.insert(at, *rng.pick(ODD)),
+        4 => t.truncate(at),
+        5 => {
+            t.pop();
+        }
+        6 => t = t.iter().flat_map(|&b| if b == 10 { vec![13, 10] } else { vec![b] }).collect(),
+        7 => t = t.iter().flat_map(|&b| if b == 9 && rng.chance(1, 3) { vec![9, *rng.pick(b"0\t")] } else { vec![b] }).collect(),
+        8..=17 => {
+            let mut ls = lines(&t);
+            if ls.is_empty() {
+                ls.push(vec![]);
+            }
+            let (k, j) = (rng.below(ls.len() as u64) as usize, rng.below(ls.len() as u64) as usize);
+            match rng.below(5) {
+                0 => {
+                    ls.remove(k);
+                }
+                1 => {
+                    let l = ls[k].clone();
+                    ls.insert(j, l);
+                }
+                2 => ls.swap(k, j),
+                3 => ls.insert(k, format!("{}\n", rng.pick(LINES)).into_bytes()),
+                _ => {
+                    let mut fields: Vec<String> =
+                        String::from_utf8_lossy(&ls[k]).trim_end_matches('\n').split('\t').map(String::from).collect();
+                    let f = rng.below(fields.len() as u64) as usize;
+                    fields[f] = rng.pick(FIELDS).to_string();
+                    ls[k] = (fields.join("\t") + "\n").into_bytes();
+                }
+            }
+            t = ls.concat();
+        }
+        18 => {
+            let l = lines(&t);
+            t.extend(l.concat());
+        }
+        _ => t.extend_from_slice(format!("{}\n", rng.pick(LINES)).as_bytes()),
+    }
+    t
+}
