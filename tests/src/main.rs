@@ -264,7 +264,7 @@ fn demand(tally: &mut Tally, rng: &mut Random, t: &[u8], h: usize) {
 
 /// Draws for a shuffle of n numbers, most of them valid.
 fn draws(rng: &mut Random, n: u64, z: usize) -> Vec<u64> {
-    let kind = rng.below(5);
+    let kind = rng.below(6);
     let mut ds: Vec<u64> = (0..z as u64)
         .map(|i| match (i < n, kind) {
             (false, _) => i,
@@ -272,6 +272,7 @@ fn draws(rng: &mut Random, n: u64, z: usize) -> Vec<u64> {
             (_, 1) => rng.from_to(i, (n - 1).min(i.saturating_add(3))),
             (_, 2) => (n - 1).min(z as u64 + i % 3).max(i),
             (_, 3) => i,
+            (_, 4) => n - 1 - rng.below((n - i).min(z as u64 + 1)),
             _ => rng.from_to(i, n - 1),
         })
         .collect();
@@ -318,7 +319,15 @@ fn shuffles(tally: &mut Tally, rng: &mut Random, rounds: u64) {
         let (scratch, out) = (about(rng, 2 * z), about(rng, z));
         shuffle(tally, rng, n, &ds, scratch, out);
     }
-    for (n, z) in [(100_000, 100_000), (u64::MAX, 50_000), (150_000, 100_000), (1 << 40, 60_000), (50_001, 50_000)] {
+    for (n, z) in [
+        (100_000, 100_000),
+        (u64::MAX, 50_000),
+        (150_000, 100_000),
+        (300_000, 100_000),
+        (1_000_000, 100_000),
+        (1 << 40, 60_000),
+        (50_001, 50_000),
+    ] {
         let ds: Vec<u64> = (0..z).map(|i| rng.from_to(i, n - 1)).collect();
         let sorted = |mut v: Vec<u64>| {
             v.sort();

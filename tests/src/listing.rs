@@ -1,0 +1,99 @@
+//! What the program `scenarios` prints for an input, every byte, from the independent implementation. No index is turned into a scenario:
+//! the lines come from walking the live states, lowest event first.
+use crate::model::{self, Pruned};
+
+/// 'It owns 8,192 cells.'
+const CELLS: usize = 8192;
+/// 'for the first 1,000 indices, or all N if fewer'
+const LINES: usize = 1000;
+
+#[derive(Clone, Copy, Debug, PartialEq, Eq, PartialOrd, Ord)]
+pub enum Outcome {
+    /// Served, with fewer than 1,000 scenarios, just as many, or more.
+    Fewer,
+    Thousand,
+    More,
+    BadAsk,
+    Refused(u64),
+}
+
+pub struct Listing {
+    pub outcome: Outcome,
+    /// The horizon asked for, 0 where none is.
+    pub horizon: u64,
+    pub printed: Vec<u8>,
+}
+
+/// The digits of a number, without leading zero except 0 itself.
+fn decimal(mut n: u64) -> Vec<u8> {
+    let mut digits = vec![];
+    loop {
+        digits.insert(0, b"0123456789"[(n % 10) as usize]);
+        n /= 10;
+        if n == 0 {
+            return digits;
+        }
+    }
+}
+
+/// Fields 'all parted by byte 9', and a line end.
+fn line(fields: &[Vec<u8>]) -> Vec<u8> {
+    let mut l = fields.join(&9);
+    l.push(10);
+    l
+}
+
+/// 'one line `ask`, h, then a rig text': h and the text, unless the line is bad.
+fn asked(input: &[u8]) -> Option<(u64, &[u8])> {
+    let end = input.iter().position(|&b| b == 10)?;
+    let fields: Vec<&[u8]> = input[..end].split(|&b| b == 9).collect();
+    match fields[..] {
+        [b"ask", h] => Some((model::number(h)? as u64, &input[end + 1..])),
+        _ => None,
+    }
+}
+
+/// Walks on from x by `left` events, lowest first, and notes each sequence that it comes to the end of, until there are enough.
+fn walk(pruned: &Pruned, x: usize, left: usize, events: &mut Vec<u8>, found: &mut Vec<Vec<u8>>) {
+    if left == 0 {
+        found.push(events.clone());
+        return;
+    }
+    for e in 0..pruned.events {
+        if let (true, Some(y)) = (found.len() < LINES, pruned.step(x, e)) {
+            events.push(e as u8);
+            walk(pruned, y, left - 1, events, found);
+            events.pop();
+        }
+    }
+}
+
+fn refused(outcome: Outcome, horizon: u64, number: u64, place: u64) -> Listing {
+    Listing { outcome, horizon, printed: line(&[b"no".to_vec(), decimal(number), decimal(place)]) }
+}
+
+pub fn listing(input: &[u8]) -> Listing {
+    let Some((horizon, text)) = asked(input) else {
+        return refused(Outcome::BadAsk, 0, 2, 0);
+    };
+    let counted = model::count(text, horizon, &[0; CELLS]);
+    let [n, passes] = counted.words;
+    if counted.number != 0 {
+        return refused(Outcome::Refused(counted.number), horizon, counted.number, n);
+    }
+    let mut printed = line(&[b"count".to_vec(), decimal(n), decimal(passes)]);
+    let pruned = model::prune(&model::read(text).expect("a readable text"));
+    let mut found = vec![];
+    walk(&pruned, 0, horizon as usize, &mut vec![], &mut found);
+    assert_eq!(found.len() as u64, n.min(LINES as u64), "the independent count of the sequences that are walked");
+    for (i, events) in found.iter().enumerate() {
+        let fields: Vec<Vec<u8>> = [i as u64].into_iter().chain(events.iter().map(|&e| e as u64)).map(decimal).collect();
+        printed.extend(line(&fields));
+    }
+    let outcome = match n {
+        0..=999 => Outcome::Fewer,
+        1000 => Outcome::Thousand,
+        _ => Outcome::More,
+    };
+    Listing { outcome, horizon, printed }
+}
