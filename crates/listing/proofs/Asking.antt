@@ -1,5 +1,5 @@
 -- An `ask` line by its first four bytes and what follows them. Assumes nothing.
-use mathlib.Core.Path.{_≡_, refl}
+use mathlib.Core.Path.{_≡_, refl, sym, _∙_}
 use mathlib.Core.Logic.{_⊎_, inl, inr}
 use mathlib.Core.Bool.{Bool, true, false, _&&_}
 use mathlib.Core.List.{List, [], _∷_}
@@ -9,7 +9,7 @@ use native.Mathlib.Omega.{arith}
 use lib.ListN.{length, getD, take, drop, length-take, length-drop}
 use lib.Seq.{take-all}
 use lib.Dec.{eqb}
-use borrow.Author.Tests.{lt-ltb, le-ltb, eq-eqb}
+use borrow.Author.Tests.{lt-ltb, le-ltb, eq-eqb, ne-eqb}
 use Rattle.lists.specs.Lists.{place}
 use Rattle.lists.proofs.Tests.{contra, split}
 use Rattle.promises.specs.Text.{same, number}
@@ -27,7 +27,7 @@ word = 97 ∷ 115 ∷ 107 ∷ 9 ∷ []
 pub asks-short : (l : List ℕ) → length l < 4 → same (take 4 l) word ≡ false
 asks-short l h = same-length (take 4 l) word (λ q. let z : length (take 4 l) ≡ 4 = q in omega (arith, length-take 4 l))
 
-pub asks-bytes : (l : List ℕ) → 4 ≤ length l → same (take 4 l) word ≡ (eqb (getD l 0 0) 97 && (eqb (getD l 1 0) 115 && (eqb (getD l 2 0) 107 && (eqb (getD l 3 0) 9 && true))))
+asks-bytes : (l : List ℕ) → 4 ≤ length l → same (take 4 l) word ≡ (eqb (getD l 0 0) 97 && (eqb (getD l 1 0) 115 && (eqb (getD l 2 0) 107 && (eqb (getD l 3 0) 9 && true))))
 unfolding same
 asks-bytes [] h = absurd (omega arith)
 asks-bytes (a ∷ []) h = absurd (omega arith)
@@ -39,9 +39,19 @@ and-true : (b : Bool) → b ≡ (b && true)
 and-true true = refl
 and-true false = refl
 
--- the fourth byte decides, where the first three are the word's
-pub asks-last : (l : List ℕ) → 4 ≤ length l → getD l 0 0 ≡ 97 → getD l 1 0 ≡ 115 → getD l 2 0 ≡ 107 → eqb (getD l 3 0) 9 ≡ same (take 4 l) word
-asks-last l h a b c = rw (asks-bytes l h, eq-eqb _ _ a, eq-eqb _ _ b, eq-eqb _ _ c) (and-true (eqb (getD l 3 0) 9))
+-- the first byte that isn't the word's decides, and the fourth, where the first three are
+module _ (l : List ℕ) (h : 4 ≤ length l) where
+  pub asks-first : ¬ (getD l 0 0 ≡ 97) → false ≡ same (take 4 l) word
+  asks-first a = sym (asks-bytes l h ∙ rw (ne-eqb _ _ a))
+
+  pub asks-second : getD l 0 0 ≡ 97 → ¬ (getD l 1 0 ≡ 115) → false ≡ same (take 4 l) word
+  asks-second a b = sym (asks-bytes l h ∙ rw (eq-eqb _ _ a, ne-eqb _ _ b))
+
+  pub asks-third : getD l 0 0 ≡ 97 → getD l 1 0 ≡ 115 → ¬ (getD l 2 0 ≡ 107) → false ≡ same (take 4 l) word
+  asks-third a b c = sym (asks-bytes l h ∙ rw (eq-eqb _ _ a, eq-eqb _ _ b, ne-eqb _ _ c))
+
+  pub asks-last : getD l 0 0 ≡ 97 → getD l 1 0 ≡ 115 → getD l 2 0 ≡ 107 → eqb (getD l 3 0) 9 ≡ same (take 4 l) word
+  asks-last a b c = rw (asks-bytes l h, eq-eqb _ _ a, eq-eqb _ _ b, eq-eqb _ _ c) (and-true (eqb (getD l 3 0) 9))
 
 pub asks-long : (l : List ℕ) → same (take 4 l) word ≡ true → 4 ≤ length l
 asks-long l q = go (split 4 (length l))

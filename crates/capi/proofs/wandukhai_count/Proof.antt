@@ -5,9 +5,6 @@ use Rattle.generator.specs.Outcomes.{countAnswer}
 use Rattle.capi.specs.Words.{numberOf, wordsOf}
 use Rattle.capi.proofs.wandukhai_count.Statement.{statement}
 use Rattle.capi.proofs.wandukhai_count.Tie as tie
-use Rattle.capi.proofs.wandukhai_count.Reads as reads
-use Rattle.capi.proofs.wandukhai_count.Lts as lts
-use Rattle.generator.proofs.count.Reads as count-reads
 
 count-requires : tie.Need-count-requires
 count-requires c κs = search needs

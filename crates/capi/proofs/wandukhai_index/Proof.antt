@@ -5,9 +5,6 @@ use Rattle.generator.specs.Outcomes.{indexAnswer}
 use Rattle.capi.specs.Words.{numberOf, wordOf}
 use Rattle.capi.proofs.wandukhai_index.Statement.{statement}
 use Rattle.capi.proofs.wandukhai_index.Tie as tie
-use Rattle.capi.proofs.wandukhai_index.Reads as reads
-use Rattle.capi.proofs.wandukhai_index.Lts as lts
-use Rattle.generator.proofs.index.Reads as index-reads
 
 index-requires : tie.Need-index-requires
 index-requires c κs = search needs

@@ -5,9 +5,6 @@ use Rattle.generator.specs.Outcomes.{listAnswer}
 use Rattle.capi.specs.Words.{numberOf, wordOf}
 use Rattle.capi.proofs.wandukhai_scenarios.Statement.{statement}
 use Rattle.capi.proofs.wandukhai_scenarios.Tie as tie
-use Rattle.capi.proofs.wandukhai_scenarios.Reads as reads
-use Rattle.capi.proofs.wandukhai_scenarios.Lts as lts
-use Rattle.generator.proofs.scenarios.Reads as scenarios-reads
 
 scenarios-requires : tie.Need-scenarios-requires
 scenarios-requires c κs = search needs

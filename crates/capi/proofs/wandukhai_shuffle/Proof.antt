@@ -5,9 +5,6 @@ use Rattle.shuffle.specs.Outcome.{answerOf}
 use Rattle.capi.specs.Words.{numberOf, wordOf}
 use Rattle.capi.proofs.wandukhai_shuffle.Statement.{statement}
 use Rattle.capi.proofs.wandukhai_shuffle.Tie as tie
-use Rattle.capi.proofs.wandukhai_shuffle.Reads as reads
-use Rattle.capi.proofs.wandukhai_shuffle.Lts as lts
-use Rattle.generator.proofs.shuffle_indices.Reads as shuffle-indices-reads
 
 shuffle-indices-requires : tie.Need-shuffle-indices-requires
 shuffle-indices-requires c κs = search needs

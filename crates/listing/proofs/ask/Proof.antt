@@ -1,5 +1,6 @@
 -- The first line is what stands before the first line end; without one there is no `ask` line. Assumes nothing.
 use mathlib.Core.Path.{sym}
+use native.Mathlib.Omega.{arith}
 use lib.Seq.{length-take-le}
 use Rattle.decoding.proofs.Parts.{place-le}
 use Rattle.listing.proofs.Asking.{ask-good, ask-bad, ask-unended}
@@ -34,15 +35,15 @@ enum-told c = search needs
 returns : tie.Need-returns
 returns c =
     let u = c .before .before .before .before .before .before .until in
-    ask-good (c .before .before .before .before .before .before .before .before .args .input .now) (u .result) (u .ensures) (c .before .before .before .before .before .if1 .taken) (c .before .before .before .asked-in .result) _ (c .before .before .before .asked-in .ensures) (c .before .h .given .1)
+    ask-good (c .before .before .before .before .before .before .before .before .args .input .now) (u .result) (u .ensures) (omega (arith, c .before .before .before .before .before .if1 .taken)) (c .before .before .before .asked-in .result) _ (c .before .before .before .asked-in .ensures) (c .before .h .given .1)
 
 returns-2 : tie.Need-returns-2
 returns-2 c =
     let u = c .before .before .before .before .before .until in
-    ask-bad (c .before .before .before .before .before .before .before .args .input .now) (u .result) (u .ensures) (c .before .before .before .before .if1 .taken) (c .before .before .asked-in .result) (c .before .before .asked-in .ensures) (c .enum-told .given .1)
+    ask-bad (c .before .before .before .before .before .before .before .args .input .now) (u .result) (u .ensures) (omega (arith, c .before .before .before .before .if1 .taken)) (c .before .before .asked-in .result) (c .before .before .asked-in .ensures) (c .enum-told .given .1)
 
 returns-3 : tie.Need-returns-3
-returns-3 c = ask-unended (c .before .before .before .args .input .now) (c .before .until .result) (c .before .until .ensures) (c .if1 .left)
+returns-3 c = ask-unended (c .before .before .before .args .input .now) (c .before .until .result) (c .before .until .ensures) (omega (arith, c .if1 .left))
 
 pub ask-spec : {M : Type 1} → statement M
 ask-spec =
