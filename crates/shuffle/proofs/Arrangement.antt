@@ -8,7 +8,7 @@ use Prim.Native.Nat.{ℕ, zero, suc, _+_, _<_, _≤_, min}
 use native.Mathlib.Decide.{ℕ-discrete}
 use native.Mathlib.Omega.{arith}
 use lib.ListN.{length, getD, drop, length-set, List·getD-append}
-use lib.Seq.{drop-cons, drop-length, append-snoc, getD-set-same, getD-set-other, drop-set-lt}
+use lib.Seq.{drop-cons, drop-length, append-snoc, getD-append-add, getD-drop, getD-set-same, getD-set-other, drop-set-lt}
 use lib.Dec.{eqb, ltb}
 use borrow.Author.Tests.{eqb-true, eqb-false, ltb-true, lt-ltb}
 use Rattle.lists.specs.Lists.{pick, tab}
@@ -36,6 +36,13 @@ from ds (suc r) i q = rw (drop-cons ds i 0 (omega arith)) (from-step ds i ∙ fr
 pub outputs : (ds : List ℕ) → tab (drawn ds) (length ds) ≡ shuffle ds
 unfolding shuffle tab arranged
 outputs ds = sym (from ds (length ds) 0 (omega arith))
+
+-- behind the numbers of the first i draws the output is as it was
+pub past-output : (ds t : List ℕ) (i : ℕ) → getD (tab (drawn ds) i ++ drop i t) i 0 ≡ getD t i 0
+past-output ds t i =
+    let e : i ≡ length (tab (drawn ds) i) + 0 = rw length-tab (omega arith) in
+    let f : i + 0 ≡ i = omega arith in
+    ap (λ (k : ℕ). getD (tab (drawn ds) i ++ drop i t) k 0) e ∙ getD-append-add (tab (drawn ds) i) (drop i t) 0 0 ∙ getD-drop i t 0 0 ∙ ap (λ (k : ℕ). getD t k 0) f
 
 -- ---- a place that no step has come to
 

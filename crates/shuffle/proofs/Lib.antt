@@ -3,5 +3,6 @@
 pub mod Arrangement
 pub mod Chains
 pub mod Draws
+pub mod Words
 pub mod Mixing
 pub mod Answers

@@ -36,7 +36,7 @@ last-step-requires c κs =
     let r = st .pre .1 .0 .linked in
     let h = st .pre .0 .0 in
     let far : st .args .reach ≤ getD (st .args .draws .now) (st .args .i) 0 = omega arith in
-    (h, far, r .room (st .args .i) h far, r)
+    ((h, far, r .room (st .args .i) h far), (r, st .pre .0 .2 far))
 
 returns-2 : tie.Need-returns-2
 returns-2 c =

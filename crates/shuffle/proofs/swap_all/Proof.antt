@@ -1,23 +1,22 @@
--- `shuffle::swap_all` meets its contract. After i steps the scratch holds the arrangement that i draws make, and the output their numbers;
--- the numbers drawn in all steps are the shuffle.
+-- `shuffle::swap_all` meets its contract. After i steps the scratch holds the arrangement that i draws make, and the output their numbers, with the
+-- beginnings of the later draws' walks still behind them; the numbers drawn in all steps are the shuffle.
 use mathlib.Core.Path.{_≡_, refl, ap, _∙_}
 use mathlib.Core.List.{List, _++_}
-use Prim.Native.Nat.{ℕ, _-_, _≤_}
+use Prim.Native.Nat.{ℕ, _-_, _*_, _≤_}
 use native.Mathlib.Omega.{arith}
-use lib.ListN.{length, set, drop, length-set}
+use lib.ListN.{length, getD, set, drop, length-set}
 use borrow.Author.Needs.{needs}
 use Rattle.lists.specs.Lists.{tab}
 use Rattle.lists.proofs.Tables.{tab-more}
 use Rattle.shuffle.specs.Places.{drawn, Linked, Held, Kept}
-use Rattle.shuffle.proofs.Arrangement.{outputs, held-moved}
-use Rattle.shuffle.proofs.Chains.{linked-moved, kept-trans, kept-moved}
+use Rattle.shuffle.proofs.Arrangement.{outputs, held-moved, past-output}
+use Rattle.shuffle.proofs.Chains.{linked-moved, kept-same, kept-trans, kept-moved}
 use Rattle.shuffle.proofs.swap_all.Statement.{statement}
 use Rattle.shuffle.proofs.swap_all.Tie as tie
 
 abbrev Inv-loop : tie.InvT-loop
 Inv-loop draws scratch₀ reach out₀ i₀ i-end scratch out i =
-    (i ≤ length draws) × (length out ≡ length out₀) × Kept draws scratch₀ scratch × Linked reach draws scratch × Held reach draws i scratch
-    × (out ≡ tab (drawn draws) i ++ drop i out₀)
+    (i ≤ length draws) × (length out ≡ length out₀) × Kept (2 * length draws) scratch₀ scratch × Linked reach draws scratch × Held reach draws i scratch × (out ≡ tab (drawn draws) i ++ drop i out₀)
 
 abbrev μ-loop : tie.MeasureT-loop
 μ-loop draws scratch₀ reach out₀ i₀ i-end scratch out i = length draws - i
@@ -26,15 +25,25 @@ loop-holds : tie.Need-loop-holds Inv-loop μ-loop
 unfolding tab
 loop-holds c =
     let st = c .before .before .before in
-    (omega arith, refl, record { long = refl; rest = refl }, st .pre .1 .0 .linked, st .pre .1 .1, refl)
+    (omega arith, refl, kept-same _ _, st .pre .1 .0 .linked, st .pre .1 .1, refl)
+
+mul-number-at : tie.Need-mul-number-at Inv-loop μ-loop
+mul-number-at c = search needs
+
+slice-read-number-at : tie.Need-slice-read-number-at Inv-loop μ-loop
+slice-read-number-at c = search needs
 
 number-at-requires : tie.Need-number-at-requires Inv-loop μ-loop
 number-at-requires c κs =
-    let st = c .before .before .before .before .before .before in
-    let lp = c .before .before .loop in
+    let st = c .before .before .before .before .before .before .before in
+    let lp = c .before .before .before .loop in
+    let h = c .before .before .loop-test .taken in
+    let ds = st .args .draws .now in
+    let out = st .args .out .now in
     let r = st .pre .1 .0 in
     let long = lp .inv .2 .long in
-    ((c .before .loop-test .taken, st .pre .0 .1 (lp .i) (c .before .loop-test .taken)), (record { near = r .near; small = r .small; wide = omega arith; linked = lp .inv .3 }, lp .inv .4))
+    let e : getD (lp .out) (lp .i) 0 ≡ getD out (lp .i) 0 = ap (λ (l : List ℕ). getD l (lp .i) 0) (lp .inv .5) ∙ past-output ds out (lp .i) in
+    ((h, st .pre .0 .1 (lp .i) h, rw e (st .pre .0 .2 (lp .i) h)), (record { near = r .near; small = r .small; wide = omega arith; linked = lp .inv .3 }, lp .inv .4))
 
 mul-move-number : tie.Need-mul-move-number Inv-loop μ-loop
 mul-move-number c = search needs
@@ -44,8 +53,8 @@ shared-slice-read-move-number c = search needs
 
 move-number-requires : tie.Need-move-number-requires Inv-loop μ-loop
 move-number-requires c κs =
-    let st = c .before .before .before .before .before .before .before .before .before in
-    let lp = c .before .before .before .before .before .loop in
+    let st = c .before .before .before .before .before .before .before .before .before .before in
+    let lp = c .before .before .before .before .before .before .loop in
     let near = st .pre .1 .0 .near in
     let small = st .pre .1 .0 .small in
     let wide = st .pre .1 .0 .wide in
@@ -66,9 +75,9 @@ loop-less c = search needs
 
 loop-again : tie.Need-loop-again Inv-loop μ-loop
 loop-again c =
-    let st = c .before .before .before .before .before .before .before .before .before .before .before .before in
-    let lp = c .before .before .before .before .before .before .before .before .loop in
-    let h = c .before .before .before .before .before .before .before .loop-test .taken in
+    let st = c .before .before .before .before .before .before .before .before .before .before .before .before .before in
+    let lp = c .before .before .before .before .before .before .before .before .before .loop in
+    let h = c .before .before .before .before .before .before .before .before .loop-test .taken in
     let near = st .pre .1 .0 .near in
     let small = st .pre .1 .0 .small in
     let wide = st .pre .1 .0 .wide in
@@ -104,6 +113,8 @@ swap-all-spec =
     Inv-loop
     μ-loop
     loop-holds
+    mul-number-at
+    slice-read-number-at
     number-at-requires
     mul-move-number
     shared-slice-read-move-number
