@@ -117,6 +117,44 @@ fn shuffle(name: &str, n: u64, draws: Vec<u64>, array: bool) {
     assert!(a == b);
 }
 
+/// Best nanoseconds a draw for 10^4, 10^5 and 10^6 draws, and how much the last is more than the first. Each round has draws of its own, so that
+/// no round runs on what the processor learnt of another's.
+fn growth(
+    name: &str,
+    shuffle: &mut dyn FnMut(u64, &[u64], &mut [u64], &mut [u64]),
+    n: &dyn Fn(u64) -> u64,
+    draw: &mut dyn FnMut(u64, u64, u64) -> u64,
+) {
+    let best = [10_000, 100_000, 1_000_000].map(|z| {
+        let (mut scratch, mut out) = (vec![0; 2 * z], vec![0; z]);
+        let rounds = (0..20_000_000 / z.max(100_000)).map(|_| {
+            let draws: Vec<u64> = (0..z as u64).map(|i| draw(i, z as u64, n(z as u64))).collect();
+            timed(&mut || shuffle(n(z as u64), &draws, &mut scratch, &mut out)) * 1e6 / z as f64
+        });
+        rounds.fold(f64::MAX, f64::min)
+    });
+    println!("{name:58} {:6.2} {:6.2} {:6.2} {:7.2}", best[0], best[1], best[2], best[2] / best[0]);
+}
+
+fn growths() {
+    let most = |_| u64::MAX;
+    let mut served =
+        |n: u64, draws: &[u64], scratch: &mut [u64], out: &mut [u64]| assert!(calls::shuffle(n, draws, scratch, out).number == 0);
+    let mut array = |n: u64, draws: &[u64], _: &mut [u64], out: &mut [u64]| plain::shuffle_array(n, draws, out);
+    let mut map = |_: u64, draws: &[u64], _: &mut [u64], out: &mut [u64]| plain::shuffle_map(draws, out);
+    let mut rng = Random::seeded(2);
+    let mut random = |i: u64, _: u64, n: u64| rng.from_to(i, n - 1);
+    println!("\n{:58} {:>6} {:>6} {:>6} {:>7}", "shuffle, ns a draw", "10^4", "10^5", "10^6", "growth");
+    growth("random, of 2^64 - 1", &mut served, &most, &mut random);
+    growth("random, of 10 times as many numbers", &mut served, &|z| 10 * z, &mut random);
+    growth("random, of 3 times as many numbers", &mut served, &|z| 3 * z, &mut random);
+    growth("equal", &mut served, &most, &mut |_, _, n| n - 1);
+    growth("clustered", &mut served, &most, &mut |i, z, _| 2 * z + i % 7 * 65_536 + i / 1000);
+    growth("all of n", &mut served, &|z| z, &mut random);
+    growth("all of n, an array", &mut array, &|z| z, &mut random);
+    growth("random, of 2^64 - 1, a map", &mut map, &most, &mut random);
+}
+
 fn main() {
     let rng = &mut Random::seeded(1);
     println!("{:58} {:>10} {:>10} {:>7}", "", "ours ms", "plain ms", "ratio");
@@ -141,4 +179,5 @@ fn main() {
         false,
     );
     shuffle("shuffle, 10^5 equal draws, against a map", most, vec![most - 1; 100_000], false);
+    growths();
 }
