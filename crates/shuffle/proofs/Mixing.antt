@@ -4,13 +4,9 @@ use Prim.Native.Nat.{ℕ, _-_, _*_, _/_, _%_, _^_, _<_, _≤_, min}
 use native.Mathlib.Nat.{one-mul, mul-le-mul, mul-lt-mul-of-pos-right}
 use native.Mathlib.Omega.{arith}
 use lib.Pow.{shl-exact}
-use Rattle.shuffle.specs.Buckets.{spread, mixed, bucketOf}
+use Rattle.shuffle.specs.Buckets.{mixed, bucketOf}
 
-pub spread-fits : (x : ℕ) → spread x < 2 ^ 64
-unfolding spread
-spread-fits x = omega arith
-
--- what is scaled to at most 2^32
+-- a product of two halves of a word, or of one and the number that it is scaled to
 pub part-fits : (u a : ℕ) → u < 2 ^ 32 → a ≤ 2 ^ 32 → u * a < 2 ^ 64
 part-fits u a h k = let q : u * a ≤ (2 ^ 32 - 1) * 2 ^ 32 = mul-le-mul {n₁ = u} {m₁ = a} {n₂ = 2 ^ 32 - 1} {m₂ = 2 ^ 32} (omega arith) k in omega arith
 

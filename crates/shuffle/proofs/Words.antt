@@ -1,6 +1,6 @@
 -- A bucket's word. Its step is the one that it was headed with; it has the marks that it was headed with and all that it had. Why: the marks stand below the
 -- step, and a bit that is set stays set. Assumes nothing.
-use mathlib.Core.Path.{_≡_, sym, ap, ap₂, _∙_}
+use mathlib.Core.Path.{_≡_, sym, ap, _∙_}
 use Prim.Native.Nat.{ℕ, _+_, _-_, _*_, _/_, _%_, _^_, _<_, _≤_, min, max}
 use native.Mathlib.Nat.{suc-mul, mul-le-mul-right, mod-lt, mod-eq-of-lt, lt-of-le-of-lt}
 use native.Mathlib.Omega.{arith}

@@ -1,6 +1,6 @@
 -- `shuffle::chain_all` meets its contract. After i steps each bucket has the last of its steps and the marks of all of them, and each link is the last one
 -- before its step; a step that becomes the head takes the old head as its link. Where a draw's mark is not there, no step before it has the same draw.
-use mathlib.Core.Path.{_≡_, refl}
+use mathlib.Core.Path.{_≡_}
 use Prim.Native.Nat.{ℕ, _-_, _*_, _<_, _≤_}
 use native.Mathlib.Nat.{not-suc-le-zero}
 use native.Mathlib.Omega.{arith}
