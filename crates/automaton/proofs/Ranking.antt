@@ -12,21 +12,21 @@ use lib.ListN.{length, getD, take, length-map, List·getD-append}
 use lib.Seq.{getD-append-add}
 use lib.Dec.{ltb, eqb}
 use borrow.Author.Tests.{ltb-true, ltb-false, eqb-true, lt-ltb, le-ltb, ne-eqb, eq-eqb}
-use Rattle.lists.specs.Lists.{pick, sum, each, Pairwise, more}
+use Rattle.lists.specs.Lists.{pick, sum, concatMap, Pairwise, more}
 use Rattle.lists.proofs.Tests.{contra, case}
 use Rattle.lists.proofs.Members.{getD-in, getD-map-lt}
 use Rattle.lists.proofs.Ordered.{pairwise-at}
 use Rattle.automaton.specs.Automaton.{Automaton, Belongs}
 use Rattle.automaton.specs.Pruning.{live}
 use Rattle.automaton.specs.Counting.{Lex, Stays, N, scenarios}
-use Rattle.automaton.specs.Ranking.{choose, before, unrank, rank, offence}
+use Rattle.automaton.specs.Ranking.{choose, before, unrank, rank, firstViolation}
 use Rattle.automaton.proofs.Counting.{scenarios-length, scenarios-ordered, scenarios-sound, belongs-iff, stays-live}
 
 -- ---- choosing by counts
 
 -- what `choose` takes, as a place in the lists of what each event leads to
 pub choose-at : (c : ℕ → ℕ) (rest : ℕ → ℕ → List ℕ) (f : ℕ → List (List ℕ)) → ((e : ℕ) → length (f e) ≡ c e) → ((e j : ℕ) → j < c e → rest e j ≡ getD (f e) j [])
-    → (l : List ℕ) (i : ℕ) → i < sum c l → choose c rest l i ≡ getD (each (λ e. map (λ s. e ∷ s) (f e)) l) i []
+    → (l : List ℕ) (i : ℕ) → i < sum c l → choose c rest l i ≡ getD (concatMap (λ e. map (λ s. e ∷ s) (f e)) l) i []
 unfolding choose
 choose-at c rest f len at [] i h = absurd (omega arith)
 choose-at c rest f len at (e ∷ l) i h = go (ltb i (c e)) refl (choose-at c rest f len at l (i - c e))
@@ -37,16 +37,16 @@ choose-at c rest f len at (e ∷ l) i h = go (ltb i (c e)) refl (choose-at c res
     size : length block ≡ c e
     size = length-map (f e) (λ s. e ∷ s) ∙ len e
 
-    go : (b : Bool) → ltb i (c e) ≡ b → (i - c e < sum c l → choose c rest l (i - c e) ≡ getD (each (λ e. map (λ s. e ∷ s) (f e)) l) (i - c e) [])
-        → pick b (e ∷ rest e i) (choose c rest l (i - c e)) ≡ getD (block ++ each (λ e. map (λ s. e ∷ s) (f e)) l) i []
+    go : (b : Bool) → ltb i (c e) ≡ b → (i - c e < sum c l → choose c rest l (i - c e) ≡ getD (concatMap (λ e. map (λ s. e ∷ s) (f e)) l) (i - c e) [])
+        → pick b (e ∷ rest e i) (choose c rest l (i - c e)) ≡ getD (block ++ concatMap (λ e. map (λ s. e ∷ s) (f e)) l) i []
     go true t ih =
         let lt : i < c e = ltb-true i (c e) t in
         ap (λ s. e ∷ s) (at e i lt) ∙ sym (getD-map-lt (λ s. e ∷ s) (f e) i [] [] (omega (arith, len e)))
-        ∙ sym (List·getD-append block (each (λ e. map (λ s. e ∷ s) (f e)) l) [] i (omega (arith, size)))
+        ∙ sym (List·getD-append block (concatMap (λ e. map (λ s. e ∷ s) (f e)) l) [] i (omega (arith, size)))
     go false t ih =
         let le : c e ≤ i = ltb-false i (c e) t in
         let k : i ≡ length block + (i - c e) = omega (arith, size) in
-        ih (omega arith) ∙ sym (getD-append-add block (each (λ e. map (λ s. e ∷ s) (f e)) l) (i - c e) []) ∙ ap (λ n. getD (block ++ each (λ e. map (λ s. e ∷ s) (f e)) l) n []) (sym k)
+        ih (omega arith) ∙ sym (getD-append-add block (concatMap (λ e. map (λ s. e ∷ s) (f e)) l) (i - c e) []) ∙ ap (λ n. getD (block ++ concatMap (λ e. map (λ s. e ∷ s) (f e)) l) n []) (sym k)
 
 -- what `choose` takes, as an event and what is left of the index
 pub choose-split : (c : ℕ → ℕ) (rest : ℕ → ℕ → List ℕ) (l : List ℕ) → Pairwise _≢_ l → (i : ℕ) → i < sum c l
@@ -154,25 +154,25 @@ module _ (A : Automaton) where
 
   -- ---- the place of refusal 14
 
-  pub offence-none : (x : ℕ) (s : List ℕ) → live A x ≡ true → ((e : ℕ) → In e s → In e events) → (offence A x s ≡ length s) ↔ Stays A x s
-  unfolding offence Stays
-  offence-none x [] p v = (λ q. p, λ w. refl)
-  offence-none x (e ∷ s) p v =
+  pub firstViolation-none : (x : ℕ) (s : List ℕ) → live A x ≡ true → ((e : ℕ) → In e s → In e events) → (firstViolation A x s ≡ length s) ↔ Stays A x s
+  unfolding firstViolation Stays
+  firstViolation-none x [] p v = (λ q. p, λ w. refl)
+  firstViolation-none x (e ∷ s) p v =
       case (live A (next x e))
-      (λ t. let ih = offence-none (next x e) s t (λ d i. v d (there i)) in rw t (λ q. (p, v e (here refl), ih .0 (omega arith)), λ w. ap suc (ih .1 (w .2))))
+      (λ t. let ih = firstViolation-none (next x e) s t (λ d i. v d (there i)) in rw t (λ q. (p, v e (here refl), ih .0 (omega arith)), λ w. ap suc (ih .1 (w .2))))
       (λ t. rw t (λ q. absurd (omega arith), λ w. contra (stays-live A (next x e) s (w .2)) t))
 
-  pub offence-le : (x : ℕ) (s : List ℕ) → offence A x s ≤ length s
-  unfolding offence
-  offence-le x [] = omega arith
-  offence-le x (e ∷ s) = case (live A (next x e)) (λ t. rw t (omega (arith, offence-le (next x e) s))) (λ t. rw t (omega arith))
+  pub firstViolation-le : (x : ℕ) (s : List ℕ) → firstViolation A x s ≤ length s
+  unfolding firstViolation
+  firstViolation-le x [] = omega arith
+  firstViolation-le x (e ∷ s) = case (live A (next x e)) (λ t. rw t (omega (arith, firstViolation-le (next x e) s))) (λ t. rw t (omega arith))
 
   -- up to there it stays among live states, and with that event no longer
-  pub offence-first : (x : ℕ) (s : List ℕ) → live A x ≡ true → ((e : ℕ) → In e s → In e events)
-      → Stays A x (take (offence A x s) s) × (offence A x s < length s → ¬ Stays A x (take (suc (offence A x s)) s))
-  unfolding offence Stays
-  offence-first x [] p v = (p, λ h. absurd (omega arith))
-  offence-first x (e ∷ s) p v =
+  pub firstViolation-first : (x : ℕ) (s : List ℕ) → live A x ≡ true → ((e : ℕ) → In e s → In e events)
+      → Stays A x (take (firstViolation A x s) s) × (firstViolation A x s < length s → ¬ Stays A x (take (suc (firstViolation A x s)) s))
+  unfolding firstViolation Stays
+  firstViolation-first x [] p v = (p, λ h. absurd (omega arith))
+  firstViolation-first x (e ∷ s) p v =
       case (live A (next x e))
-      (λ t. let ih = offence-first (next x e) s t (λ d i. v d (there i)) in rw t ((p, v e (here refl), ih .0), λ h w. ih .1 (omega arith) (w .2)))
+      (λ t. let ih = firstViolation-first (next x e) s t (λ d i. v d (there i)) in rw t ((p, v e (here refl), ih .0), λ h w. ih .1 (omega arith) (w .2)))
       (λ t. rw t (p, λ h w. contra (w .2) t))

@@ -14,7 +14,7 @@ use Rattle.lists.specs.Lists.{pick, any, sum, Pairwise, more}
 use Rattle.lists.proofs.Tests.{case, or-right, and-intro, bool-ext}
 use Rattle.lists.proofs.Members.{any-in}
 use Rattle.automaton.specs.Automaton.{Automaton}
-use Rattle.automaton.specs.Pruning.{set, keep, live}
+use Rattle.automaton.specs.Pruning.{prunedSet, keep, live}
 use Rattle.automaton.specs.Counting.{N}
 use Rattle.automaton.specs.Ranking.{before, unrank}
 use Rattle.automaton.specs.Source000.{greatest, orZero, f, Goes, Solves, Safe, fgen, ext, ξ, traceFrom, nb-traces, trace}
@@ -71,13 +71,13 @@ module _ (A : Automaton) where
   f-of x u h = rw (lt-ltb (next x u) states h)
 
   -- a solution of (1) lies in every set
-  in-sets : (Ψ : ℕ → Bool) → Solves A Ψ → (k x : ℕ) → x < states → Ψ x ≡ true → set A k x ≡ true
-  unfolding set keep Solves Goes
+  in-sets : (Ψ : ℕ → Bool) → Solves A Ψ → (k x : ℕ) → x < states → Ψ x ≡ true → prunedSet A k x ≡ true
+  unfolding prunedSet keep Solves Goes
   in-sets Ψ s zero x h p = lt-ltb x states h
   in-sets Ψ s (suc k) x h p =
       let (u, y, i, q, r) = s x h .0 p in
       let (e, lt) = f-some x u y q in
-      and-intro (lt-ltb x states h) (or-right (stop x) (any-in (λ e. set A k (next x e)) i (rw e (in-sets Ψ s k y lt r))))
+      and-intro (lt-ltb x states h) (or-right (stop x) (any-in (λ e. prunedSet A k (next x e)) i (rw e (in-sets Ψ s k y lt r))))
 
   -- where no state may stop, 'The states left are live' says which states are safe
   pub live-safe : ((x : ℕ) → stop x ≡ false) → Safe A (live A)

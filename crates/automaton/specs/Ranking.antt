@@ -1,9 +1,9 @@
 -- The scenario of an index, the index of a scenario, and where a sequence is no scenario. Paper 01, 'Counting and indices'.
---   choose c rest es i == the event of es that the index i falls in, by the counts c, and `rest` for what is left of i
---   unrank A r x i    == the scenario of index i from x with r events left
---   before c es e     == the counts of the events that stand before e, together
---   rank A x s        == the index of the scenario s from x
---   offence A x s     == the place of the first event of s that isn't admitted or leads to a state not live; the length of s where there is none
+--   choose c rest es i   == the event of es that the index i falls in, by the counts c, and `rest` for what is left of i
+--   unrank A r x i       == the scenario of index i from x with r events left
+--   before c es e        == the counts of the events that stand before e, together
+--   rank A x s           == the index of the scenario s from x
+--   firstViolation A x s == the place of the first event of s that isn't admitted or leads to a state not live; the length of s where there is none
 -- Assumes nothing.
 use mathlib.Core.List.{List, [], _∷_}
 use Prim.Native.Nat.{ℕ, zero, suc, _+_, _-_}
@@ -36,6 +36,6 @@ module _ (A : Automaton) where
   rank x (e ∷ s) = before (λ d. N A (length s) (next x d)) events e + rank (next x e) s
 
   -- refusal 14: 'first event that isn't admitted or leads to a state not live'
-  unfoldable pub offence : ℕ → List ℕ → ℕ
-  offence x [] = 0
-  offence x (e ∷ s) = pick (live A (next x e)) (suc (offence (next x e) s)) 0
+  unfoldable pub firstViolation : ℕ → List ℕ → ℕ
+  firstViolation x [] = 0
+  firstViolation x (e ∷ s) = pick (live A (next x e)) (suc (firstViolation (next x e) s)) 0

@@ -1,8 +1,8 @@
 -- The shuffle, as swapping. Paper 01, 'The four calls'.
---   swap f i j        == the arrangement f with the numbers at i and at j changed over
+--   swap f i j         == the arrangement f with the numbers at i and at j changed over
 --   shuffleFrom f i ds == what is put out from place i on, the arrangement being f
---   shuffle ds        == the output for the draws ds
---   Valid n i ds      == the draws ds, for the places from i on, are valid
+--   shuffle ds         == the output for the draws ds
+--   Valid n i ds       == the draws ds, for the places from i on, are valid
 -- Assumes nothing.
 use mathlib.Core.List.{List, [], _∷_}
 use Prim.Native.Nat.{ℕ, suc, _≤_, _<_}

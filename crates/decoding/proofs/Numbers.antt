@@ -10,31 +10,31 @@ use lib.ListN.{length, getD, take, drop, drop-of-length-le, length-drop}
 use lib.Seq.{drop-cons, take-all}
 use lib.Dec.{eqb, leb, ltb}
 use borrow.Author.Tests.{eq-eqb, ne-eqb, le-leb, lt-leb, lt-ltb, le-ltb, ltb-true, ltb-false}
-use Rattle.lists.specs.Lists.{pick, place}
+use Rattle.lists.specs.Lists.{pick, indexOf}
 use Rattle.lists.proofs.Tests.{case}
-use Rattle.promises.specs.Text.{Line, rig, mon, go, other, parted, same, fields, digits, number, numbers, one, three, form, decode}
+use Rattle.promises.specs.Text.{Line, rig, mon, go, other, splitOn, same, fields, digitsValue, number, numbers, one, three, form, decode}
 use Rattle.decoding.specs.declared.Field.the-variants.{Last, More, Bad}
 use Rattle.decoding.specs.declared.Field.{Field}
 use Rattle.decoding.specs.Forms.{asField, fieldOf, prepend, numbersBy}
-use Rattle.decoding.proofs.Parts.{parted-whole, parted-first}
+use Rattle.decoding.proofs.Parts.{splitOn-whole, splitOn-first}
 
 -- ---- digits
 
 module _ (s : List ℕ) (n i : ℕ) where
-  pub digits-more : i < length s → 48 ≤ getD s i 0 → getD s i 0 ≤ 57 → digits n (drop i s) ≡ digits (10 * n + (getD s i 0 - 48)) (drop (i + 1) s)
-  unfolding digits
+  pub digits-more : i < length s → 48 ≤ getD s i 0 → getD s i 0 ≤ 57 → digitsValue n (drop i s) ≡ digitsValue (10 * n + (getD s i 0 - 48)) (drop (i + 1) s)
+  unfolding digitsValue
   digits-more h a b = rw (drop-cons s i 0 h, le-leb _ _ a, le-leb _ _ b, add-one)
 
-  pub digits-low : i < length s → getD s i 0 < 48 → digits n (drop i s) ≡ none
-  unfolding digits
+  pub digits-low : i < length s → getD s i 0 < 48 → digitsValue n (drop i s) ≡ none
+  unfolding digitsValue
   digits-low h a = rw (drop-cons s i 0 h, lt-leb _ _ a)
 
-  pub digits-high : i < length s → 48 ≤ getD s i 0 → 57 < getD s i 0 → digits n (drop i s) ≡ none
-  unfolding digits
+  pub digits-high : i < length s → 48 ≤ getD s i 0 → 57 < getD s i 0 → digitsValue n (drop i s) ≡ none
+  unfolding digitsValue
   digits-high h a b = rw (drop-cons s i 0 h, le-leb _ _ a, lt-leb _ _ b)
 
-  pub digits-end : length s ≤ i → digits n (drop i s) ≡ some n
-  unfolding digits
+  pub digits-end : length s ≤ i → digitsValue n (drop i s) ≡ some n
+  unfolding digitsValue
   digits-end h = rw (drop-of-length-le s {i = i} h)
 
 -- ---- numbers
@@ -50,7 +50,7 @@ number-long [] h = absurd (omega arith)
 number-long (a ∷ []) h = absurd (omega arith)
 number-long (a ∷ (b ∷ s)) h = go (eqb a 48) (leb (length s) 3) (lt-leb (length s) 3 (omega arith))
   where
-    go : (x y : Bool) → y ≡ false → pick x none (pick y (digits 0 (a ∷ (b ∷ s))) none) ≡ none
+    go : (x y : Bool) → y ≡ false → pick x none (pick y (digitsValue 0 (a ∷ (b ∷ s))) none) ≡ none
     go true y q = refl
     go false y q = rw q
 
@@ -60,13 +60,13 @@ number-zero [] h q = absurd (omega arith)
 number-zero (a ∷ []) h q = absurd (omega arith)
 number-zero (a ∷ (b ∷ s)) h q = rw (eq-eqb a 48 q)
 
-pub number-one : (s : List ℕ) → length s ≡ 1 → number s ≡ digits 0 s
+pub number-one : (s : List ℕ) → length s ≡ 1 → number s ≡ digitsValue 0 s
 unfolding number
 number-one [] h = absurd (omega arith)
 number-one (a ∷ []) h = refl
 number-one (a ∷ (b ∷ s)) h = absurd (omega arith)
 
-pub number-digits : (s : List ℕ) → 1 < length s → length s ≤ 5 → (getD s 0 0 ≡ 48 → ⊥) → number s ≡ digits 0 s
+pub number-digits : (s : List ℕ) → 1 < length s → length s ≤ 5 → (getD s 0 0 ≡ 48 → ⊥) → number s ≡ digitsValue 0 s
 unfolding number
 number-digits [] h k q = absurd (omega arith)
 number-digits (a ∷ []) h k q = absurd (omega arith)
@@ -75,7 +75,7 @@ number-digits (a ∷ (b ∷ s)) h k q = rw (ne-eqb a 48 q, le-leb (length s) 3 (
 -- ---- fields
 
 -- the first field, by where the first byte 9 stands
-module _ (l : List ℕ) (end : ℕ) (e : end ≡ place l 9) where
+module _ (l : List ℕ) (end : ℕ) (e : end ≡ indexOf l 9) where
   pub field-more : (n : ℕ) → some n ≡ number (take end l) → end < length l → More n (end + 1) ≡ fieldOf l
   unfolding fieldOf
   field-more n q h = rw (← e, ← q, lt-ltb _ _ h)
@@ -107,19 +107,19 @@ numbers-only f n q = rw q
 -- the numbers of the fields, by the first of them
 pub numbers-by : (l : List ℕ) → numbers (fields l) ≡ numbersBy l (fieldOf l)
 unfolding fields fieldOf
-numbers-by l = case (ltb (place l 9) (length l)) more last
+numbers-by l = case (ltb (indexOf l 9) (length l)) more last
   where
-    more : ltb (place l 9) (length l) ≡ true → numbers (parted 9 l) ≡ numbersBy l (asField (number (take (place l 9) l)) (ltb (place l 9) (length l)) (place l 9 + 1))
-    more p = rw (p, parted-first 9 l (ltb-true (place l 9) (length l) p)) (go (number (take (place l 9) l)) refl)
+    more : ltb (indexOf l 9) (length l) ≡ true → numbers (splitOn 9 l) ≡ numbersBy l (asField (number (take (indexOf l 9) l)) (ltb (indexOf l 9) (length l)) (indexOf l 9 + 1))
+    more p = rw (p, splitOn-first 9 l (ltb-true (indexOf l 9) (length l) p)) (go (number (take (indexOf l 9) l)) refl)
       where
-        go : (o : Option ℕ) → number (take (place l 9) l) ≡ o → numbers (take (place l 9) l ∷ parted 9 (drop (place l 9 + 1) l)) ≡ numbersBy l (asField o true (place l 9 + 1))
+        go : (o : Option ℕ) → number (take (indexOf l 9) l) ≡ o → numbers (take (indexOf l 9) l ∷ splitOn 9 (drop (indexOf l 9 + 1) l)) ≡ numbersBy l (asField o true (indexOf l 9 + 1))
         go none q = numbers-wrong _ _ q
         go (some n) q = numbers-cons _ _ n q
 
-    last : ltb (place l 9) (length l) ≡ false → numbers (parted 9 l) ≡ numbersBy l (asField (number (take (place l 9) l)) (ltb (place l 9) (length l)) (place l 9 + 1))
-    last p = rw (p, parted-whole 9 l (ltb-false (place l 9) (length l) p), take-all (place l 9) l (ltb-false (place l 9) (length l) p)) (go (number l) refl)
+    last : ltb (indexOf l 9) (length l) ≡ false → numbers (splitOn 9 l) ≡ numbersBy l (asField (number (take (indexOf l 9) l)) (ltb (indexOf l 9) (length l)) (indexOf l 9 + 1))
+    last p = rw (p, splitOn-whole 9 l (ltb-false (indexOf l 9) (length l) p), take-all (indexOf l 9) l (ltb-false (indexOf l 9) (length l) p)) (go (number l) refl)
       where
-        go : (o : Option ℕ) → number l ≡ o → numbers (l ∷ []) ≡ numbersBy l (asField o false (place l 9 + 1))
+        go : (o : Option ℕ) → number l ≡ o → numbers (l ∷ []) ≡ numbersBy l (asField o false (indexOf l 9 + 1))
         go none q = numbers-wrong _ _ q
         go (some n) q = numbers-only l n q
 
@@ -138,12 +138,12 @@ numbers-some l h = go (fieldOf l) (sym (numbers-by l) ∙ h)
 
 pub next-le : (l : List ℕ) (n next : ℕ) → fieldOf l ≡ More n next → next ≤ length l
 unfolding fieldOf
-next-le l n next q = go (number (take (place l 9) l)) (ltb (place l 9) (length l)) refl q
+next-le l n next q = go (number (take (indexOf l 9) l)) (ltb (indexOf l 9) (length l)) refl q
   where
-    go : (o : Option ℕ) (t : Bool) → ltb (place l 9) (length l) ≡ t → asField o t (place l 9 + 1) ≡ More n next → next ≤ length l
+    go : (o : Option ℕ) (t : Bool) → ltb (indexOf l 9) (length l) ≡ t → asField o t (indexOf l 9 + 1) ≡ More n next → next ≤ length l
     go none t p h = let z : _≡_ {A = ℕ} 0 1 = cc in absurd (omega arith)
     go (some m) false p h = let z : _≡_ {A = ℕ} 0 1 = cc in absurd (omega arith)
-    go (some m) true p h = let z : place l 9 + 1 ≡ next = cc in omega (arith, ltb-true (place l 9) (length l) p)
+    go (some m) true p h = let z : indexOf l 9 + 1 ≡ next = cc in omega (arith, ltb-true (indexOf l 9) (length l) p)
 
 -- ---- forms, by their fields
 
@@ -211,9 +211,9 @@ module _ (f : ℕ → ℕ → ℕ → Line) where
 
 -- ---- forms, by their word
 
-pub decode-first : (l : List ℕ) (end : ℕ) → end ≡ place l 9 → end < length l → decode l ≡ form (take end l ∷ fields (take (length l - (end + 1)) (drop (end + 1) l)))
+pub decode-first : (l : List ℕ) (end : ℕ) → end ≡ indexOf l 9 → end < length l → decode l ≡ form (take end l ∷ fields (take (length l - (end + 1)) (drop (end + 1) l)))
 unfolding decode fields
-decode-first l end e h = rw (rest-whole l (end + 1), e) (ap form (parted-first 9 l (rw (← e) h)))
+decode-first l end e h = rw (rest-whole l (end + 1), e) (ap form (splitOn-first 9 l (rw (← e) h)))
 
 module _ (w : List ℕ) (fs : List (List ℕ)) where
   pub form-rig : same w (114 ∷ 105 ∷ 103 ∷ []) ≡ true → form (w ∷ fs) ≡ one rig (numbers fs)
@@ -233,9 +233,9 @@ module _ (w : List ℕ) (fs : List (List ℕ)) where
   form-other p q r = rw (p, q, r)
 
 -- a word alone is no form
-pub decode-alone : (l : List ℕ) → length l ≤ place l 9 → decode l ≡ other
+pub decode-alone : (l : List ℕ) → length l ≤ indexOf l 9 → decode l ≡ other
 unfolding decode fields form numbers one three
-decode-alone l h = rw (parted-whole 9 l h) (go (same l (114 ∷ 105 ∷ 103 ∷ [])) (same l (109 ∷ 111 ∷ 110 ∷ [])) (same l (103 ∷ 111 ∷ [])))
+decode-alone l h = rw (splitOn-whole 9 l h) (go (same l (114 ∷ 105 ∷ 103 ∷ [])) (same l (109 ∷ 111 ∷ 110 ∷ [])) (same l (103 ∷ 111 ∷ [])))
   where
     go : (a b c : Bool) → pick a other (pick b other (pick c other other)) ≡ other
     go true b c = refl

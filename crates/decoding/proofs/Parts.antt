@@ -9,47 +9,47 @@ use lib.ListN.{length, getD, take, drop, drop-of-length-le}
 use lib.Seq.{drop-cons}
 use lib.Dec.{eqb}
 use borrow.Author.Tests.{eq-eqb, ne-eqb}
-use Rattle.lists.specs.Lists.{pick, place}
+use Rattle.lists.specs.Lists.{pick, indexOf}
 use Rattle.lists.proofs.Tests.{case}
-use Rattle.promises.specs.Text.{onto, parted, same}
+use Rattle.promises.specs.Text.{onto, splitOn, same}
 
 -- ---- where a byte first stands, stepped over
 
 module _ (s : List ℕ) (b i : ℕ) where
-  pub place-here : i < length s → getD s i 0 ≡ b → place (drop i s) b ≡ 0
-  unfolding place
-  place-here h q = rw (drop-cons s i 0 h, eq-eqb _ _ q)
+  pub indexOf-here : i < length s → getD s i 0 ≡ b → indexOf (drop i s) b ≡ 0
+  unfolding indexOf
+  indexOf-here h q = rw (drop-cons s i 0 h, eq-eqb _ _ q)
 
-  pub place-more : i < length s → (getD s i 0 ≡ b → ⊥) → place (drop i s) b ≡ suc (place (drop (i + 1) s) b)
-  unfolding place
-  place-more h q = rw (drop-cons s i 0 h, ne-eqb _ _ q, add-one)
+  pub indexOf-more : i < length s → (getD s i 0 ≡ b → ⊥) → indexOf (drop i s) b ≡ suc (indexOf (drop (i + 1) s) b)
+  unfolding indexOf
+  indexOf-more h q = rw (drop-cons s i 0 h, ne-eqb _ _ q, add-one)
 
-  pub place-end : length s ≤ i → place (drop i s) b ≡ 0
-  unfolding place
-  place-end h = rw (drop-of-length-le s {i = i} h)
+  pub indexOf-end : length s ≤ i → indexOf (drop i s) b ≡ 0
+  unfolding indexOf
+  indexOf-end h = rw (drop-of-length-le s {i = i} h)
 
-pub place-le : (l : List ℕ) (b : ℕ) → place l b ≤ length l
-unfolding place
-place-le [] b = omega arith
-place-le (x ∷ l) b = go (eqb x b) (place-le l b)
+pub indexOf-le : (l : List ℕ) (b : ℕ) → indexOf l b ≤ length l
+unfolding indexOf
+indexOf-le [] b = omega arith
+indexOf-le (x ∷ l) b = go (eqb x b) (indexOf-le l b)
   where
-    go : (t : Bool) → place l b ≤ length l → pick t 0 (suc (place l b)) ≤ suc (length l)
+    go : (t : Bool) → indexOf l b ≤ length l → pick t 0 (suc (indexOf l b)) ≤ suc (length l)
     go true h = omega arith
     go false h = omega arith
 
 -- ---- the pieces
 
 -- nothing parts the list
-pub parted-whole : (b : ℕ) (l : List ℕ) → length l ≤ place l b → parted b l ≡ l ∷ []
-unfolding place parted onto
-parted-whole b [] h = refl
-parted-whole b (x ∷ l) h = case (eqb x b) (λ p. let z = rw p at h in absurd (omega arith)) (λ p. let z = rw p at h in rw (p, parted-whole b l (omega arith)))
+pub splitOn-whole : (b : ℕ) (l : List ℕ) → length l ≤ indexOf l b → splitOn b l ≡ l ∷ []
+unfolding indexOf splitOn onto
+splitOn-whole b [] h = refl
+splitOn-whole b (x ∷ l) h = case (eqb x b) (λ p. let z = rw p at h in absurd (omega arith)) (λ p. let z = rw p at h in rw (p, splitOn-whole b l (omega arith)))
 
 -- the first piece, and the pieces of what follows it
-pub parted-first : (b : ℕ) (l : List ℕ) → place l b < length l → parted b l ≡ take (place l b) l ∷ parted b (drop (place l b + 1) l)
-unfolding place parted onto
-parted-first b [] h = absurd (omega arith)
-parted-first b (x ∷ l) h = case (eqb x b) (λ p. rw p) (λ p. let z = rw p at h in rw (p, parted-first b l (omega arith), add-one (place l b), add-one))
+pub splitOn-first : (b : ℕ) (l : List ℕ) → indexOf l b < length l → splitOn b l ≡ take (indexOf l b) l ∷ splitOn b (drop (indexOf l b + 1) l)
+unfolding indexOf splitOn onto
+splitOn-first b [] h = absurd (omega arith)
+splitOn-first b (x ∷ l) h = case (eqb x b) (λ p. rw p) (λ p. let z = rw p at h in rw (p, splitOn-first b l (omega arith), add-one (indexOf l b), add-one))
 
 -- ---- two lists, byte by byte
 

@@ -2,10 +2,10 @@
 ghost use mathlib.Core.Path.{_≡_};
 ghost use Prim.Native.Nat.{_<_, _≤_};
 ghost use lib.ListN.{length};
-ghost use Rattle.lists.specs.Lists.{place};
+ghost use Rattle.lists.specs.Lists.{indexOf};
 ghost use Rattle.promises.specs.Text.{rig, mon, go, one, three, numbers, fields};
 ghost use Rattle.promises.specs.Text as text;
-ghost use Rattle.decoding.specs.Forms.{valueOf, fieldOf, lineOf};
+ghost use Rattle.decoding.specs.Forms.{valueOf, fieldOf, formLine};
 
 // What a field is: a number of paper 01, or none.
 pub enum Decimal {
@@ -30,7 +30,7 @@ enum Field {
 
 // Where byte b first stands in s; the length of s where it does not.
 pub fn until(s: &[u8], b: u8) -> usize
-    ensures { λ r. ⌜ r ≡ place (now (s .entry)) b ⌝ }
+    ensures { λ r. ⌜ r ≡ indexOf (now (s .entry)) b ⌝ }
 {
     let mut i = 0;
     while i < s.len() {
@@ -60,9 +60,9 @@ fn same(a: &[u8], b: &[u8]) -> bool
 }
 
 // The number that at most five digits make.
-fn digits(field: &[u8]) -> Decimal
+fn digits_value(field: &[u8]) -> Decimal
     requires { ⌜ length (now field) ≤ 5 ⌝ }
-    ensures { λ r. ⌜ valueOf r ≡ text.digits 0 (now (field .entry)) ⌝ }
+    ensures { λ r. ⌜ valueOf r ≡ text.digitsValue 0 (now (field .entry)) ⌝ }
 {
     let mut n = 0;
     let mut i = 0;
@@ -86,7 +86,7 @@ pub fn number(field: &[u8]) -> Decimal
 {
     let n = field.len();
     if n == 1 {
-        return digits(field);
+        return digits_value(field);
     }
     if n == 0 {
         return Decimal::Wrong; // an empty field
@@ -97,7 +97,7 @@ pub fn number(field: &[u8]) -> Decimal
     if field[0] == 48 {
         return Decimal::Wrong; // a leading zero
     }
-    digits(field)
+    digits_value(field)
 }
 
 // The first field of what is left of a line.
@@ -119,7 +119,7 @@ fn read_field(rest: &[u8]) -> Field
 
 // `rig`, E
 fn rig_form(rest: &[u8]) -> Form
-    ensures { λ r. ⌜ lineOf r ≡ one rig (numbers (fields (now (rest .entry)))) ⌝ }
+    ensures { λ r. ⌜ formLine r ≡ one rig (numbers (fields (now (rest .entry)))) ⌝ }
 {
     match read_field(rest) {
         Field::Last(e) => Form::Rig(e),
@@ -130,7 +130,7 @@ fn rig_form(rest: &[u8]) -> Form
 
 // `mon`, S
 fn mon_form(rest: &[u8]) -> Form
-    ensures { λ r. ⌜ lineOf r ≡ one mon (numbers (fields (now (rest .entry)))) ⌝ }
+    ensures { λ r. ⌜ formLine r ≡ one mon (numbers (fields (now (rest .entry)))) ⌝ }
 {
     match read_field(rest) {
         Field::Last(s) => Form::Mon(s),
@@ -141,7 +141,7 @@ fn mon_form(rest: &[u8]) -> Form
 
 // `go`, s, e, t
 fn go_form(rest: &[u8]) -> Form
-    ensures { λ r. ⌜ lineOf r ≡ three go (numbers (fields (now (rest .entry)))) ⌝ }
+    ensures { λ r. ⌜ formLine r ≡ three go (numbers (fields (now (rest .entry)))) ⌝ }
 {
     let Field::More(s, a) = read_field(rest) else {
         return Form::Other;
@@ -159,7 +159,7 @@ fn go_form(rest: &[u8]) -> Form
 
 // The form that a line is.
 pub fn decode(line: &[u8]) -> Form
-    ensures { λ r. ⌜ lineOf r ≡ text.decode (now (line .entry)) ⌝ }
+    ensures { λ r. ⌜ formLine r ≡ text.decode (now (line .entry)) ⌝ }
 {
     let end = until(line, 9);
     if end < line.len() {

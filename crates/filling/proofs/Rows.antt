@@ -20,12 +20,12 @@ use Rattle.promises.specs.Rig.{rigAutomaton}
 use Rattle.promises.specs.Calls.{filled, fills, cellsAfter, outputAfter, sized, total, counted, count, countCells}
 use Rattle.promises.proofs.Buffers.{filled-at}
 use Rattle.promises.proofs.Meaning.{rig-start}
-use Rattle.opening.specs.Opening.{checkedOr, Ready, Opens}
-use Rattle.opening.specs.declared.Checked.{Checked}
-use Rattle.opening.specs.declared.Checked.the-variants.{Passed, Refused}
-use Rattle.opening.specs.declared.Opened.{Opened}
-use Rattle.filling.specs.Weighing.{weighed, Tells}
-use Rattle.filling.proofs.Weighing.{told-passed}
+use Rattle.checks.specs.Loading.{checkedOr, Ready, Loads}
+use Rattle.checks.specs.declared.Checked.{Checked}
+use Rattle.checks.specs.declared.Checked.the-variants.{Passed, Refused}
+use Rattle.checks.specs.declared.Loaded.{Loaded}
+use Rattle.filling.specs.CountCheck.{countRows, Tells}
+use Rattle.filling.proofs.CountCheck.{told-passed}
 
 -- ---- the cells
 
@@ -43,12 +43,12 @@ unfolding fills
 early-fills n p le = rw (ne-eqb n 9 (λ q. omega arith), ne-eqb n 10 (λ q. omega arith), ne-eqb n 11 (λ q. omega arith), ne-eqb n 14 (λ q. omega arith))
 
 -- 9 and 10 do, and so does what fills them by itself
-pub weighed-fills : (n : ℕ) (a : Answer) → fills a ≡ true → fills (weighed n a) ≡ true
-unfolding weighed fills
-weighed-fills n a f = case (eqb n 0) (λ q. rw q) (λ q. rw q (case (leb most n) (λ r. rw r) (λ r. rw r f)))
+pub countRows-fills : (n : ℕ) (a : Answer) → fills a ≡ true → fills (countRows n a) ≡ true
+unfolding countRows fills
+countRows-fills n a f = case (eqb n 0) (λ q. rw q) (λ q. rw q (case (leb most n) (λ r. rw r) (λ r. rw r f)))
 
 -- N and the passes, told
-pub told-count : (c n s s′ : ℕ) (k : Checked) → Tells c k → c ≡ min n most → k ≡ Passed → s ≡ s′ → served (c ∷ s ∷ []) ≡ weighed n (served (n ∷ s′ ∷ []))
+pub told-count : (c n s s′ : ℕ) (k : Checked) → Tells c k → c ≡ min n most → k ≡ Passed → s ≡ s′ → served (c ∷ s ∷ []) ≡ countRows n (served (n ∷ s′ ∷ []))
 told-count c n s s′ k t q e r = rw (t .exact e n q .0, r) (told-passed c n k (served (n ∷ s′ ∷ [])) t q e)
 
 pub cell-room : (h p n : ℕ) → 0 < p → (h + 1) * p ≤ n → h * p < n
@@ -56,7 +56,7 @@ cell-room h p n some le = omega (arith, suc-mul h p, ap (λ (i : ℕ). i * p) (a
 
 -- ---- rows 1 to 8, as the whole call sees them
 
-module _ (t : List ℕ) (h room : ℕ) (o : Opened) (op : Opens t h room o) (cells : List ℕ) (l : length cells ≡ room) where
+module _ (t : List ℕ) (h room : ℕ) (o : Loaded) (op : Loads t h room o) (cells : List ℕ) (l : length cells ≡ room) where
   -- a row up to 8 applied: its refusal is the answer, and the cells are as before
   pub early-answer : (m p : ℕ) → o .checked ≡ Refused m p → (a : Answer) → refused m p ≡ sized t h cells a
   early-answer m p e a = sym (op .answer cells a l ∙ ap (λ (k : Checked). checkedOr k a) e)
@@ -88,8 +88,8 @@ module _ (t : List ℕ) (h room : ℕ) (o : Opened) (op : Opens t h room o) (cel
     some-states = omega (arith, rig-start t (ready .readable), ready .starts, ready .joint, ap (λ (A : Automaton). A .states) (ready .automaton))
 
     -- rows 9 and 10 on the record's automaton are those on the text's
-    pub counted-is : (a : Answer) → weighed (N (recordAutomaton (o .rig)) h 0) a ≡ counted t h a
-    unfolding counted total weighed
+    pub counted-is : (a : Answer) → countRows (N (recordAutomaton (o .rig)) h 0) a ≡ counted t h a
+    unfolding counted total countRows
     counted-is a = rw (ready .automaton, ready .starts)
 
     pub total-is : N (recordAutomaton (o .rig)) h 0 ≡ total t h
@@ -101,13 +101,13 @@ module _ (t : List ℕ) (h room : ℕ) (o : Opened) (op : Opens t h room o) (cel
     unfolding cellsAfter
     passed-cells a after f q = rw (passed-answer a, f, ← ready .automaton) q
 
-    pub count-is : weighed (N (recordAutomaton (o .rig)) h 0) (served (N (recordAutomaton (o .rig)) h 0 ∷ passes (recordAutomaton (o .rig)) ∷ [])) ≡ count t h cells
+    pub count-is : countRows (N (recordAutomaton (o .rig)) h 0) (served (N (recordAutomaton (o .rig)) h 0 ∷ passes (recordAutomaton (o .rig)) ∷ [])) ≡ count t h cells
     unfolding count
     count-is = rw (passed-answer, ← ready .automaton, ← total-is) (counted-is _)
 
     pub count-cells-are : (after : List ℕ) → after ≡ filled (recordAutomaton (o .rig)) h cells → after ≡ countCells t h cells
-    unfolding countCells count counted weighed fills
-    count-cells-are after q = passed-cells (counted t h told) after (weighed-fills (total t h) told refl) q
+    unfolding countCells count counted countRows fills
+    count-cells-are after q = passed-cells (counted t h told) after (countRows-fills (total t h) told refl) q
       where
         told : Answer
         told = served (total t h ∷ passes (rigAutomaton t) ∷ [])

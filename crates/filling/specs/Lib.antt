@@ -1,2 +1,2 @@
 -- Rows 9 and 10, as one cell decides them.
-pub mod Weighing
+pub mod CountCheck

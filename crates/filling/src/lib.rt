@@ -1,5 +1,5 @@
 // A rig pruned, its table filled, and its cells counted: what the calls on a text share once the checks are passed.
-use opening::Checked;
+use checks::Checked;
 use rig::Rig;
 ghost use mathlib.Core.Path.{_≡_};
 ghost use mathlib.Core.List.{_++_};
@@ -9,7 +9,7 @@ ghost use Rattle.automaton.specs.Pruning.{passes};
 ghost use Rattle.automaton.specs.Table.{tableOf};
 ghost use Rattle.rig.specs.Record.{recordAutomaton, WellFormed};
 ghost use Rattle.promises.specs.Calls.{filled};
-ghost use Rattle.filling.specs.Weighing.{Tells};
+ghost use Rattle.filling.specs.CountCheck.{Tells};
 
 // Prunes the rig, and fills the table and the cells of rows 0 to h. Gives the number of passes.
 pub fn fill_cells(rig: Rig, states: usize, h: usize, cells: &mut [u64], table: &mut [u16]) -> usize
@@ -27,7 +27,7 @@ pub fn fill_cells(rig: Rig, states: usize, h: usize, cells: &mut [u64], table: &
 }
 
 // Rows 9 and 10, by the cell of the start.
-pub fn weigh(n: u64) -> Checked
+pub fn check_count(n: u64) -> Checked
     ensures { λ c. ⌜ Tells n c ⌝ }
 {
     if n == 0 {

@@ -7,11 +7,11 @@ use native.Mathlib.Omega.{arith}
 use lib.ListN.{length}
 use lib.Dec.{ltb, leb}
 use borrow.Author.Tests.{ltb-false, lt-ltb, le-ltb}
-use Rattle.lists.specs.Lists.{pick, each}
+use Rattle.lists.specs.Lists.{pick, concatMap}
 use Rattle.lists.proofs.Tests.{contra, case}
 use Rattle.automaton.specs.Automaton.{Automaton}
 use Rattle.automaton.specs.Counting.{N, most}
-use Rattle.automaton.specs.Ranking.{unrank, rank, offence}
+use Rattle.automaton.specs.Ranking.{unrank, rank, firstViolation}
 use Rattle.rig.specs.Record.{recordAutomaton}
 use Rattle.promises.specs.Answer.{Answer, served, refused, unless}
 use Rattle.promises.specs.Text.{decoded, eventsOf}
@@ -21,14 +21,14 @@ use Rattle.ranking.specs.Ranks.{IndicesBelow, EventsBelow, notBelow, rankedAs, 
 use Rattle.ranking.proofs.Premises.{served-fresh}
 use Rattle.ranking.proofs.Walk.{good-all}
 use Rattle.ranking.specs.declared.Ranked.{Ranked}
-use Rattle.ranking.specs.declared.Ranked.the-variants.{Index, Offence}
-use Rattle.opening.specs.Opening.{Opens}
-use Rattle.opening.specs.declared.Checked.{Checked}
-use Rattle.opening.specs.declared.Checked.the-variants.{Passed}
-use Rattle.opening.specs.declared.Opened.{Opened}
-use Rattle.filling.specs.Weighing.{weighed, Tells}
-use Rattle.filling.proofs.Weighing.{told-passed}
-use Rattle.filling.proofs.Rows.{weighed-fills, passed-answer, counted-is, total-is, passed-cells}
+use Rattle.ranking.specs.declared.Ranked.the-variants.{Index, Violation}
+use Rattle.checks.specs.Loading.{Loads}
+use Rattle.checks.specs.declared.Checked.{Checked}
+use Rattle.checks.specs.declared.Checked.the-variants.{Passed}
+use Rattle.checks.specs.declared.Loaded.{Loaded}
+use Rattle.filling.specs.CountCheck.{countRows, Tells}
+use Rattle.filling.proofs.CountCheck.{told-passed}
+use Rattle.filling.proofs.Rows.{countRows-fills, passed-answer, counted-is, total-is, passed-cells}
 use Rattle.generator.specs.Outcomes.{notEvent}
 
 -- ---- Scenarios
@@ -44,7 +44,7 @@ listed-good n k is q le = rw (← q, le-ltb k (length is) le)
 
 -- what is written where the list is served
 pub listed-output : (A : Automaton) (h n k : ℕ) (is out after : List ℕ) → n ≡ N A h 0 → k ≡ firstBad (notBelow n) is → length is ≤ k
-    → after ≡ pick (ltb k (length is)) out (withScenarios A h 0 is out) → after ≡ outputAfter (served []) (each (unrank A h 0) is) out
+    → after ≡ pick (ltb k (length is)) out (withScenarios A h 0 is out) → after ≡ outputAfter (served []) (concatMap (unrank A h 0) is) out
 unfolding outputAfter
 listed-output A h n k is out after e q le w =
     w ∙ rw (le-ltb k (length is) le) (served-fresh A h 0 is out (subst (λ (m : ℕ). IndicesBelow m is) e (good-all n is (rw q at le))))
@@ -54,12 +54,12 @@ listed-kept A h k is out after lt w = w ∙ rw (lt-ltb k (length is) lt)
 
 -- refusal 11, or served, as the walker's place says; the cell is N
 pub listed-told-bad : (c n k : ℕ) (j : Checked) (is : List ℕ) → Tells c j → c ≡ min n most → j ≡ Passed → k ≡ firstBad (notBelow c) is → k < length is
-    → refused 11 k ≡ weighed n (unlessAt 11 (notBelow n) is (served []))
+    → refused 11 k ≡ countRows n (unlessAt 11 (notBelow n) is (served []))
 listed-told-bad c n k j is t q e f lt =
     listed-bad n k is (f ∙ ap (λ (m : ℕ). firstBad (notBelow m) is) (t .exact e n q .0)) lt ∙ told-passed c n j (unlessAt 11 (notBelow n) is (served [])) t q e
 
 pub listed-told-good : (c n k : ℕ) (j : Checked) (is : List ℕ) → Tells c j → c ≡ min n most → j ≡ Passed → k ≡ firstBad (notBelow c) is → length is ≤ k
-    → served [] ≡ weighed n (unlessAt 11 (notBelow n) is (served []))
+    → served [] ≡ countRows n (unlessAt 11 (notBelow n) is (served []))
 listed-told-good c n k j is t q e f le =
     listed-good n k is (f ∙ ap (λ (m : ℕ). firstBad (notBelow m) is) (t .exact e n q .0)) le ∙ told-passed c n j (unlessAt 11 (notBelow n) is (served [])) t q e
 
@@ -67,29 +67,29 @@ listed-told-good c n k j is t q e f le =
 
 -- refusal 14, or the index, as ranking tells it
 abbrev pub located : Automaton → List ℕ → Answer
-located A s = unless 14 (offence A 0 s) (ltb (offence A 0 s) (length s)) (served (rank A 0 s ∷ []))
+located A s = unless 14 (firstViolation A 0 s) (ltb (firstViolation A 0 s) (length s)) (served (rank A 0 s ∷ []))
 
 located-index : (A : Automaton) (s : List ℕ) (i : ℕ) → rankedAs A 0 s ≡ Index i → served (i ∷ []) ≡ located A s
 unfolding rankedAs
 located-index A s i q =
-    case (ltb (offence A 0 s) (length s))
-    (λ b. let w : Offence (offence A 0 s) ≡ Index i = rw b at q in let z : _≡_ {A = ℕ} 0 1 = cc in absurd (omega arith))
+    case (ltb (firstViolation A 0 s) (length s))
+    (λ b. let w : Violation (firstViolation A 0 s) ≡ Index i = rw b at q in let z : _≡_ {A = ℕ} 0 1 = cc in absurd (omega arith))
     (λ b. rw b (let w : Index (rank A 0 s) ≡ Index i = rw b at q in cc))
 
-located-offence : (A : Automaton) (s : List ℕ) (k : ℕ) → rankedAs A 0 s ≡ Offence k → refused 14 k ≡ located A s
+located-violation : (A : Automaton) (s : List ℕ) (k : ℕ) → rankedAs A 0 s ≡ Violation k → refused 14 k ≡ located A s
 unfolding rankedAs
-located-offence A s k q =
-    case (ltb (offence A 0 s) (length s))
-    (λ b. rw b (let w : Offence (offence A 0 s) ≡ Offence k = rw b at q in cc))
-    (λ b. let w : Index (rank A 0 s) ≡ Offence k = rw b at q in let z : _≡_ {A = ℕ} 0 1 = cc in absurd (omega arith))
+located-violation A s k q =
+    case (ltb (firstViolation A 0 s) (length s))
+    (λ b. rw b (let w : Violation (firstViolation A 0 s) ≡ Violation k = rw b at q in cc))
+    (λ b. let w : Index (rank A 0 s) ≡ Violation k = rw b at q in let z : _≡_ {A = ℕ} 0 1 = cc in absurd (omega arith))
 
 pub told-index : (c n : ℕ) (j : Checked) (A : Automaton) (s : List ℕ) (r : Ranked) (i : ℕ) → Tells c j → c ≡ min n most → j ≡ Passed → r ≡ rankedAs A 0 s → r ≡ Index i
-    → served (i ∷ []) ≡ weighed n (unless 14 (offence A 0 s) (ltb (offence A 0 s) (length s)) (served (rank A 0 s ∷ [])))
+    → served (i ∷ []) ≡ countRows n (unless 14 (firstViolation A 0 s) (ltb (firstViolation A 0 s) (length s)) (served (rank A 0 s ∷ [])))
 told-index c n j A s r i t q e f g = located-index A s i (sym f ∙ g) ∙ told-passed c n j (located A s) t q e
 
-pub told-offence : (c n : ℕ) (j : Checked) (A : Automaton) (s : List ℕ) (r : Ranked) (k : ℕ) → Tells c j → c ≡ min n most → j ≡ Passed → r ≡ rankedAs A 0 s → r ≡ Offence k
-    → refused 14 k ≡ weighed n (unless 14 (offence A 0 s) (ltb (offence A 0 s) (length s)) (served (rank A 0 s ∷ [])))
-told-offence c n j A s r k t q e f g = located-offence A s k (sym f ∙ g) ∙ told-passed c n j (located A s) t q e
+pub told-violation : (c n : ℕ) (j : Checked) (A : Automaton) (s : List ℕ) (r : Ranked) (k : ℕ) → Tells c j → c ≡ min n most → j ≡ Passed → r ≡ rankedAs A 0 s → r ≡ Violation k
+    → refused 14 k ≡ countRows n (unless 14 (firstViolation A 0 s) (ltb (firstViolation A 0 s) (length s)) (served (rank A 0 s ∷ [])))
+told-violation c n j A s r k t q e f g = located-violation A s k (sym f ∙ g) ∙ told-passed c n j (located A s) t q e
 
 pub events-below : (E k : ℕ) (s : List ℕ) → k ≡ firstBad (notEvent E) s → length s ≤ k → EventsBelow E s
 unfolding EventsBelow IndicesBelow
@@ -107,11 +107,11 @@ at-11 : (n : ℕ) (is : List ℕ) → fills (unlessAt 11 (notBelow n) is (served
 unfolding unlessAt fills
 at-11 n is = case (ltb (firstBad (notBelow n) is) (length is)) (λ p. rw p) (λ p. rw p)
 
-at-14 : (A : Automaton) (x : ℕ) (s : List ℕ) → fills (unless 14 (offence A x s) (ltb (offence A x s) (length s)) (served (rank A x s ∷ []))) ≡ true
+at-14 : (A : Automaton) (x : ℕ) (s : List ℕ) → fills (unless 14 (firstViolation A x s) (ltb (firstViolation A x s) (length s)) (served (rank A x s ∷ []))) ≡ true
 unfolding fills
-at-14 A x s = case (ltb (offence A x s) (length s)) (λ p. rw p) (λ p. rw p)
+at-14 A x s = case (ltb (firstViolation A x s) (length s)) (λ p. rw p) (λ p. rw p)
 
-module _ (t : List ℕ) (h room : ℕ) (o : Opened) (op : Opens t h room o) (cells : List ℕ) (l : length cells ≡ room) (e : o .checked ≡ Passed) (is out : List ℕ) where
+module _ (t : List ℕ) (h room : ℕ) (o : Loaded) (op : Loads t h room o) (cells : List ℕ) (l : length cells ≡ room) (e : o .checked ≡ Passed) (is out : List ℕ) where
   abbrev listing : Answer
   listing = counted t h (unlessAt 11 (λ p i. leb (total t h) i) is (served []))
 
@@ -129,20 +129,20 @@ module _ (t : List ℕ) (h room : ℕ) (o : Opened) (op : Opens t h room o) (cel
   short-written q = rw (← short-output q)
 
   module _ (fit : length is * h ≤ length out) where
-    pub scenarios-are : weighed (N (recordAutomaton (o .rig)) h 0) (unlessAt 11 (notBelow (N (recordAutomaton (o .rig)) h 0)) is (served [])) ≡ scenarios t h is cells out
+    pub scenarios-are : countRows (N (recordAutomaton (o .rig)) h 0) (unlessAt 11 (notBelow (N (recordAutomaton (o .rig)) h 0)) is (served [])) ≡ scenarios t h is cells out
     unfolding scenarios
     scenarios-are = rw (passed-answer t h room o op cells l e, le-ltb (length out) (length is * h) fit, total-is t h room o op cells l e) (rw (← total-is t h room o op cells l e) (counted-is t h room o op cells l e _))
 
     pub scenarios-cells-are : (after : List ℕ) → after ≡ filled (recordAutomaton (o .rig)) h cells → after ≡ scenariosCells t h is cells out
-    unfolding scenariosCells scenarios counted weighed
+    unfolding scenariosCells scenarios counted countRows
     scenarios-cells-are after q =
-        passed-cells t h room o op cells l e _ after (rw (le-ltb (length out) (length is * h) fit) (weighed-fills (total t h) _ (at-11 (total t h) is))) q
+        passed-cells t h room o op cells l e _ after (rw (le-ltb (length out) (length is * h) fit) (countRows-fills (total t h) _ (at-11 (total t h) is))) q
 
-    pub written-are : (a : Answer) (after : List ℕ) → a ≡ scenarios t h is cells out → after ≡ outputAfter a (each (unrank (recordAutomaton (o .rig)) h 0) is) out → after ≡ written t h is cells out
+    pub written-are : (a : Answer) (after : List ℕ) → a ≡ scenarios t h is cells out → after ≡ outputAfter a (concatMap (unrank (recordAutomaton (o .rig)) h 0) is) out → after ≡ written t h is cells out
     unfolding written
     written-are a after f q = rw (← f, ← op .ready e .automaton, op .ready e .starts) q
 
-module _ (t s : List ℕ) (room : ℕ) (o : Opened) (op : Opens t (length s) room o) (cells : List ℕ) (l : length cells ≡ room) (e : o .checked ≡ Passed) where
+module _ (t s : List ℕ) (room : ℕ) (o : Loaded) (op : Loads t (length s) room o) (cells : List ℕ) (l : length cells ≡ room) (e : o .checked ≡ Passed) where
   -- 13
   bad-event : (k : ℕ) (a : Answer) → k ≡ firstBad (notEvent (o .rig .events)) s → k < length s → refused 13 k ≡ unlessAt 13 (notEvent (eventsOf (decoded t))) s a
   unfolding unlessAt
@@ -161,16 +161,16 @@ module _ (t s : List ℕ) (room : ℕ) (o : Opened) (op : Opens t (length s) roo
     unfolding unlessAt
     good-events a = rw (← op .ready e .events, ← q, le-ltb k (length s) le)
 
-    pub index-is : weighed (N (recordAutomaton (o .rig)) (length s) 0) (located (recordAutomaton (o .rig)) s) ≡ index t s cells
+    pub index-is : countRows (N (recordAutomaton (o .rig)) (length s) 0) (located (recordAutomaton (o .rig)) s) ≡ index t s cells
     unfolding index
     index-is =
         counted-is t (length s) room o op cells l e (located (recordAutomaton (o .rig)) s)
         ∙ rw (op .ready e .automaton, ← op .ready e .starts) (sym (passed-answer t (length s) room o op cells l e _ ∙ good-events _))
 
     pub index-cells-are : (after : List ℕ) → after ≡ filled (recordAutomaton (o .rig)) (length s) cells → after ≡ indexCells t s cells
-    unfolding indexCells index counted weighed
+    unfolding indexCells index counted countRows
     index-cells-are after f =
-        passed-cells t (length s) room o op cells l e _ after (rw (good-events) (weighed-fills (total t (length s)) _ (at-14 (rigAutomaton t) (start t) s))) f
+        passed-cells t (length s) room o op cells l e _ after (rw (good-events) (countRows-fills (total t (length s)) _ (at-14 (rigAutomaton t) (start t) s))) f
 
 pub exact-few : (c n : ℕ) → c ≡ n → n < most → c < most
 exact-few c n q lt = omega arith

@@ -1,5 +1,5 @@
 // The four calls. Each reads what it is lent, refuses what it can't serve, and ends; none asks anything of its caller.
-use opening::Checked;
+use checks::Checked;
 use ranking::Ranked;
 use rig::Rig;
 use shuffle::Shuffled;
@@ -8,17 +8,17 @@ ghost use mathlib.Core.List.{List, [], _∷_};
 ghost use Prim.Native.Nat.{ℕ, _+_, _*_, _<_, _≤_, min};
 ghost use lib.ListN.{length};
 ghost use lib.Dec.{ltb, leb};
-ghost use Rattle.lists.specs.Lists.{each};
+ghost use Rattle.lists.specs.Lists.{concatMap};
 ghost use Rattle.automaton.specs.Pruning.{passes};
 ghost use Rattle.automaton.specs.Counting.{N};
-ghost use Rattle.automaton.specs.Ranking.{unrank, rank, offence};
+ghost use Rattle.automaton.specs.Ranking.{unrank, rank, firstViolation};
 ghost use Rattle.rig.specs.Record.{recordAutomaton, WellFormed};
 ghost use Rattle.promises.specs.Answer.{served, unless};
 ghost use Rattle.promises.specs.Calls.{filled, firstBad, unlessAt, outputAfter, ScratchKept};
 ghost use Rattle.promises.specs.Calls as promised;
 ghost use Rattle.ranking.specs.Ranks.{EventsBelow, notBelow};
 ghost use Rattle.shuffle.specs.Outcome.{answerOf as shuffleAnswer};
-ghost use Rattle.filling.specs.Weighing.{weighed};
+ghost use Rattle.filling.specs.CountCheck.{countRows};
 ghost use Rattle.generator.specs.Outcomes.{countAnswer, listAnswer, indexAnswer, notEvent};
 
 // What Count answers: N and the passes, or a refusal's number and place.
@@ -55,13 +55,13 @@ fn first_not_event(sequence: &[u8], events: usize) -> usize
 fn count_cells(rig: Rig, states: usize, h: usize, cells: &mut [u64]) -> Counted
     requires { ⌜ WellFormed rig ⌝ }
     requires { ⌜ (states ≡ recordAutomaton rig .states) × (0 < states) × (h ≤ 1000) × ((h + 1) * states ≤ length (now cells)) ⌝ }
-    ensures { λ r. ⌜ countAnswer r ≡ weighed (N (recordAutomaton rig) h 0) (served (N (recordAutomaton rig) h 0 ∷ passes (recordAutomaton rig) ∷ [])) ⌝ }
+    ensures { λ r. ⌜ countAnswer r ≡ countRows (N (recordAutomaton rig) h 0) (served (N (recordAutomaton rig) h 0 ∷ passes (recordAutomaton rig) ∷ [])) ⌝ }
     ensures { λ _. ⌜ now (cells .exit) ≡ filled (recordAutomaton rig) h (now (cells .entry)) ⌝ }
 {
     let mut table = [0u16; 16384];
     let passes = filling::fill_cells(rig, states, h, cells, &mut table);
     let n = cells[h * states];
-    match filling::weigh(n) {
+    match filling::check_count(n) {
         Checked::Refused(number, place) => Counted::Refused(number, place),
         Checked::Passed => Counted::Served(n, passes as u64),
     }
@@ -72,7 +72,7 @@ pub fn count(text: &[u8], h: u64, cells: &mut [u64]) -> Counted
     ensures { λ r. ⌜ countAnswer r ≡ promised.count (now (text .entry)) h (now (cells .entry)) ⌝ }
     ensures { λ _. ⌜ now (cells .exit) ≡ promised.countCells (now (text .entry)) h (now (cells .entry)) ⌝ }
 {
-    let o = opening::open(text, h, cells.len());
+    let o = checks::load(text, h, cells.len());
     let checked = o.checked;
     let rig = o.rig;
     match checked {
@@ -92,14 +92,14 @@ fn list_cells(
 ) -> Listed
     requires { ⌜ WellFormed rig ⌝ }
     requires { ⌜ (states ≡ recordAutomaton rig .states) × (0 < states) × (h ≤ 1000) × ((h + 1) * states ≤ length (now cells)) × (length (now list) * h ≤ length (now out)) ⌝ }
-    ensures { λ r. ⌜ listAnswer r ≡ weighed (N (recordAutomaton rig) h 0) (unlessAt 11 (notBelow (N (recordAutomaton rig) h 0)) (now (list .entry)) (served [])) ⌝ }
+    ensures { λ r. ⌜ listAnswer r ≡ countRows (N (recordAutomaton rig) h 0) (unlessAt 11 (notBelow (N (recordAutomaton rig) h 0)) (now (list .entry)) (served [])) ⌝ }
     ensures { λ _. ⌜ now (cells .exit) ≡ filled (recordAutomaton rig) h (now (cells .entry)) ⌝ }
-    ensures { λ r. ⌜ now (out .exit) ≡ outputAfter (listAnswer r) (each (unrank (recordAutomaton rig) h 0) (now (list .entry))) (now (out .entry)) ⌝ }
+    ensures { λ r. ⌜ now (out .exit) ≡ outputAfter (listAnswer r) (concatMap (unrank (recordAutomaton rig) h 0) (now (list .entry))) (now (out .entry)) ⌝ }
 {
     let mut table = [0u16; 16384];
     let _passes = filling::fill_cells(rig, states, h, cells, &mut table);
     let n = cells[h * states];
-    match filling::weigh(n) {
+    match filling::check_count(n) {
         Checked::Refused(number, place) => Listed::Refused(number, place),
         Checked::Passed => {
             let at = ranking::unrank_list(cells, &table, states, 0, h, n, list, out);
@@ -117,7 +117,7 @@ pub fn scenarios(text: &[u8], h: u64, list: &[u64], cells: &mut [u64], out: &mut
     ensures { λ _. ⌜ now (cells .exit) ≡ promised.scenariosCells (now (text .entry)) h (now (list .entry)) (now (cells .entry)) (now (out .entry)) ⌝ }
     ensures { λ _. ⌜ now (out .exit) ≡ promised.written (now (text .entry)) h (now (list .entry)) (now (cells .entry)) (now (out .entry)) ⌝ }
 {
-    let o = opening::open(text, h, cells.len());
+    let o = checks::load(text, h, cells.len());
     let checked = o.checked;
     let rig = o.rig;
     match checked {
@@ -136,20 +136,20 @@ fn index_cells(rig: Rig, states: usize, sequence: &[u8], cells: &mut [u64]) -> I
     requires { ⌜ WellFormed rig ⌝ }
     requires { ⌜ (states ≡ recordAutomaton rig .states) × (0 < states) × (length (now sequence) ≤ 1000) × ((length (now sequence) + 1) * states ≤ length (now cells)) ⌝ }
     requires { ⌜ EventsBelow (rig .events) (now sequence) ⌝ }
-    ensures { λ r. ⌜ indexAnswer r ≡ weighed (N (recordAutomaton rig) (length (now (sequence .entry))) 0) (unless 14 (offence (recordAutomaton rig) 0 (now (sequence .entry))) (ltb (offence (recordAutomaton rig) 0 (now (sequence .entry))) (length (now (sequence .entry)))) (served (rank (recordAutomaton rig) 0 (now (sequence .entry)) ∷ []))) ⌝ }
+    ensures { λ r. ⌜ indexAnswer r ≡ countRows (N (recordAutomaton rig) (length (now (sequence .entry))) 0) (unless 14 (firstViolation (recordAutomaton rig) 0 (now (sequence .entry))) (ltb (firstViolation (recordAutomaton rig) 0 (now (sequence .entry))) (length (now (sequence .entry)))) (served (rank (recordAutomaton rig) 0 (now (sequence .entry)) ∷ []))) ⌝ }
     ensures { λ _. ⌜ now (cells .exit) ≡ filled (recordAutomaton rig) (length (now (sequence .entry))) (now (cells .entry)) ⌝ }
 {
     let h = sequence.len();
     let mut table = [0u16; 16384];
     let _passes = filling::fill_cells(rig, states, h, cells, &mut table);
     let n = cells[h * states];
-    match filling::weigh(n) {
+    match filling::check_count(n) {
         Checked::Refused(number, place) => Indexed::Refused(number, place),
         Checked::Passed => {
             let ranked = ranking::rank(cells, &table, states, rig.events, 0, sequence);
             match ranked {
                 Ranked::Index(i) => Indexed::Served(i),
-                Ranked::Offence(k) => Indexed::Refused(14, k as u64),
+                Ranked::Violation(k) => Indexed::Refused(14, k as u64),
             }
         }
     }
@@ -161,7 +161,7 @@ pub fn index(text: &[u8], sequence: &[u8], cells: &mut [u64]) -> Indexed
     ensures { λ _. ⌜ now (cells .exit) ≡ promised.indexCells (now (text .entry)) (now (sequence .entry)) (now (cells .entry)) ⌝ }
 {
     let h = sequence.len();
-    let o = opening::open(text, h as u64, cells.len());
+    let o = checks::load(text, h as u64, cells.len());
     let checked = o.checked;
     let rig = o.rig;
     match checked {

@@ -7,7 +7,7 @@ use native.Mathlib.Omega.{arith}
 use native.Mathlib.Nat.{add-zero}
 use lib.ListN.{length, getD, set, take, drop, length-append, take-append-drop}
 use lib.Seq.{take-append-seam, drop-append-add, drop-drop, set-split, append-snoc, take-suc, length-take-le}
-use Rattle.lists.specs.Lists.{each}
+use Rattle.lists.specs.Lists.{concatMap}
 use Rattle.lists.proofs.Fronts.{front-put, front-more}
 use Rattle.decimal.specs.Decimal.{decimal}
 use Rattle.line.specs.Line.{field, placed, lineOf, numbersOf}
@@ -38,10 +38,10 @@ field-placed n at out last h back = whole (at + 1) (sym k) back ∙ ap₂ (λ (l
         → take m (set out at 9) ++ (last ++ drop (length (set out at 9) - m) (drop m (set out at 9))) ≡ (s ++ decimal n) ++ drop (length (s ++ decimal n)) out
     whole m q b = rw q (front-more s out (decimal n) (set out at 9) last e (rw (← q) b))
 
-pub each-take : (f : ℕ → List ℕ) (l : List ℕ) (k : ℕ) → k < length l → each f (take (suc k) l) ≡ each f (take k l) ++ f (getD l k 0)
-each-take f [] k h = absurd (omega arith)
-each-take f (x ∷ l) zero h = append-nil (f x)
-each-take f (x ∷ l) (suc k) h = rw (each-take f l k (omega arith)) (sym (append-assoc (f x) (each f (take k l)) (f (getD l k 0))))
+pub concatMap-take : (f : ℕ → List ℕ) (l : List ℕ) (k : ℕ) → k < length l → concatMap f (take (suc k) l) ≡ concatMap f (take k l) ++ f (getD l k 0)
+concatMap-take f [] k h = absurd (omega arith)
+concatMap-take f (x ∷ l) zero h = append-nil (f x)
+concatMap-take f (x ∷ l) (suc k) h = rw (concatMap-take f l k (omega arith)) (sym (append-assoc (f x) (concatMap f (take k l)) (f (getD l k 0))))
 
 -- one byte more of a word
 pub word-more : (word d out : List ℕ) (k : ℕ) → k < length word → k < length d → out ≡ take k word ++ drop k d → set out k (getD word k 0) ≡ take (k + 1) word ++ drop (k + 1) d
@@ -62,13 +62,13 @@ placed-more s t d at h =
     ∙ ap₂ (λ (l : List ℕ) (m : ℕ). l ++ drop m d) (append-assoc (take at d) s t) r
 
 module _ (events : List ℕ) (k : ℕ) (lt : k < length events) where
-  pub length-fields : length (each field (take (k + 1) events)) ≡ length (each field (take k events)) + length (field (getD events k 0))
-  length-fields = rw (add-one k, each-take field events k lt, length-append)
+  pub length-fields : length (concatMap field (take (k + 1) events)) ≡ length (concatMap field (take k events)) + length (field (getD events k 0))
+  length-fields = rw (add-one k, concatMap-take field events k lt, length-append)
 
   -- one event more
-  pub fields-more : (d out : List ℕ) (at end : ℕ) → at ≤ length d → end ≡ at + length (each field (take k events)) → out ≡ placed (each field (take k events)) at d
-      → placed (field (getD events k 0)) end out ≡ placed (each field (take (k + 1) events)) at d
-  fields-more d out at end h e q = rw (e, q, add-one k, each-take field events k lt) (placed-more (each field (take k events)) (field (getD events k 0)) d at h)
+  pub fields-more : (d out : List ℕ) (at end : ℕ) → at ≤ length d → end ≡ at + length (concatMap field (take k events)) → out ≡ placed (concatMap field (take k events)) at d
+      → placed (field (getD events k 0)) end out ≡ placed (concatMap field (take (k + 1) events)) at d
+  fields-more d out at end h e q = rw (e, q, add-one k, concatMap-take field events k lt) (placed-more (concatMap field (take k events)) (field (getD events k 0)) d at h)
 
 -- ---- whole lines
 
@@ -80,13 +80,13 @@ ended s d out end h e q = (omega (arith, length-append s (10 ∷ [])), rw (e, q)
 pub line-written : (index : ℕ) (events d out out′ : List ℕ) (from end : ℕ)
     → end < length d
     → from ≡ length (decimal index) → out ≡ decimal index ++ drop (length (decimal index)) d
-    → end ≡ from + length (each field events) → out′ ≡ placed (each field events) from out
+    → end ≡ from + length (concatMap field events) → out′ ≡ placed (concatMap field events) from out
     → (end + 1 ≡ length (lineOf index events)) × (set out′ end 10 ≡ lineOf index events ++ drop (length (lineOf index events)) d)
 unfolding lineOf
 line-written index events d out out′ from end h f q e q′ =
-    let l = length-append (decimal index) (each field events) in
-    ended (decimal index ++ each field events) d out′ end (omega (arith, l)) (omega (arith, l))
-    (q′ ∙ front-placed (decimal index) (each field events) d out from f q)
+    let l = length-append (decimal index) (concatMap field events) in
+    ended (decimal index ++ concatMap field events) d out′ end (omega (arith, l)) (omega (arith, l))
+    (q′ ∙ front-placed (decimal index) (concatMap field events) d out from f q)
 
 pub numbers-written : (word d out out′ out″ : List ℕ) (a b from next end : ℕ)
     → end < length d

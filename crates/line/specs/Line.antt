@@ -7,7 +7,7 @@
 use mathlib.Core.List.{List, [], _∷_, _++_}
 use Prim.Native.Nat.{ℕ, _+_}
 use lib.ListN.{length, take, drop}
-use Rattle.lists.specs.Lists.{each}
+use Rattle.lists.specs.Lists.{concatMap}
 use Rattle.decimal.specs.Decimal.{decimal}
 
 abbrev pub field : ℕ → List ℕ
@@ -15,7 +15,7 @@ field n = 9 ∷ decimal n
 
 -- 'a line of the index and its events, all parted by byte 9'
 unfoldable pub lineOf : ℕ → List ℕ → List ℕ
-lineOf index events = decimal index ++ each field events ++ 10 ∷ []
+lineOf index events = decimal index ++ concatMap field events ++ 10 ∷ []
 
 -- '`count`, N, passes' and '`no`, number, place'
 unfoldable pub numbersOf : List ℕ → ℕ → ℕ → List ℕ

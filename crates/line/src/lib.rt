@@ -3,7 +3,7 @@ ghost use mathlib.Core.Path.{_≡_};
 ghost use mathlib.Core.List.{_++_};
 ghost use Prim.Native.Nat.{_+_, _*_, _≤_};
 ghost use lib.ListN.{length, drop};
-ghost use Rattle.lists.specs.Lists.{each};
+ghost use Rattle.lists.specs.Lists.{concatMap};
 ghost use Rattle.decimal.specs.Decimal.{decimal};
 ghost use Rattle.line.specs.Line.{field, placed, lineOf, numbersOf};
 
@@ -21,8 +21,8 @@ fn write_field(n: u64, at: usize, out: &mut [u8]) -> usize
 // Writes byte 9 and the digits of each event from `at` on, one event after the other, and gives where they end.
 fn write_fields(events: &[u8], at: usize, out: &mut [u8]) -> usize
     requires { ⌜ at + 4 * length (now events) ≤ length (now out) ⌝ }
-    ensures { λ r. ⌜ (r ≡ at + length (each field (now (events .entry)))) × (r ≤ at + 4 * length (now (events .entry))) ⌝ }
-    ensures { λ _. ⌜ now (out .exit) ≡ placed (each field (now (events .entry))) at (now (out .entry)) ⌝ }
+    ensures { λ r. ⌜ (r ≡ at + length (concatMap field (now (events .entry)))) × (r ≤ at + 4 * length (now (events .entry))) ⌝ }
+    ensures { λ _. ⌜ now (out .exit) ≡ placed (concatMap field (now (events .entry))) at (now (out .entry)) ⌝ }
 {
     let mut end = at;
     for k in 0..events.len() {

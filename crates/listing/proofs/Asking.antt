@@ -10,7 +10,7 @@ use lib.ListN.{length, getD, take, drop, length-take, length-drop}
 use lib.Seq.{take-all}
 use lib.Dec.{eqb}
 use borrow.Author.Tests.{lt-ltb, le-ltb, eq-eqb, ne-eqb}
-use Rattle.lists.specs.Lists.{place}
+use Rattle.lists.specs.Lists.{indexOf}
 use Rattle.lists.proofs.Tests.{contra, split}
 use Rattle.promises.specs.Text.{same, number}
 use Rattle.decoding.specs.Forms.{valueOf}
@@ -70,15 +70,15 @@ pub asked-nothing : (l : List ℕ) → same (take 4 l) word ≡ false → none �
 unfolding askedIn
 asked-nothing l q = rw q
 
-module _ (input : List ℕ) (end : ℕ) (e : end ≡ place input 10) where
-  pub ask-good : end < length input → (d : Decimal) (h : ℕ) → valueOf d ≡ askedIn (take end input) → d ≡ Value h → Horizon h (end + 1) ≡ askedAs (asked input) (place input 10 + 1)
+module _ (input : List ℕ) (end : ℕ) (e : end ≡ indexOf input 10) where
+  pub ask-good : end < length input → (d : Decimal) (h : ℕ) → valueOf d ≡ askedIn (take end input) → d ≡ Value h → Horizon h (end + 1) ≡ askedAs (asked input) (indexOf input 10 + 1)
   unfolding asked firstLine
   ask-good lt d h v q = rw (← e, lt-ltb end (length input) lt, ← v, q)
 
-  pub ask-bad : end < length input → (d : Decimal) → valueOf d ≡ askedIn (take end input) → d ≡ Wrong → Bad ≡ askedAs (asked input) (place input 10 + 1)
+  pub ask-bad : end < length input → (d : Decimal) → valueOf d ≡ askedIn (take end input) → d ≡ Wrong → Bad ≡ askedAs (asked input) (indexOf input 10 + 1)
   unfolding asked firstLine
   ask-bad lt d v q = rw (← e, lt-ltb end (length input) lt, ← v, q)
 
-  pub ask-unended : length input ≤ end → Bad ≡ askedAs (asked input) (place input 10 + 1)
+  pub ask-unended : length input ≤ end → Bad ≡ askedAs (asked input) (indexOf input 10 + 1)
   unfolding asked
   ask-unended le = rw (← e, le-ltb end (length input) le)

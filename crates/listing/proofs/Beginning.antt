@@ -10,7 +10,7 @@ use native.Mathlib.Numerals.{add-one}
 use lib.ListN.{length, take, drop, length-replicate, length-drop, length-append}
 use lib.Seq.{take-all, take-at}
 use borrow.Author.Tests.{le-ltb}
-use Rattle.lists.specs.Lists.{place}
+use Rattle.lists.specs.Lists.{indexOf}
 use Rattle.lists.proofs.Tests.{split}
 use Rattle.automaton.specs.Automaton.{Automaton}
 use Rattle.automaton.specs.Counting.{N, most}
@@ -21,13 +21,13 @@ use Rattle.promises.specs.Calls.{filled, cellsAfter, sized, count, countCells}
 use Rattle.ranking.specs.Ranks.{Numbered, HoldsRows}
 use Rattle.ranking.proofs.Premises.{filled-holds}
 use Rattle.ranking.proofs.Walk.{length-unrank}
-use Rattle.opening.specs.declared.Checked.{Checked}
-use Rattle.opening.specs.declared.Checked.the-variants.{Passed}
-use Rattle.filling.specs.Weighing.{Tells}
+use Rattle.checks.specs.declared.Checked.{Checked}
+use Rattle.checks.specs.declared.Checked.the-variants.{Passed}
+use Rattle.filling.specs.CountCheck.{Tells}
 use Rattle.filling.proofs.Rows.{early-fills}
 use Rattle.line.specs.Line.{lineOf}
 use Rattle.listing.specs.Listing.{asked, text, owned, answerTo, answer, cellsLeft, horizon, orZero, scenarioLine}
-use Rattle.listing.specs.Printing.{askedAs, Sized, Begins, Lists}
+use Rattle.listing.specs.Printing.{askedAs, WithinLimits, Begins, Lists}
 use Rattle.listing.specs.declared.Asked.{Asked}
 use Rattle.listing.specs.declared.Asked.the-variants.{Horizon, Bad}
 use Rattle.listing.specs.declared.Begun.{Begun}
@@ -52,7 +52,7 @@ lists-text t t′ b cells table q = subst (λ (s : List ℕ). Lists (rigAutomato
 pub rows-room : (h p n : ℕ) → (h + 1) * p ≤ n → h * p ≤ n
 rows-room h p n le = omega (arith, suc-mul h p, ap (λ (i : ℕ). i * p) (add-one h))
 
-pub sized-counted : (b : Begun) (room : ℕ) → b .horizon ≤ 1000 → 0 < b .states → b .states ≤ 1024 → (b .horizon + 1) * b .states ≤ room → room ≡ 8192 → Sized b 8192
+pub sized-counted : (b : Begun) (room : ℕ) → b .horizon ≤ 1000 → 0 < b .states → b .states ≤ 1024 → (b .horizon + 1) * b .states ≤ room → room ≡ 8192 → WithinLimits b 8192
 sized-counted b room short some-states few-states enough q =
     record { short = short; some-states = some-states; few-states = few-states; enough = omega (arith, rows-room (b .horizon) (b .states) room enough) }
 
@@ -96,16 +96,16 @@ owned-long : length owned ≡ 8192
 unfolding owned
 owned-long = length-replicate {A = ℕ} 8192 0
 
-pub asked-unended : (input : List ℕ) → length input ≤ place input 10 → asked input ≡ none
+pub asked-unended : (input : List ℕ) → length input ≤ indexOf input 10 → asked input ≡ none
 unfolding asked
-asked-unended input le = rw (le-ltb (place input 10) (length input) le)
+asked-unended input le = rw (le-ltb (indexOf input 10) (length input) le)
 
-module _ (input : List ℕ) (r : Asked) (a : r ≡ askedAs (asked input) (place input 10 + 1)) where
+module _ (input : List ℕ) (r : Asked) (a : r ≡ askedAs (asked input) (indexOf input 10 + 1)) where
   pub answer-bad : r ≡ Bad → refused 2 0 ≡ answer input
   unfolding answer
   answer-bad e = go (asked input) (sym a ∙ e)
     where
-      go : (o : Option ℕ) → askedAs o (place input 10 + 1) ≡ Bad → refused 2 0 ≡ answerTo o (text input)
+      go : (o : Option ℕ) → askedAs o (indexOf input 10 + 1) ≡ Bad → refused 2 0 ≡ answerTo o (text input)
       go none q = refl
       go (some h) q = let z : _≡_ {A = ℕ} 1 0 = ap kind q in absurd (omega arith)
 
@@ -117,17 +117,17 @@ module _ (input : List ℕ) (r : Asked) (a : r ≡ askedAs (asked input) (place 
     asked-is : asked input ≡ some h
     asked-is = go (asked input) (sym a ∙ e)
       where
-        go : (o : Option ℕ) → askedAs o (place input 10 + 1) ≡ Horizon h at → o ≡ some h
+        go : (o : Option ℕ) → askedAs o (indexOf input 10 + 1) ≡ Horizon h at → o ≡ some h
         go none q = let z : _≡_ {A = ℕ} 0 1 = ap kind q in absurd (omega arith)
         go (some k) q = ap some (ap asked-for q)
 
-    at-is : place input 10 + 1 ≡ at
+    at-is : indexOf input 10 + 1 ≡ at
     at-is = rw asked-is at (ap text-at (sym a ∙ e))
 
     pub text-within : at ≤ length input
-    text-within = go (split (length input) (place input 10))
+    text-within = go (split (length input) (indexOf input 10))
       where
-        go : (length input ≤ place input 10) ⊎ (place input 10 < length input) → at ≤ length input
+        go : (length input ≤ indexOf input 10) ⊎ (indexOf input 10 < length input) → at ≤ length input
         go (inl le) = let z : _≡_ {A = ℕ} 0 1 = ap given (sym (asked-unended input le) ∙ asked-is) in absurd (omega arith)
         go (inr lt) = omega (arith, at-is)
 

@@ -12,7 +12,7 @@ use lib.ListN.{length, take, drop, length-drop}
 use lib.Seq.{take-at, take-all, take-take, length-take-le}
 use lib.Dec.{eqb}
 use borrow.Author.Tests.{lt-ltb}
-use Rattle.lists.specs.Lists.{place, each, range}
+use Rattle.lists.specs.Lists.{indexOf, concatMap, range}
 use Rattle.lists.proofs.Tests.{case, split}
 use Rattle.promises.specs.Answer.{refused}
 use Rattle.promises.specs.Text.{same}
@@ -27,61 +27,61 @@ use Rattle.listing.proofs.Beginning.{asked-unended, given}
 
 -- ---- line by line
 
-each-one : (f : ℕ → List ℕ) (l : List ℕ) (x : ℕ) → each f (l ++ x ∷ []) ≡ each f l ++ f x
-each-one f [] x = append-nil (f x)
-each-one f (y ∷ l) x = rw (each-one f l x) (sym (append-assoc (f y) (each f l) (f x)))
+concatMap-one : (f : ℕ → List ℕ) (l : List ℕ) (x : ℕ) → concatMap f (l ++ x ∷ []) ≡ concatMap f l ++ f x
+concatMap-one f [] x = append-nil (f x)
+concatMap-one f (y ∷ l) x = rw (concatMap-one f l x) (sym (append-assoc (f y) (concatMap f l) (f x)))
 
-each-same : (f g : ℕ → List ℕ) (n : ℕ) → ((i : ℕ) → i < n → f i ≡ g i) → each f (range n) ≡ each g (range n)
+concatMap-same : (f g : ℕ → List ℕ) (n : ℕ) → ((i : ℕ) → i < n → f i ≡ g i) → concatMap f (range n) ≡ concatMap g (range n)
 unfolding range
-each-same f g zero q = refl
-each-same f g (suc n) q =
-    each-one f (range n) n
-    ∙ ap₂ (λ (a b : List ℕ). a ++ b) (each-same f g n (λ i lt. q i (omega arith))) (q n (omega arith))
-    ∙ sym (each-one g (range n) n)
+concatMap-same f g zero q = refl
+concatMap-same f g (suc n) q =
+    concatMap-one f (range n) n
+    ∙ ap₂ (λ (a b : List ℕ). a ++ b) (concatMap-same f g n (λ i lt. q i (omega arith))) (q n (omega arith))
+    ∙ sym (concatMap-one g (range n) n)
 
 -- `out i` being what is written for the index i
 pub listing-printed : (input : List ℕ) (b : Begun) (d l : List ℕ) (out : ℕ → List ℕ) → Begins (answer input) b d l → (0 < b .lines → b .horizon ≡ horizon input)
-    → ((i : ℕ) → i < b .lines → out i ≡ scenarioLine (text input) (b .horizon) i) → take (b .length) l ++ each out (range (b .lines)) ≡ listing input
+    → ((i : ℕ) → i < b .lines → out i ≡ scenarioLine (text input) (b .horizon) i) → take (b .length) l ++ concatMap out (range (b .lines)) ≡ listing input
 unfolding listing
 listing-printed input b d l out w q lines =
     ap₂ (λ (s t : List ℕ). s ++ t)
     (ap (take (b .length)) (w .written) ∙ take-at (headLine (answer input)) _ (b .length) (sym (w .told)))
-    (each-same out (scenarioLine (text input) (horizon input)) (b .lines) line-is ∙ ap (λ (n : ℕ). each (scenarioLine (text input) (horizon input)) (range n)) (w .follows))
+    (concatMap-same out (scenarioLine (text input) (horizon input)) (b .lines) line-is ∙ ap (λ (n : ℕ). concatMap (scenarioLine (text input) (horizon input)) (range n)) (w .follows))
   where
     line-is : (i : ℕ) → i < b .lines → out i ≡ scenarioLine (text input) (horizon input) i
     line-is i lt = lines i lt ∙ ap (λ (h : ℕ). scenarioLine (text input) h i) (q (omega arith))
 
 -- ---- a front of the input
 
-place-front : (l : List ℕ) (b n : ℕ) → place l b < n → place (take n l) b ≡ place l b
-unfolding place
-place-front [] b zero h = refl
-place-front [] b (suc n) h = refl
-place-front (x ∷ l) b zero h = absurd (omega arith)
-place-front (x ∷ l) b (suc n) h = case (eqb x b) (λ p. rw p) (λ p. let z = rw p at h in rw (p, place-front l b n (omega arith)))
+indexOf-front : (l : List ℕ) (b n : ℕ) → indexOf l b < n → indexOf (take n l) b ≡ indexOf l b
+unfolding indexOf
+indexOf-front [] b zero h = refl
+indexOf-front [] b (suc n) h = refl
+indexOf-front (x ∷ l) b zero h = absurd (omega arith)
+indexOf-front (x ∷ l) b (suc n) h = case (eqb x b) (λ p. rw p) (λ p. let z = rw p at h in rw (p, indexOf-front l b n (omega arith)))
 
-place-past : (l : List ℕ) (b n : ℕ) → n ≤ place l b → length (take n l) ≤ place (take n l) b
-unfolding place
-place-past [] b zero h = omega arith
-place-past [] b (suc n) h = omega arith
-place-past (x ∷ l) b zero h = omega arith
-place-past (x ∷ l) b (suc n) h = case (eqb x b) (λ p. let z = rw p at h in absurd (omega arith)) (λ p. let z = rw p at h in rw p (omega (arith, place-past l b n (omega arith))))
+indexOf-past : (l : List ℕ) (b n : ℕ) → n ≤ indexOf l b → length (take n l) ≤ indexOf (take n l) b
+unfolding indexOf
+indexOf-past [] b zero h = omega arith
+indexOf-past [] b (suc n) h = omega arith
+indexOf-past (x ∷ l) b zero h = omega arith
+indexOf-past (x ∷ l) b (suc n) h = case (eqb x b) (λ p. let z = rw p at h in absurd (omega arith)) (λ p. let z = rw p at h in rw p (omega (arith, indexOf-past l b n (omega arith))))
 
 -- the longest `ask` line has nine bytes
 asked-long : (l : List ℕ) → 9 < length l → askedIn l ≡ none
 unfolding askedIn
 asked-long l h = case (same (take 4 l) word) (λ p. rw p (number-long (drop 4 l) (omega (arith, length-drop 4 l)))) (λ p. rw p)
 
-asked-ended : (input : List ℕ) → place input 10 < length input → asked input ≡ askedIn (take (place input 10) input)
+asked-ended : (input : List ℕ) → indexOf input 10 < length input → asked input ≡ askedIn (take (indexOf input 10) input)
 unfolding asked firstLine
-asked-ended input lt = rw (lt-ltb (place input 10) (length input) lt)
+asked-ended input lt = rw (lt-ltb (indexOf input 10) (length input) lt)
 
-asked-far : (input : List ℕ) → 9 < place input 10 → asked input ≡ none
-asked-far input far = go (split (length input) (place input 10))
+asked-far : (input : List ℕ) → 9 < indexOf input 10 → asked input ≡ none
+asked-far input far = go (split (length input) (indexOf input 10))
   where
-    go : (length input ≤ place input 10) ⊎ (place input 10 < length input) → asked input ≡ none
+    go : (length input ≤ indexOf input 10) ⊎ (indexOf input 10 < length input) → asked input ≡ none
     go (inl le) = asked-unended input le
-    go (inr lt) = asked-ended input lt ∙ asked-long (take (place input 10) input) (omega (arith, length-take-le (place input 10) input (omega arith)))
+    go (inr lt) = asked-ended input lt ∙ asked-long (take (indexOf input 10) input) (omega (arith, length-take-le (indexOf input 10) input (omega arith)))
 
 -- a text over 65,535 bytes
 count-long : (t : List ℕ) (h : ℕ) → 65535 < length t → count t h owned ≡ refused 1 0
@@ -92,9 +92,9 @@ answer-none : (k : List ℕ) → asked k ≡ none → answer k ≡ refused 2 0
 unfolding answer
 answer-none k q = rw q
 
-answer-long : (k : List ℕ) (h : ℕ) → place k 10 ≤ 9 → 65546 ≤ length k → asked k ≡ some h → answer k ≡ refused 1 0
+answer-long : (k : List ℕ) (h : ℕ) → indexOf k 10 ≤ 9 → 65546 ≤ length k → asked k ≡ some h → answer k ≡ refused 1 0
 unfolding answer text
-answer-long k h le l q = rw q (count-long (drop (place k 10 + 1) k) h (omega (arith, length-drop (place k 10 + 1) k)))
+answer-long k h le l q = rw q (count-long (drop (indexOf k 10 + 1) k) h (omega (arith, length-drop (indexOf k 10 + 1) k)))
 
 listing-refused : (i j : List ℕ) (m p : ℕ) → answer i ≡ refused m p → answer j ≡ refused m p → listing i ≡ listing j
 unfolding listing range
@@ -108,35 +108,35 @@ module _ (input : List ℕ) (n : ℕ) (long : 65546 ≤ n) (past : n ≤ length 
   bad i j a b = listing-refused i j 2 0 (answer-none i a) (answer-none j b)
 
   -- the first line ends among the n bytes
-  near : place input 10 < n → listing (take n input) ≡ listing input
+  near : indexOf input 10 < n → listing (take n input) ≡ listing input
   near lt = go (asked input) refl
     where
-      place-is : place (take n input) 10 ≡ place input 10
-      place-is = place-front input 10 n lt
+      indexOf-is : indexOf (take n input) 10 ≡ indexOf input 10
+      indexOf-is = indexOf-front input 10 n lt
 
       same-ask : asked (take n input) ≡ asked input
       same-ask =
-          asked-ended (take n input) (omega (arith, place-is, length-front))
-          ∙ ap askedIn (ap (λ (p : ℕ). take p (take n input)) place-is ∙ take-take (place input 10) n input (omega arith))
+          asked-ended (take n input) (omega (arith, indexOf-is, length-front))
+          ∙ ap askedIn (ap (λ (p : ℕ). take p (take n input)) indexOf-is ∙ take-take (indexOf input 10) n input (omega arith))
           ∙ sym (asked-ended input (omega arith))
 
       go : (o : Option ℕ) → asked input ≡ o → listing (take n input) ≡ listing input
       go none q = bad (take n input) input (same-ask ∙ q) q
       go (some h) q =
-          let le : place input 10 ≤ 9 = within (split 10 (place input 10)) in
+          let le : indexOf input 10 ≤ 9 = within (split 10 (indexOf input 10)) in
           listing-refused (take n input) input 1 0
-          (answer-long (take n input) h (omega (arith, place-is)) (omega (arith, length-front)) (same-ask ∙ q))
+          (answer-long (take n input) h (omega (arith, indexOf-is)) (omega (arith, length-front)) (same-ask ∙ q))
           (answer-long input h le (omega arith) q)
         where
-          within : (10 ≤ place input 10) ⊎ (place input 10 < 10) → place input 10 ≤ 9
+          within : (10 ≤ indexOf input 10) ⊎ (indexOf input 10 < 10) → indexOf input 10 ≤ 9
           within (inl far) = let z : _≡_ {A = ℕ} 0 1 = ap given (sym (asked-far input (omega arith)) ∙ q) in absurd (omega arith)
           within (inr lt) = omega arith
 
   pub cut-long : listing (take n input) ≡ listing input
-  cut-long = go (split n (place input 10))
+  cut-long = go (split n (indexOf input 10))
     where
-      go : (n ≤ place input 10) ⊎ (place input 10 < n) → listing (take n input) ≡ listing input
-      go (inl le) = bad (take n input) input (asked-unended (take n input) (place-past input 10 n le)) (asked-far input (omega arith))
+      go : (n ≤ indexOf input 10) ⊎ (indexOf input 10 < n) → listing (take n input) ≡ listing input
+      go (inl le) = bad (take n input) input (asked-unended (take n input) (indexOf-past input 10 n le)) (asked-far input (omega arith))
       go (inr lt) = near lt
 
 pub listing-cut : (input : List ℕ) (n : ℕ) → 65546 ≤ n → listing (take n input) ≡ listing input

@@ -2,12 +2,12 @@
 use mathlib.Core.Path.{_≡_, refl}
 use mathlib.Core.List.{List, [], _∷_, _++_}
 use Prim.Native.Nat.{ℕ}
-use Rattle.lists.specs.Lists.{range, place}
+use Rattle.lists.specs.Lists.{range, indexOf}
 use Rattle.automaton.specs.Joint.{both, join, idle, joint, sizes, jointState}
-use Rattle.automaton.specs.Pruning.{keep, set, size, passesFrom, passes, live}
+use Rattle.automaton.specs.Pruning.{keep, prunedSet, size, passesFrom, passes, live}
 use Rattle.automaton.specs.Counting.{N, most}
 use Rattle.automaton.specs.Ranking.{choose, unrank}
-use Rattle.promises.specs.Text.{onto, parted, butLast, lastOf, lines, unended, fields, digits, number, same, numbers, one, three, form, decode, decoded, role, addLine, extended, monitorsFrom, monitors, statesOf, startOf, latest, product, eventsOf, jointStates}
+use Rattle.promises.specs.Text.{onto, splitOn, init, lastOf, lines, unended, fields, digitsValue, number, same, numbers, one, three, form, decode, decoded, role, addLine, extended, monitorsFrom, monitors, statesOf, startOf, latest, product, eventsOf, jointStates}
 use Rattle.promises.specs.Reading.{goOut, isMove, moves, goAgain, tests, isOther, lineCase, readingFrom, reading}
 use Rattle.promises.specs.Rig.{leadsTo, target, monitorOf, standing, linesAutomaton, linesStart, rigAutomaton, start}
 use Rattle.promises.specs.Calls.{sized, total, counted, count}
@@ -23,19 +23,19 @@ bad = 110 ∷ 111 ∷ 9 ∷ 50 ∷ 9 ∷ 48 ∷ 10 ∷ []
 
 -- 'For `ask` 3 and A, whole'
 pub worked : listing ((97 ∷ 115 ∷ 107 ∷ 9 ∷ 51 ∷ 10 ∷ []) ++ A) ≡ 99 ∷ 111 ∷ 117 ∷ 110 ∷ 116 ∷ 9 ∷ 53 ∷ 9 ∷ 49 ∷ 10 ∷ 48 ∷ 9 ∷ 48 ∷ 9 ∷ 48 ∷ 9 ∷ 48 ∷ 10 ∷ 49 ∷ 9 ∷ 48 ∷ 9 ∷ 48 ∷ 9 ∷ 49 ∷ 10 ∷ 50 ∷ 9 ∷ 48 ∷ 9 ∷ 49 ∷ 9 ∷ 48 ∷ 10 ∷ 51 ∷ 9 ∷ 49 ∷ 9 ∷ 48 ∷ 9 ∷ 48 ∷ 10 ∷ 52 ∷ 9 ∷ 49 ∷ 9 ∷ 48 ∷ 9 ∷ 49 ∷ 10 ∷ []
-unfolding listing answer asked askedIn firstLine text owned horizon scenarioLine place lineOf numbersOf decimal decimals.digits reading readingFrom lineCase isOther tests goOut goAgain moves isMove decoded lines unended parted onto butLast lastOf decode fields form one three numbers number digits same monitors monitorsFrom extended role addLine latest statesOf product eventsOf startOf jointStates leadsTo target monitorOf standing linesAutomaton linesStart rigAutomaton start range both join idle joint sizes jointState keep set size passesFrom passes live N most choose unrank sized total counted count
+unfolding listing answer asked askedIn firstLine text owned horizon scenarioLine indexOf lineOf numbersOf decimal decimals.digits reading readingFrom lineCase isOther tests goOut goAgain moves isMove decoded lines unended splitOn onto init lastOf decode fields form one three numbers number digitsValue same monitors monitorsFrom extended role addLine latest statesOf product eventsOf startOf jointStates leadsTo target monitorOf standing linesAutomaton linesStart rigAutomaton start range both join idle joint sizes jointState keep prunedSet size passesFrom passes live N most choose unrank sized total counted count
 worked = refl
 
 pub nothing : listing [] ≡ bad
-unfolding listing answer asked place numbersOf decimal decimals.digits range
+unfolding listing answer asked indexOf numbersOf decimal decimals.digits range
 nothing = refl
 
 -- `ask`, 3, unended
 pub unended-ask : listing (97 ∷ 115 ∷ 107 ∷ 9 ∷ 51 ∷ []) ≡ bad
-unfolding listing answer asked place numbersOf decimal decimals.digits range
+unfolding listing answer asked indexOf numbersOf decimal decimals.digits range
 unended-ask = refl
 
 -- `ask`, 03
 pub leading-zero : listing ((97 ∷ 115 ∷ 107 ∷ 9 ∷ 48 ∷ 51 ∷ 10 ∷ []) ++ A) ≡ bad
-unfolding listing answer asked askedIn firstLine place numbersOf decimal decimals.digits range same number digits
+unfolding listing answer asked askedIn firstLine indexOf numbersOf decimal decimals.digits range same number digitsValue
 leading-zero = refl

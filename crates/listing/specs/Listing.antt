@@ -17,7 +17,7 @@ use mathlib.Core.Option.{Option, none, some}
 use Prim.Native.Nat.{ℕ, _+_, min}
 use lib.ListN.{length, getD, take, drop, replicate}
 use lib.Dec.{ltb}
-use Rattle.lists.specs.Lists.{pick, place, each, range}
+use Rattle.lists.specs.Lists.{pick, indexOf, concatMap, range}
 use Rattle.automaton.specs.Ranking.{unrank}
 use Rattle.promises.specs.Answer.{Answer, served, refused}
 use Rattle.promises.specs.Text.{number, same}
@@ -28,7 +28,7 @@ use Rattle.line.specs.Line.{lineOf, numbersOf}
 -- ---- the `ask` line
 
 unfoldable pub firstLine : List ℕ → List ℕ
-firstLine input = take (place input 10) input
+firstLine input = take (indexOf input 10) input
 
 -- `ask`, byte 9 and a number as in 01, and nothing else
 unfoldable pub askedIn : List ℕ → Option ℕ
@@ -36,11 +36,11 @@ askedIn line = pick (same (take 4 line) (97 ∷ 115 ∷ 107 ∷ 9 ∷ [])) (numb
 
 -- 'reads from standard input one line `ask`, h'; an unended line is none
 unfoldable pub asked : List ℕ → Option ℕ
-asked input = pick (ltb (place input 10) (length input)) (askedIn (firstLine input)) none
+asked input = pick (ltb (indexOf input 10) (length input)) (askedIn (firstLine input)) none
 
 -- 'then a rig text'; 'Lines count from the one after `ask`.'
 unfoldable pub text : List ℕ → List ℕ
-text input = drop (place input 10 + 1) input
+text input = drop (indexOf input 10 + 1) input
 
 -- ---- the answer
 
@@ -84,4 +84,4 @@ unfoldable pub scenarioLine : List ℕ → ℕ → ℕ → List ℕ
 scenarioLine t h k = lineOf k (unrank (rigAutomaton t) h (start t) k)
 
 unfoldable pub listing : List ℕ → List ℕ
-listing input = headLine (answer input) ++ each (scenarioLine (text input) (horizon input)) (range (follow (answer input)))
+listing input = headLine (answer input) ++ concatMap (scenarioLine (text input) (horizon input)) (range (follow (answer input)))

@@ -1,8 +1,8 @@
 -- What the functions that print tell of the listing.
---   askedAs o at       == the horizon o, with the place where the rig text begins, as `ask` tells it
---   Sized b room       == the cells of b's horizon and joint states are among `room` cells, and within the limits of paper 01
---   Begins a b d l     == the line d is now l, with the first line for the answer a at its front, and b tells its length and how many lines follow
---   Lists A x b c t    == the cells c and the table t serve the lines that b tells, for the automaton A from its start x
+--   askedAs o at        == the horizon o, with the place where the rig text begins, as `ask` tells it
+--   WithinLimits b room == the cells of b's horizon and joint states are among `room` cells, and within the limits of paper 01
+--   Begins a b d l      == the line d is now l, with the first line for the answer a at its front, and b tells its length and how many lines follow
+--   Lists A x b c t     == the cells c and the table t serve the lines that b tells, for the automaton A from its start x
 -- Assumes nothing.
 use mathlib.Core.Path.{_≡_}
 use mathlib.Core.List.{List, _++_}
@@ -22,7 +22,7 @@ abbrev pub askedAs : Option ℕ → ℕ → Asked
 askedAs none at = Bad
 askedAs (some h) at = Horizon h at
 
-pub record Sized (b : Begun) (room : ℕ) : Type 0 where
+pub record WithinLimits (b : Begun) (room : ℕ) : Type 0 where
   pub short : b .horizon ≤ 1000
   pub some-states : 0 < b .states
   pub few-states : b .states ≤ 1024

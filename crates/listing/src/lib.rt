@@ -1,12 +1,12 @@
 // The output of the program `scenarios`, line by line: the first line with the cells filled once, then the line of any index.
+use checks::Checked;
 use decoding::Decimal;
-use opening::Checked;
 use rig::Rig;
 ghost use mathlib.Core.Path.{_≡_};
 ghost use mathlib.Core.List.{List, [], _∷_, _++_};
 ghost use Prim.Native.Nat.{ℕ, _+_, _*_, _<_, _≤_, min};
 ghost use lib.ListN.{length, take, drop};
-ghost use Rattle.lists.specs.Lists.{place};
+ghost use Rattle.lists.specs.Lists.{indexOf};
 ghost use Rattle.automaton.specs.Pruning.{passes};
 ghost use Rattle.automaton.specs.Automaton.{Automaton};
 ghost use Rattle.automaton.specs.Counting.{N, most};
@@ -18,10 +18,10 @@ ghost use Rattle.promises.specs.Rig.{rigAutomaton, start};
 ghost use Rattle.promises.specs.Calls.{filled};
 ghost use Rattle.promises.specs.Calls as promised;
 ghost use Rattle.decoding.specs.Forms.{valueOf};
-ghost use Rattle.filling.specs.Weighing.{weighed};
+ghost use Rattle.filling.specs.CountCheck.{countRows};
 ghost use Rattle.ranking.specs.Ranks.{Numbered, HoldsRows};
 ghost use Rattle.listing.specs.Listing.{askedIn, asked, text, answer, cellsLeft, horizon, scenarioLine};
-ghost use Rattle.listing.specs.Printing.{askedAs, Sized, Begins, Lists};
+ghost use Rattle.listing.specs.Printing.{askedAs, WithinLimits, Begins, Lists};
 
 // What the first line asks for: a horizon, with the place where the rig text begins; or it is no `ask` line.
 pub enum Asked {
@@ -68,7 +68,7 @@ fn asked_in(line: &[u8]) -> Decimal
 
 // What the input asks for.
 pub fn ask(input: &[u8]) -> Asked
-    ensures { λ r. ⌜ r ≡ askedAs (asked (now (input .entry))) (place (now (input .entry)) 10 + 1) ⌝ }
+    ensures { λ r. ⌜ r ≡ askedAs (asked (now (input .entry))) (indexOf (now (input .entry)) 10 + 1) ⌝ }
 {
     let end = decoding::until(input, b'\n');
     if end < input.len() {
@@ -83,7 +83,7 @@ pub fn ask(input: &[u8]) -> Asked
 // A listing that is refused: its only line, written at the front of `line`.
 fn refuse(number: u64, place: u64, line: &mut [u8]) -> Begun
     requires { ⌜ 64 ≤ length (now line) ⌝ }
-    ensures { λ b. ⌜ Sized b 8192 ⌝ }
+    ensures { λ b. ⌜ WithinLimits b 8192 ⌝ }
     ensures { λ b. ⌜ Begins (refused number place) b (now (line .entry)) (now (line .exit)) ⌝ }
     ensures { λ b. ⌜ b .lines ≡ 0 ⌝ }
 {
@@ -113,14 +113,14 @@ fn begin_counted(
 ) -> Begun
     requires { ⌜ WellFormed rig ⌝ }
     requires { ⌜ (states ≡ recordAutomaton rig .states) × (0 < states) × (h ≤ 1000) × ((h + 1) * states ≤ length (now cells)) × (length (now cells) ≡ 8192) × (length (now table) ≡ 16384) × (64 ≤ length (now line)) ⌝ }
-    ensures { λ b. ⌜ Sized b 8192 ⌝ }
-    ensures { λ b. ⌜ Begins (weighed (N (recordAutomaton rig) h 0) (served (N (recordAutomaton rig) h 0 ∷ passes (recordAutomaton rig) ∷ []))) b (now (line .entry)) (now (line .exit)) ⌝ }
+    ensures { λ b. ⌜ WithinLimits b 8192 ⌝ }
+    ensures { λ b. ⌜ Begins (countRows (N (recordAutomaton rig) h 0) (served (N (recordAutomaton rig) h 0 ∷ passes (recordAutomaton rig) ∷ []))) b (now (line .entry)) (now (line .exit)) ⌝ }
     ensures { λ b. ⌜ (0 < b .lines → (b .horizon ≡ h) × Lists (recordAutomaton rig) 0 b (now (cells .exit)) (now (table .exit))) ⌝ }
     ensures { λ _. ⌜ now (cells .exit) ≡ filled (recordAutomaton rig) h (now (cells .entry)) ⌝ }
 {
     let passes = filling::fill_cells(rig, states, h, cells, table);
     let n = cells[h * states];
-    match filling::weigh(n) {
+    match filling::check_count(n) {
         Checked::Refused(number, place) => refuse(number, place, line),
         Checked::Passed => Begun {
             length: line::write_numbers(b"count", n, passes as u64, line),
@@ -134,12 +134,12 @@ fn begin_counted(
 // The first line for a rig text and a horizon.
 fn begin_text(text: &[u8], h: usize, cells: &mut [u64], table: &mut [u16], line: &mut [u8]) -> Begun
     requires { ⌜ (length (now cells) ≡ 8192) × (length (now table) ≡ 16384) × (64 ≤ length (now line)) ⌝ }
-    ensures { λ b. ⌜ Sized b 8192 ⌝ }
+    ensures { λ b. ⌜ WithinLimits b 8192 ⌝ }
     ensures { λ b. ⌜ Begins (promised.count (now (text .entry)) h (now (cells .entry))) b (now (line .entry)) (now (line .exit)) ⌝ }
     ensures { λ b. ⌜ (0 < b .lines → (b .horizon ≡ h) × Lists (rigAutomaton (now (text .entry))) (start (now (text .entry))) b (now (cells .exit)) (now (table .exit))) ⌝ }
     ensures { λ _. ⌜ now (cells .exit) ≡ promised.countCells (now (text .entry)) h (now (cells .entry)) ⌝ }
 {
-    let o = opening::open(text, h as u64, cells.len());
+    let o = checks::load(text, h as u64, cells.len());
     let checked = o.checked;
     let rig = o.rig;
     match checked {
@@ -151,7 +151,7 @@ fn begin_text(text: &[u8], h: usize, cells: &mut [u64], table: &mut [u16], line:
 // Writes the first line of the listing at the front of `line`, and fills the cells and the table for the lines that follow.
 pub fn begin(input: &[u8], cells: &mut [u64], table: &mut [u16], line: &mut [u8]) -> Begun
     requires { ⌜ (length (now cells) ≡ 8192) × (length (now table) ≡ 16384) × (64 ≤ length (now line)) ⌝ }
-    ensures { λ b. ⌜ Sized b 8192 ⌝ }
+    ensures { λ b. ⌜ WithinLimits b 8192 ⌝ }
     ensures { λ b. ⌜ Begins (answer (now (input .entry))) b (now (line .entry)) (now (line .exit)) ⌝ }
     ensures { λ b. ⌜ (0 < b .lines → (b .horizon ≡ horizon (now (input .entry))) × Lists (rigAutomaton (text (now (input .entry)))) (start (text (now (input .entry)))) b (now (cells .exit)) (now (table .exit))) ⌝ }
     ensures { λ _. ⌜ now (cells .exit) ≡ cellsLeft (now (input .entry)) (now (cells .entry)) ⌝ }
@@ -186,7 +186,7 @@ pub fn scenario_line(
     events: &mut [u8],
     line: &mut [u8],
 ) -> usize
-    requires { ⌜ Sized b (length (now cells)) ⌝ }
+    requires { ⌜ WithinLimits b (length (now cells)) ⌝ }
     requires { ⌜ (b .horizon ≤ length (now events)) × (21 + 4 * b .horizon ≤ length (now line)) ⌝ }
     ensures { λ r. ⌜ r ≤ length (now (line .exit)) ⌝ }
     ensures { λ r. ⌜ ((t : List ℕ) → Lists (rigAutomaton t) (start t) b (now (cells .entry)) (now (table .entry)) → i < b .lines → (r ≡ length (scenarioLine t (b .horizon) i)) × (now (line .exit) ≡ scenarioLine t (b .horizon) i ++ drop (length (scenarioLine t (b .horizon) i)) (now (line .entry)))) ⌝ }

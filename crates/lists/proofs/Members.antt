@@ -7,7 +7,7 @@ use mathlib.Core.List.{List·Memᴰ as In, List·Memᴰ·head as here, List·Mem
 use Prim.Native.Nat.{ℕ, zero, suc, _+_, _≤_, _<_}
 use native.Mathlib.Omega.{arith}
 use lib.ListN.{length, getD, length-append}
-use Rattle.lists.specs.Lists.{any, sum, each}
+use Rattle.lists.specs.Lists.{any, sum, concatMap}
 use Rattle.lists.proofs.Tests.{contra, or-cases, or-right}
 
 pub any-some : (f : ℕ → Bool) (l : List ℕ) → any f l ≡ true → (e : ℕ) × In e l × (f e ≡ true)
@@ -26,25 +26,25 @@ pub in-map : {A B : Type 0} (f : A → B) {b : B} (l : List A) → In b (map f l
 in-map f (x ∷ l) (here q) = (x, here refl, q)
 in-map f (x ∷ l) (there h) = let (a, i, q) = in-map f l h in (a, there i, q)
 
-pub in-each : {A : Type 0} (f : ℕ → List A) {a : A} (l : List ℕ) → In a (each f l) → (e : ℕ) × In e l × In a (f e)
-in-each f {a} (x ∷ l) h = go (in-each f l) (in-append (f x) h)
+pub in-concatMap : {A : Type 0} (f : ℕ → List A) {a : A} (l : List ℕ) → In a (concatMap f l) → (e : ℕ) × In e l × In a (f e)
+in-concatMap f {a} (x ∷ l) h = go (in-concatMap f l) (in-append (f x) h)
   where
-    go : (In a (each f l) → (e : ℕ) × In e l × In a (f e)) → In a (f x) ⊎ In a (each f l) → (e : ℕ) × In e (x ∷ l) × In a (f e)
+    go : (In a (concatMap f l) → (e : ℕ) × In e l × In a (f e)) → In a (f x) ⊎ In a (concatMap f l) → (e : ℕ) × In e (x ∷ l) × In a (f e)
     go ih (inl h) = (x, here refl, h)
     go ih (inr h) = let (e, i, k) = ih h in (e, there i, k)
 
-pub each-in : {A : Type 0} (f : ℕ → List A) {a : A} {e : ℕ} {l : List ℕ} → In e l → In a (f e) → In a (each f l)
-each-in f (here {xs = l} q) k = in-left (each f l) (rw q at k)
-each-in f (there {x = x} h) k = in-right (f x) (each-in f h k)
+pub concatMap-in : {A : Type 0} (f : ℕ → List A) {a : A} {e : ℕ} {l : List ℕ} → In e l → In a (f e) → In a (concatMap f l)
+concatMap-in f (here {xs = l} q) k = in-left (concatMap f l) (rw q at k)
+concatMap-in f (there {x = x} h) k = in-right (f x) (concatMap-in f h k)
 
 pub getD-in : {A : Type 0} (l : List A) (i : ℕ) (d : A) → i < length l → In (getD l i d) l
 getD-in [] i d h = absurd (omega arith)
 getD-in (x ∷ l) zero d h = here refl
 getD-in (x ∷ l) (suc i) d h = there (getD-in l i d (omega arith))
 
-pub length-each : {A : Type 0} (f : ℕ → List A) (l : List ℕ) → length (each f l) ≡ sum (λ e. length (f e)) l
-length-each f [] = refl
-length-each f (x ∷ l) = length-append (f x) (each f l) ∙ ap (λ n. length (f x) + n) (length-each f l)
+pub length-concatMap : {A : Type 0} (f : ℕ → List A) (l : List ℕ) → length (concatMap f l) ≡ sum (λ e. length (f e)) l
+length-concatMap f [] = refl
+length-concatMap f (x ∷ l) = length-append (f x) (concatMap f l) ∙ ap (λ n. length (f x) + n) (length-concatMap f l)
 
 pub getD-map-lt : {A B : Type 0} (f : A → B) (l : List A) (i : ℕ) (a : A) (b : B) → i < length l → getD (map f l) i b ≡ f (getD l i a)
 getD-map-lt f [] i a b h = absurd (omega arith)

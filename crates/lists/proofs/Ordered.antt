@@ -8,8 +8,8 @@ use native.Mathlib.Omega.{arith}
 use native.Mathlib.Nat.{eq-or-lt-of-le, le-of-suc-le-suc}
 use lib.ListN.{length, getD}
 use borrow.Author.Tests.{eq-eqb, ne-eqb}
-use Rattle.lists.specs.Lists.{each, range, place, Pairwise, none, more}
-use Rattle.lists.proofs.Members.{in-map, in-each, getD-in}
+use Rattle.lists.specs.Lists.{concatMap, range, indexOf, Pairwise, none, more}
+use Rattle.lists.proofs.Members.{in-map, in-concatMap, getD-in}
 
 pub pairwise-append : {A : Type 0} {R : A → A → Type 0} {s t : List A} → Pairwise R s → Pairwise R t → ((a b : A) → In a s → In b t → R a b) → Pairwise R (s ++ t)
 pairwise-append none q h = q
@@ -21,11 +21,11 @@ pairwise-map f h none = none
 pairwise-map {S = S} f h (more {a = x} {l = l} g p) =
     more (λ b i. let (a, j, q) = in-map f l i in subst (S (f x)) (sym q) (h x a (g a j))) (pairwise-map f h p)
 
-pub pairwise-each : {A : Type 0} {R : ℕ → ℕ → Type 0} {S : A → A → Type 0} (f : ℕ → List A) {l : List ℕ} → ((e : ℕ) → Pairwise S (f e))
-    → ((d e : ℕ) (a b : A) → R d e → In a (f d) → In b (f e) → S a b) → Pairwise R l → Pairwise S (each f l)
-pairwise-each f p h none = none
-pairwise-each f p h (more {a = x} {l = l} g r) =
-    pairwise-append (p x) (pairwise-each f p h r) (λ a b i j. let (e, k, m) = in-each f l j in h x e a b (g e k) i m)
+pub pairwise-concatMap : {A : Type 0} {R : ℕ → ℕ → Type 0} {S : A → A → Type 0} (f : ℕ → List A) {l : List ℕ} → ((e : ℕ) → Pairwise S (f e))
+    → ((d e : ℕ) (a b : A) → R d e → In a (f d) → In b (f e) → S a b) → Pairwise R l → Pairwise S (concatMap f l)
+pairwise-concatMap f p h none = none
+pairwise-concatMap f p h (more {a = x} {l = l} g r) =
+    pairwise-append (p x) (pairwise-concatMap f p h r) (λ a b i j. let (e, k, m) = in-concatMap f l j in h x e a b (g e k) i m)
 
 pub pairwise-at : {A : Type 0} {R : A → A → Type 0} {l : List A} (d : A) (i j : ℕ) → Pairwise R l → i < j → j < length l → R (getD l i d) (getD l j d)
 pairwise-at d i j none lt h = absurd (omega arith)
@@ -61,13 +61,13 @@ range-ordered (suc n) =
     less : (a b : ℕ) → a < n → b ≡ n → a < b
     less a b h q = omega arith
 
-pub place-ordered : {l : List ℕ} → Pairwise _≢_ l → Pairwise (λ a b. place l a < place l b) l
-unfolding place
-place-ordered none = none
-place-ordered (more {a = d} {l = l} f p) = more head (pairwise-imp later (place-ordered p))
+pub indexOf-ordered : {l : List ℕ} → Pairwise _≢_ l → Pairwise (λ a b. indexOf l a < indexOf l b) l
+unfolding indexOf
+indexOf-ordered none = none
+indexOf-ordered (more {a = d} {l = l} f p) = more head (pairwise-imp later (indexOf-ordered p))
   where
-    head : (b : ℕ) → In b l → place (d ∷ l) d < place (d ∷ l) b
+    head : (b : ℕ) → In b l → indexOf (d ∷ l) d < indexOf (d ∷ l) b
     head b i = rw (eq-eqb d d refl, ne-eqb d b (f b i)) (omega arith)
 
-    later : (a b : ℕ) → In a l → In b l → place l a < place l b → place (d ∷ l) a < place (d ∷ l) b
+    later : (a b : ℕ) → In a l → In b l → indexOf l a < indexOf l b → indexOf (d ∷ l) a < indexOf (d ∷ l) b
     later a b i j h = rw (ne-eqb d a (f a i), ne-eqb d b (f b j)) (omega arith)

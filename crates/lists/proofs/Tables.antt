@@ -8,34 +8,34 @@ use native.Mathlib.Numerals.{add-one}
 use native.Mathlib.Omega.{arith}
 use lib.ListN.{length, getD, set, drop, length-append, List·getD-append}
 use lib.Seq.{drop-cons, set-at, append-snoc, getD-at, getD-append-add}
-use Rattle.lists.specs.Lists.{tab, stack, range}
+use Rattle.lists.specs.Lists.{tabulate, stack, range}
 
-pub length-tab : {A : Type 0} (f : ℕ → A) (n : ℕ) → length (tab f n) ≡ n
-unfolding tab
-length-tab f zero = refl
-length-tab f (suc n) = rw (length-append, length-tab f n) (add-one n)
+pub length-tabulate : {A : Type 0} (f : ℕ → A) (n : ℕ) → length (tabulate f n) ≡ n
+unfolding tabulate
+length-tabulate f zero = refl
+length-tabulate f (suc n) = rw (length-append, length-tabulate f n) (add-one n)
 
-pub getD-tab : {A : Type 0} (f : ℕ → A) (n i : ℕ) (d : A) → i < n → getD (tab f n) i d ≡ f i
-unfolding tab
-getD-tab f zero i d h = absurd (not-suc-le-zero h)
-getD-tab f (suc n) i d h =
+pub getD-tabulate : {A : Type 0} (f : ℕ → A) (n i : ℕ) (d : A) → i < n → getD (tabulate f n) i d ≡ f i
+unfolding tabulate
+getD-tabulate f zero i d h = absurd (not-suc-le-zero h)
+getD-tabulate f (suc n) i d h =
     ⊎-elim
-    (λ e. getD-at (tab f n) (f n) [] d i (length-tab f n ∙ sym e) ∙ ap f (sym e))
-    (λ l. List·getD-append (tab f n) (f n ∷ []) d i (rw length-tab l) ∙ getD-tab f n i d l)
+    (λ e. getD-at (tabulate f n) (f n) [] d i (length-tabulate f n ∙ sym e) ∙ ap f (sym e))
+    (λ l. List·getD-append (tabulate f n) (f n ∷ []) d i (rw length-tabulate l) ∙ getD-tabulate f n i d l)
     (eq-or-lt-of-le (le-of-suc-le-suc h))
 
-pub tab-cong : {A : Type 0} (f g : ℕ → A) (n : ℕ) → ((x : ℕ) → x < n → f x ≡ g x) → tab f n ≡ tab g n
-unfolding tab
-tab-cong f g zero h = refl
-tab-cong f g (suc n) h = rw (tab-cong f g n (λ x l. h x (omega arith)), h n (omega arith))
+pub tabulate-cong : {A : Type 0} (f g : ℕ → A) (n : ℕ) → ((x : ℕ) → x < n → f x ≡ g x) → tabulate f n ≡ tabulate g n
+unfolding tabulate
+tabulate-cong f g zero h = refl
+tabulate-cong f g (suc n) h = rw (tabulate-cong f g n (λ x l. h x (omega arith)), h n (omega arith))
 
 -- one entry more: what is stored at i is the table's entry there
-pub tab-more : {A : Type 0} (f : ℕ → A) (d : List A) (i : ℕ) (v z : A) → i < length d → v ≡ f i → set (tab f i ++ drop i d) i v ≡ tab f (i + 1) ++ drop (i + 1) d
-unfolding tab
-tab-more {A} f d i v z h e =
-    ap (λ (r : List A). set (tab f i ++ r) i v) (drop-cons d i z h)
-    ∙ set-at (tab f i) (getD d i z) (drop (suc i) d) v i (length-tab f i)
-    ∙ rw (e, add-one) (sym (append-snoc (tab f i) (f i) (drop (suc i) d)))
+pub tabulate-more : {A : Type 0} (f : ℕ → A) (d : List A) (i : ℕ) (v z : A) → i < length d → v ≡ f i → set (tabulate f i ++ drop i d) i v ≡ tabulate f (i + 1) ++ drop (i + 1) d
+unfolding tabulate
+tabulate-more {A} f d i v z h e =
+    ap (λ (r : List A). set (tabulate f i ++ r) i v) (drop-cons d i z h)
+    ∙ set-at (tabulate f i) (getD d i z) (drop (suc i) d) v i (length-tabulate f i)
+    ∙ rw (e, add-one) (sym (append-snoc (tabulate f i) (f i) (drop (suc i) d)))
 
 pub length-range : (n : ℕ) → length (range n) ≡ n
 unfolding range

@@ -1,14 +1,14 @@
 -- Lists, tests and sums: the vocabulary of every other specification.
---   pick b x y        == x where the test b holds, else y
---   Pairwise R l      == every earlier element of l is in R to every later one
---   any f l           == some element of l passes the test f
---   sum c l           == the sum of c over l
---   each f l          == the lists f x for the x of l, one after the other
---   count f n         == how many of the numbers below n pass the test f
---   tab f n           == f 0, f 1, … f (n−1)
---   stack f n         == the lists f 0, f 1, … f (n−1), one after the other
---   range n           == the numbers below n, in order
---   place l x         == where x first stands in l, from 0
+--   pick b x y    == x where the test b holds, else y
+--   Pairwise R l  == every earlier element of l is in R to every later one
+--   any f l       == some element of l passes the test f
+--   sum c l       == the sum of c over l
+--   concatMap f l == the lists f x for the x of l, one after the other
+--   count f n     == how many of the numbers below n pass the test f
+--   tabulate f n  == f 0, f 1, … f (n−1)
+--   stack f n     == the lists f 0, f 1, … f (n−1), one after the other
+--   range n       == the numbers below n, in order
+--   indexOf l x   == where x first stands in l, from 0
 -- Membership `In` is the library's List·Memᴰ, indexing its getD. Assumes nothing.
 use mathlib.Core.Bool.{Bool, true, false, _||_}
 use mathlib.Core.List.{List, [], _∷_, _++_, List·Memᴰ as In}
@@ -31,17 +31,17 @@ abbrev pub sum : (ℕ → ℕ) → List ℕ → ℕ
 sum c [] = 0
 sum c (x ∷ l) = c x + sum c l
 
-abbrev pub each : {A : Type 0} → (ℕ → List A) → List ℕ → List A
-each f [] = []
-each f (x ∷ l) = f x ++ each f l
+abbrev pub concatMap : {A : Type 0} → (ℕ → List A) → List ℕ → List A
+concatMap f [] = []
+concatMap f (x ∷ l) = f x ++ concatMap f l
 
 abbrev pub count : (ℕ → Bool) → ℕ → ℕ
 count f zero = 0
 count f (suc n) = pick (f n) 1 0 + count f n
 
-unfoldable pub tab : {A : Type 0} → (ℕ → A) → ℕ → List A
-tab f zero = []
-tab f (suc n) = tab f n ++ f n ∷ []
+unfoldable pub tabulate : {A : Type 0} → (ℕ → A) → ℕ → List A
+tabulate f zero = []
+tabulate f (suc n) = tabulate f n ++ f n ∷ []
 
 unfoldable pub stack : {A : Type 0} → (ℕ → List A) → ℕ → List A
 stack f zero = []
@@ -51,6 +51,6 @@ unfoldable pub range : ℕ → List ℕ
 range zero = []
 range (suc n) = range n ++ n ∷ []
 
-unfoldable pub place : List ℕ → ℕ → ℕ
-place [] e = 0
-place (d ∷ l) e = pick (eqb d e) 0 (suc (place l e))
+unfoldable pub indexOf : List ℕ → ℕ → ℕ
+indexOf [] e = 0
+indexOf (d ∷ l) e = pick (eqb d e) 0 (suc (indexOf l e))

@@ -5,7 +5,7 @@ use listing::Begun;
 ghost use mathlib.Core.Path.{_≡_};
 ghost use Prim.Native.Nat.{_≤_, min};
 ghost use lib.ListN.{length};
-ghost use Rattle.listing.specs.Printing.{Sized};
+ghost use Rattle.listing.specs.Printing.{WithinLimits};
 
 // The lesser of two numbers.
 fn least(a: u64, b: u64) -> u64
@@ -16,7 +16,7 @@ fn least(a: u64, b: u64) -> u64
 
 // Prints the line of index i.
 fn print_line(begun: Begun, cells: &[u64], table: &[u16; 16384], i: u64)
-    requires { ⌜ Sized begun (length (now cells)) ⌝ }
+    requires { ⌜ WithinLimits begun (length (now cells)) ⌝ }
 {
     let mut events = [0u8; 1000];
     let mut line = [0u8; 4096];
@@ -26,7 +26,7 @@ fn print_line(begun: Begun, cells: &[u64], table: &[u16; 16384], i: u64)
 
 // Prints the lines of the indices from `from` to before `to`.
 fn print_between(begun: Begun, cells: &[u64], table: &[u16; 16384], from: u64, to: u64)
-    requires { ⌜ Sized begun (length (now cells)) ⌝ }
+    requires { ⌜ WithinLimits begun (length (now cells)) ⌝ }
 {
     for i in from..to {
         print_line(begun, cells, table, i);

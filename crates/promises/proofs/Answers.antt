@@ -23,12 +23,12 @@ use Rattle.automaton.specs.Automaton.{Automaton}
 use Rattle.automaton.specs.Pruning.{passes, live, LastPass}
 use Rattle.automaton.specs.Counting as counting
 use Rattle.automaton.specs.Counting.{Stays, most}
-use Rattle.automaton.specs.Ranking.{unrank, rank, offence}
+use Rattle.automaton.specs.Ranking.{unrank, rank, firstViolation}
 use Rattle.automaton.specs.Shuffle as swapping
 use Rattle.automaton.specs.Shuffle.{Valid}
 use Rattle.automaton.proofs.Pruning.{last-pass}
 use Rattle.automaton.proofs.Counting.{scenarios-length, scenarios-distinct, belongs-iff, stays-events, N-live}
-use Rattle.automaton.proofs.Ranking.{rank-unrank, none-iff, offence-none, offence-le}
+use Rattle.automaton.proofs.Ranking.{rank-unrank, none-iff, firstViolation-none, firstViolation-le}
 use Rattle.automaton.proofs.Shuffle.{length-shuffle}
 use Rattle.promises.specs.Answer.{Answer, served, refused, Served, Refuses, SaysNone, unless}
 use Rattle.promises.specs.Text.{decoded, eventsOf, Readable, Case7, Case8, Case8·scratch, Case12, Case12·draws, Case13}
@@ -98,10 +98,10 @@ in-events t r s w k lt =
 module _ (t s cells : List ℕ) (r : Readable t) (c7 : Case7 (length s) → ⊥) (c8 : Case8 t (length s) cells → ⊥) where
   -- the answer once no event byte is bad
   abbrev pub located : Answer
-  located = unless 14 (offence (rigAutomaton t) (start t) s) (ltb (offence (rigAutomaton t) (start t) s) (length s)) (served (rank (rigAutomaton t) (start t) s ∷ []))
+  located = unless 14 (firstViolation (rigAutomaton t) (start t) s) (ltb (firstViolation (rigAutomaton t) (start t) s) (length s)) (served (rank (rigAutomaton t) (start t) s ∷ []))
 
   pub located-none : SaysNone located → ⊥
-  located-none n = case (ltb (offence (rigAutomaton t) (start t) s) (length s)) (λ q. refused-none 14 _ (omega arith) (rw q at n)) (λ q. served-none _ (rw q at n))
+  located-none n = case (ltb (firstViolation (rigAutomaton t) (start t) s) (length s)) (λ q. refused-none 14 _ (omega arith) (rw q at n)) (λ q. served-none _ (rw q at n))
 
   pub index-is : index t s cells ≡ unlessAt 13 (λ p e. leb (eventsOf (decoded t)) e) s (counted t (length s) located)
   unfolding index
@@ -123,14 +123,14 @@ module _ (t s cells : List ℕ) (r : Readable t) (c7 : Case7 (length s) → ⊥)
     pub index-of-scenario : Stays (rigAutomaton t) (start t) s → index t s cells ≡ served (rank (rigAutomaton t) (start t) s ∷ [])
     index-of-scenario w =
         index-good (in-events t r s w) ∙ counted-on t (length s) located ge lt
-        ∙ rw (offence-none (rigAutomaton t) (start t) s start-live (stays-events (rigAutomaton t) (start t) s w) .1 w, tells-false (tells-lt (length s) (length s)) (λ h. omega arith))
+        ∙ rw (firstViolation-none (rigAutomaton t) (start t) s start-live (stays-events (rigAutomaton t) (start t) s w) .1 w, tells-false (tells-lt (length s) (length s)) (λ h. omega arith))
 
     pub index-of-others : (Stays (rigAutomaton t) (start t) s → ⊥) → Refuses (index t s cells)
     unfolding Refuses
-    index-of-others n = ⊎-elim (λ (q, g). (14, offence (rigAutomaton t) (start t) s, index-is ∙ q ∙ counted-on t (length s) located ge lt ∙ rw (tells-true (tells-lt (offence (rigAutomaton t) (start t) s) (length s)) (early g)))) (λ (k, l, q, b, g). (13, k, index-is ∙ q)) (checked-list 13 (λ p e. leb (eventsOf (decoded t)) e) s (counted t (length s) located))
+    index-of-others n = ⊎-elim (λ (q, g). (14, firstViolation (rigAutomaton t) (start t) s, index-is ∙ q ∙ counted-on t (length s) located ge lt ∙ rw (tells-true (tells-lt (firstViolation (rigAutomaton t) (start t) s) (length s)) (early g)))) (λ (k, l, q, b, g). (13, k, index-is ∙ q)) (checked-list 13 (λ p e. leb (eventsOf (decoded t)) e) s (counted t (length s) located))
       where
-        early : ((k : ℕ) → k < length s → leb (eventsOf (decoded t)) (getD s k 0) ≡ false) → offence (rigAutomaton t) (start t) s < length s
-        early g = ⊎-elim (λ q. absurd (n (offence-none (rigAutomaton t) (start t) s start-live (events-in t r s g) .0 q))) (λ l. l) (eq-or-lt-of-le (offence-le (rigAutomaton t) (start t) s))
+        early : ((k : ℕ) → k < length s → leb (eventsOf (decoded t)) (getD s k 0) ≡ false) → firstViolation (rigAutomaton t) (start t) s < length s
+        early g = ⊎-elim (λ q. absurd (n (firstViolation-none (rigAutomaton t) (start t) s start-live (events-in t r s g) .0 q))) (λ l. l) (eq-or-lt-of-le (firstViolation-le (rigAutomaton t) (start t) s))
 
 -- ---- Scenarios, where the count is told
 

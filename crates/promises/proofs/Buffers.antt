@@ -12,11 +12,11 @@ use lib.ListN.{length, getD, take, drop, length-append, length-drop, List·getD-
 use lib.Seq.{getD-append-add, getD-drop, take-at}
 use lib.Dec.{ltb, leb, eqb}
 use borrow.Author.Tests.{ltb-false}
-use Rattle.lists.specs.Lists.{any, each}
+use Rattle.lists.specs.Lists.{any, concatMap}
 use Rattle.lists.proofs.Tests.{contra, case, split}
 use Rattle.lists.proofs.Tells.{tells-true, tells-false, tells-lt, tells-eq}
 use Rattle.lists.proofs.Members.{any-some, any-in}
-use Rattle.lists.proofs.Tables.{length-tab, getD-tab, length-stack, getD-stack}
+use Rattle.lists.proofs.Tables.{length-tabulate, getD-tabulate, length-stack, getD-stack}
 use Rattle.lists.proofs.Blocks.{length-blocks}
 use Rattle.automaton.specs.Automaton.{Automaton}
 use Rattle.automaton.specs.Counting.{most, cell}
@@ -38,7 +38,7 @@ use Rattle.promises.proofs.Answers.{served-below, block-written, scenar
 
 length-row : (A : Automaton) (r : ℕ) → length (row A r) ≡ A .states
 unfolding row
-length-row A r = length-tab (cell A r) (A .states)
+length-row A r = length-tabulate (cell A r) (A .states)
 
 pub length-rows : (A : Automaton) (n : ℕ) → length (rows A n) ≡ n * A .states
 unfolding rows
@@ -47,7 +47,7 @@ length-rows A n = length-stack (row A) (A .states) (length-row A) n
 -- 'The cell at r × P + x holds N(r, x)'
 pub getD-rows : (A : Automaton) (n r x : ℕ) → r < n → x < A .states → getD (rows A n) (r * A .states + x) 0 ≡ cell A r x
 unfolding rows row
-getD-rows A n r x h k = getD-stack (row A) (A .states) (length-row A) n r x 0 h k ∙ getD-tab (cell A r) (A .states) x 0 k
+getD-rows A n r x h k = getD-stack (row A) (A .states) (length-row A) n r x 0 h k ∙ getD-tabulate (cell A r) (A .states) x 0 k
 
 in-rows : (p n r x : ℕ) → r < n → x < p → r * p + x < n * p
 in-rows p n r x h k = let a : suc r * p ≤ n * p = mul-le-mul-right p h in omega (arith, suc-mul r p)
@@ -225,7 +225,7 @@ buffers = record {
   shuffle-written = λ n ds scratch out s. written-shuffle n ds scratch out s;
 }
   where
-    fresh : (t : List ℕ) (h : ℕ) (is cells out : List ℕ) → Served (scenarios t h is cells out) → (length (each (unrank (rigAutomaton t) h (start t)) is) ≡ length is * h) × (length is * h ≤ length out)
+    fresh : (t : List ℕ) (h : ℕ) (is cells out : List ℕ) → Served (scenarios t h is cells out) → (length (concatMap (unrank (rigAutomaton t) h (start t)) is) ≡ length is * h) × (length is * h ≤ length out)
     fresh t h is cells out s =
         let l = listed t h is cells out s in
         let below = served-below t h (l .passed .readable) (l .passed .horizon) (l .some) (l .few) is cells out (l .passed .room) (l .room) s in

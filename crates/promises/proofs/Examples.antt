@@ -8,12 +8,12 @@ use native.Mathlib.Omega.{arith}
 use lib.ListN.{length-replicate}
 use Rattle.lists.specs.Lists.{range}
 use Rattle.automaton.specs.Joint.{both, join, idle, joint, sizes, jointState}
-use Rattle.automaton.specs.Pruning.{keep, set, size, passesFrom, passes, live}
+use Rattle.automaton.specs.Pruning.{keep, prunedSet, size, passesFrom, passes, live}
 use Rattle.automaton.specs.Counting.{N}
-use Rattle.automaton.specs.Ranking.{choose, unrank, offence}
+use Rattle.automaton.specs.Ranking.{choose, unrank, firstViolation}
 use Rattle.automaton.proofs.Counting.{scenarios-sound, stays-live, stays-events}
-use Rattle.automaton.proofs.Ranking.{index-belongs, offence-none}
-use Rattle.promises.specs.Text.{onto, parted, butLast, lastOf, lines, unended, fields, digits, number, same, numbers, one, three, form, decode, decoded, role, addLine, extended, monitorsFrom, monitors, statesOf, startOf, latest, product, eventsOf, Readable, Fault, Case1, Case7}
+use Rattle.automaton.proofs.Ranking.{index-belongs, firstViolation-none}
+use Rattle.promises.specs.Text.{onto, splitOn, init, lastOf, lines, unended, fields, digitsValue, number, same, numbers, one, three, form, decode, decoded, role, addLine, extended, monitorsFrom, monitors, statesOf, startOf, latest, product, eventsOf, Readable, Fault, Case1, Case7}
 use Rattle.promises.specs.Answer.{served, refused, Served}
 use Rattle.promises.specs.Meaning.{Belongs}
 use Rattle.promises.specs.Reading.{goOut, isMove, moves, goAgain, tests, isOther, lineCase, readingFrom, reading}
@@ -41,7 +41,7 @@ record Readings : Type 0 where
   of-too-many-joint-states : reading too-many-joint-states ≡ refused 6 4
 
 readings : Readings
-unfolding reading readingFrom lineCase isOther tests goOut goAgain moves isMove decoded lines unended parted onto butLast lastOf decode fields form one three numbers number digits same monitors monitorsFrom extended role addLine latest statesOf product eventsOf
+unfolding reading readingFrom lineCase isOther tests goOut goAgain moves isMove decoded lines unended splitOn onto init lastOf decode fields form one three numbers number digitsValue same monitors monitorsFrom extended role addLine latest statesOf product eventsOf
 readings = record {
   of-A = refl;
   of-B = refl;
@@ -66,15 +66,15 @@ readable t q = reading-serves t .0 ([], q)
 
 -- index 4 of A at horizon 3, and where 0 1 1 leaves the live states
 four-below : 4 < N (rigAutomaton A) 3 (start A)
-unfolding reading readingFrom lineCase isOther tests goOut goAgain moves isMove decoded lines unended parted onto butLast lastOf decode fields form one three numbers number digits same monitors monitorsFrom extended role addLine latest statesOf product eventsOf startOf leadsTo target monitorOf standing linesAutomaton linesStart rigAutomaton start range both join idle joint sizes jointState keep set size passesFrom passes live N choose unrank offence
+unfolding reading readingFrom lineCase isOther tests goOut goAgain moves isMove decoded lines unended splitOn onto init lastOf decode fields form one three numbers number digitsValue same monitors monitorsFrom extended role addLine latest statesOf product eventsOf startOf leadsTo target monitorOf standing linesAutomaton linesStart rigAutomaton start range both join idle joint sizes jointState keep prunedSet size passesFrom passes live N choose unrank firstViolation
 four-below = omega arith
 
 four-is : unrank (rigAutomaton A) 3 (start A) 4 ≡ 1 ∷ 0 ∷ 1 ∷ []
-unfolding reading readingFrom lineCase isOther tests goOut goAgain moves isMove decoded lines unended parted onto butLast lastOf decode fields form one three numbers number digits same monitors monitorsFrom extended role addLine latest statesOf product eventsOf startOf leadsTo target monitorOf standing linesAutomaton linesStart rigAutomaton start range both join idle joint sizes jointState keep set size passesFrom passes live N choose unrank offence
+unfolding reading readingFrom lineCase isOther tests goOut goAgain moves isMove decoded lines unended splitOn onto init lastOf decode fields form one three numbers number digitsValue same monitors monitorsFrom extended role addLine latest statesOf product eventsOf startOf leadsTo target monitorOf standing linesAutomaton linesStart rigAutomaton start range both join idle joint sizes jointState keep prunedSet size passesFrom passes live N choose unrank firstViolation
 four-is = refl
 
-leaves-at : offence (rigAutomaton A) (start A) (0 ∷ 1 ∷ 1 ∷ []) ≡ 2
-unfolding reading readingFrom lineCase isOther tests goOut goAgain moves isMove decoded lines unended parted onto butLast lastOf decode fields form one three numbers number digits same monitors monitorsFrom extended role addLine latest statesOf product eventsOf startOf leadsTo target monitorOf standing linesAutomaton linesStart rigAutomaton start range both join idle joint sizes jointState keep set size passesFrom passes live N choose unrank offence
+leaves-at : firstViolation (rigAutomaton A) (start A) (0 ∷ 1 ∷ 1 ∷ []) ≡ 2
+unfolding reading readingFrom lineCase isOther tests goOut goAgain moves isMove decoded lines unended splitOn onto init lastOf decode fields form one three numbers number digitsValue same monitors monitorsFrom extended role addLine latest statesOf product eventsOf startOf leadsTo target monitorOf standing linesAutomaton linesStart rigAutomaton start range both join idle joint sizes jointState keep prunedSet size passesFrom passes live N choose unrank firstViolation
 leaves-at = refl
 
 pub words : Words
@@ -86,7 +86,7 @@ words = record {
   belongs = subst (Belongs A 3) four-is (text-belongs A r 3 (unrank (rigAutomaton A) 3 (start A) 4) .1 (index-belongs (rigAutomaton A) 3 (start A) 4 four-below));
   not-belongs = λ b.
       let w = scenarios-sound (rigAutomaton A) 3 (start A) (0 ∷ 1 ∷ 1 ∷ []) (belongs-listed A 3 r (λ c. omega arith) (0 ∷ 1 ∷ 1 ∷ []) .0 b) .1 in
-      let q : offence (rigAutomaton A) (start A) (0 ∷ 1 ∷ 1 ∷ []) ≡ 3 = offence-none (rigAutomaton A) (start A) (0 ∷ 1 ∷ 1 ∷ []) (stays-live (rigAutomaton A) (start A) (0 ∷ 1 ∷ 1 ∷ []) w) (stays-events (rigAutomaton A) (start A) (0 ∷ 1 ∷ 1 ∷ []) w) .1 w in
+      let q : firstViolation (rigAutomaton A) (start A) (0 ∷ 1 ∷ 1 ∷ []) ≡ 3 = firstViolation-none (rigAutomaton A) (start A) (0 ∷ 1 ∷ 1 ∷ []) (stays-live (rigAutomaton A) (start A) (0 ∷ 1 ∷ 1 ∷ []) w) (stays-events (rigAutomaton A) (start A) (0 ∷ 1 ∷ 1 ∷ []) w) .1 w in
       omega (arith, leaves-at);
   fault-too-long = inl (omega (arith, length-replicate {A = ℕ} 65536 10), refl, refl);
   fault-mon-without-S = reading-refuses mon-without-S 2 2 .0 (readings .of-mon-without-S);

@@ -109,8 +109,8 @@ module _ (E : ℕ) (ms : List Monitor) (w : WellFormed E ms) where
   unfolding monitorOf
   all-admit some v =
       let jointly = joint-admits (range E) (standing E ms) v (standing-fits ms (λ m i. i)) in
-      let each = each-admits ms (λ m i. i) v in
-      (λ a. jointly .1 (each .1 (a, of-events ms some (λ m i. i) a)), λ a. each .0 (jointly .0 a) .0)
+      let concatMap = each-admits ms (λ m i. i) v in
+      (λ a. jointly .1 (concatMap .1 (a, of-events ms some (λ m i. i) a)), λ a. concatMap .0 (jointly .0 a) .0)
     where
       of-events : (ks : List Monitor) → ks ≢ [] → ((m : Monitor) → In m ks → In m ms) → ((m : Monitor) → In m ks → Admits m (startOf (m .head)) v) → automaton.Admits (idle (range E)) 0 v
       of-events [] none sub a = absurd (none refl)

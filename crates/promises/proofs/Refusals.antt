@@ -14,16 +14,16 @@ use Rattle.lists.proofs.Tells.{tells-true, tells-false, tells-lt, tells-le, tel
 use Rattle.lists.proofs.Distinct.{distinct-length, once-distinct}
 use Rattle.automaton.specs.Counting as counting
 use Rattle.automaton.specs.Counting.{Stays, most}
-use Rattle.automaton.specs.Ranking.{offence}
+use Rattle.automaton.specs.Ranking.{firstViolation}
 use Rattle.automaton.proofs.Counting.{scenarios-length, scenarios-sound, scenarios-complete, stays-take}
-use Rattle.automaton.proofs.Ranking.{offence-first}
+use Rattle.automaton.proofs.Ranking.{firstViolation-first}
 use Rattle.promises.specs.Answer.{Answer, served, refused}
 use Rattle.promises.specs.Text.{decoded, eventsOf, Readable, Case7, Case8, Case8·scratch, Case12, Case12·draws, Case13, jointStates}
 use Rattle.promises.specs.Meaning.{Belongs}
 use Rattle.promises.specs.Rig.{rigAutomaton, start}
 use Rattle.promises.specs.Calls.{unlessAt, sized, total, counted, count, scenarios, index, badDraw, shuffle}
 use Rattle.promises.specs.Demand3.{Once}
-use Rattle.promises.specs.Refusals.{Sized, Opens, Many, Countable, Refusals}
+use Rattle.promises.specs.Refusals.{Sized, EarlyRows, Many, Countable, Refusals}
 use Rattle.promises.specs.Generator.{generator}
 use Rattle.promises.proofs.Reading.{fault-said, readable-said}
 use Rattle.promises.proofs.Checks.{checked-list, sized-on, counted-none, counted-most, counted-on}
@@ -42,7 +42,7 @@ first-at n bad l a p lt b good = ⊎-elim (λ (q, g). contra b (g p lt)) (λ (k,
 
 -- ---- rows 1 to 8
 
-opened : (t : List ℕ) (h : ℕ) (cells : List ℕ) (a : Answer) → Opens t h cells (sized t h cells a)
+opened : (t : List ℕ) (h : ℕ) (cells : List ℕ) (a : Answer) → EarlyRows t h cells (sized t h cells a)
 unfolding sized Case7 Case8
 opened t h cells a = record {
   text = λ n p f. rw (fault-said t n p f);
@@ -89,34 +89,34 @@ module _ (t s cells : List ℕ) (z : Sized t (length s) cells) (c13 : (p : ℕ) 
       )
 
   module _ (ge : 1 ≤ total t (length s)) (lt : total t (length s) < most) where
-    offence-is : (p : ℕ) → p < length s → Belongs t p (take p s) → (Belongs t (suc p) (take (suc p) s) → ⊥) → offence (rigAutomaton t) (start t) s ≡ p
-    offence-is p below b nb = go (ℕ-trichotomy (offence (rigAutomaton t) (start t) s) p)
+    firstViolation-is : (p : ℕ) → p < length s → Belongs t p (take p s) → (Belongs t (suc p) (take (suc p) s) → ⊥) → firstViolation (rigAutomaton t) (start t) s ≡ p
+    firstViolation-is p below b nb = go (ℕ-trichotomy (firstViolation (rigAutomaton t) (start t) s) p)
       where
-        first : Stays (rigAutomaton t) (start t) (take (offence (rigAutomaton t) (start t) s) s)
-            × (offence (rigAutomaton t) (start t) s < length s → Stays (rigAutomaton t) (start t) (take (suc (offence (rigAutomaton t) (start t) s)) s) → ⊥)
-        first = offence-first (rigAutomaton t) (start t) s (start-live t s cells (z .readable) (z .horizon) (z .room) ge lt) (events-in t (z .readable) s good-events)
+        first : Stays (rigAutomaton t) (start t) (take (firstViolation (rigAutomaton t) (start t) s) s)
+            × (firstViolation (rigAutomaton t) (start t) s < length s → Stays (rigAutomaton t) (start t) (take (suc (firstViolation (rigAutomaton t) (start t) s)) s) → ⊥)
+        first = firstViolation-first (rigAutomaton t) (start t) s (start-live t s cells (z .readable) (z .horizon) (z .room) ge lt) (events-in t (z .readable) s good-events)
 
         shorter : (j k : ℕ) → j ≤ k → Stays (rigAutomaton t) (start t) (take k s) → Stays (rigAutomaton t) (start t) (take j s)
         shorter j k le w = rw (take-take j k s le) at (stays-take (rigAutomaton t) (start t) (take k s) j w)
 
-        go : (offence (rigAutomaton t) (start t) s < p) ⊎ ((offence (rigAutomaton t) (start t) s ≡ p) ⊎ (p < offence (rigAutomaton t) (start t) s)) → offence (rigAutomaton t) (start t) s ≡ p
-        go (inl h) = absurd (first .1 (omega arith) (shorter (suc (offence (rigAutomaton t) (start t) s)) p h (prefix-stays p (omega arith) .0 b)))
+        go : (firstViolation (rigAutomaton t) (start t) s < p) ⊎ ((firstViolation (rigAutomaton t) (start t) s ≡ p) ⊎ (p < firstViolation (rigAutomaton t) (start t) s)) → firstViolation (rigAutomaton t) (start t) s ≡ p
+        go (inl h) = absurd (first .1 (omega arith) (shorter (suc (firstViolation (rigAutomaton t) (start t) s)) p h (prefix-stays p (omega arith) .0 b)))
         go (inr (inl h)) = h
-        go (inr (inr h)) = absurd (nb (prefix-stays (suc p) (omega arith) .1 (shorter (suc p) (offence (rigAutomaton t) (start t) s) h (first .0))))
+        go (inr (inr h)) = absurd (nb (prefix-stays (suc p) (omega arith) .1 (shorter (suc p) (firstViolation (rigAutomaton t) (start t) s) h (first .0))))
 
     index-offends : (p : ℕ) → p < length s → Belongs t p (take p s) → (Belongs t (suc p) (take (suc p) s) → ⊥) → index t s cells ≡ refused 14 p
     index-offends p below b nb =
         index-checked ∙ counted-on t (length s) _ ge lt
-        ∙ rw (offence-is p below b nb, tells-true (tells-lt p (length s)) below)
+        ∙ rw (firstViolation-is p below b nb, tells-true (tells-lt p (length s)) below)
 
 -- ---- the table
 
 pub refusals : Refusals generator
 unfolding generator
 refusals = record {
-  count-opens = λ t h cells. unfold count in opened t h cells _;
-  scenarios-opens = λ t h is cells out. unfold scenarios in opened t h cells _;
-  index-opens = λ t s cells. unfold index in opened t (length s) cells _;
+  count-early = λ t h cells. unfold count in opened t h cells _;
+  scenarios-early = λ t h is cells out. unfold scenarios in opened t h cells _;
+  index-early = λ t s cells. unfold index in opened t (length s) cells _;
   scenarios-12 = λ t h is cells out s c. unfold scenarios Case12 in (sized-on t h cells _ (s .readable) (s .horizon) (s .room) ∙ rw (tells-true (tells-lt (length out) (length is * h)) c));
   index-13 = λ t s cells p z c f. unfold Case13 in (index-is t s cells (z .readable) (z .horizon) (z .room)
       ∙ first-at 13 (λ p e. leb (eventsOf (decoded t)) e) s _ p (c .0) (tells-true (tells-le (eventsOf (decoded t)) (getD s p 0)) (c .1))

@@ -14,11 +14,11 @@ use mathlib.Core.List.{List, [], _∷_, _++_}
 use Prim.Native.Nat.{ℕ, suc, _+_, _*_}
 use lib.ListN.{length, drop}
 use lib.Dec.{ltb, leb, eqb}
-use Rattle.lists.specs.Lists.{pick, any, each, tab, stack}
+use Rattle.lists.specs.Lists.{pick, any, concatMap, tabulate, stack}
 use Rattle.automaton.specs.Automaton.{Automaton}
 use Rattle.automaton.specs.Pruning.{passes}
 use Rattle.automaton.specs.Counting.{N, most, cell}
-use Rattle.automaton.specs.Ranking.{unrank, rank, offence}
+use Rattle.automaton.specs.Ranking.{unrank, rank, firstViolation}
 use Rattle.automaton.specs.Shuffle as swapping
 use Rattle.promises.specs.Answer.{Answer, served, refused, after, unless}
 use Rattle.promises.specs.Text.{jointStates, eventsOf, decoded}
@@ -41,7 +41,7 @@ unlessAt n bad l a = unless n (firstBad bad l) (ltb (firstBad bad l) (length l))
 -- ---- the cells
 
 unfoldable pub row : Automaton → ℕ → List ℕ
-row A r = tab (cell A r) (A .states)
+row A r = tabulate (cell A r) (A .states)
 
 unfoldable pub rows : Automaton → ℕ → List ℕ
 rows A n = stack (row A) n
@@ -106,7 +106,7 @@ module _ (t : List ℕ) where
 
   -- 'Scenario number n of the list fills the h output bytes from n × h.'
   unfoldable pub written : ℕ → List ℕ → List ℕ → List ℕ → List ℕ
-  written h is cells out = outputAfter (scenarios h is cells out) (each (unrank (rigAutomaton t) h (start t)) is) out
+  written h is cells out = outputAfter (scenarios h is cells out) (concatMap (unrank (rigAutomaton t) h (start t)) is) out
 
   -- 'Index: text, a sequence of event bytes (its length is h), cells. Gives its index.' 13: 'event byte E or more'. 14: 'sequence no scenario'
   unfoldable pub index : List ℕ → List ℕ → Answer
@@ -114,7 +114,7 @@ module _ (t : List ℕ) where
       sized (length s) cells
       (unlessAt 13 (λ p e. leb (eventsOf (decoded t)) e) s
       (counted (length s)
-      (unless 14 (offence (rigAutomaton t) (start t) s) (ltb (offence (rigAutomaton t) (start t) s) (length s))
+      (unless 14 (firstViolation (rigAutomaton t) (start t) s) (ltb (firstViolation (rigAutomaton t) (start t) s) (length s))
       (served (rank (rigAutomaton t) (start t) s ∷ [])))))
 
   unfoldable pub indexCells : List ℕ → List ℕ → List ℕ

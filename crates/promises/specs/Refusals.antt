@@ -1,9 +1,9 @@
 -- 'Numbers of refusal': the table, row by row and in its order, stated of any four calls in the words of Text and Meaning.
 -- Where no row applies the calls are served: that is demand 3.
---   Sized t h cells    == rows 1 to 8 are passed
---   Opens t h cells a  == the answer a is that of rows 1 to 8, where one of them applies
---   All t h L          == L has just the sequences that belong, each once
---   Refusals C         == the table
+--   Sized t h cells       == rows 1 to 8 are passed
+--   EarlyRows t h cells a == the answer a is that of rows 1 to 8, where one of them applies
+--   All t h L             == L has just the sequences that belong, each once
+--   Refusals C            == the table
 -- Assumes nothing.
 use mathlib.Core.Path.{_≡_}
 use mathlib.Core.Logic.{_↔_, _⊎_}
@@ -21,7 +21,7 @@ pub record Sized (t : List ℕ) (h : ℕ) (cells : List ℕ) : Type 0 where
   pub horizon : Case7 h → ⊥
   pub room : Case8 t h cells → ⊥
 
-pub record Opens (t : List ℕ) (h : ℕ) (cells : List ℕ) (a : Answer) : Type 0 where
+pub record EarlyRows (t : List ℕ) (h : ℕ) (cells : List ℕ) (a : Answer) : Type 0 where
   pub text : (n p : ℕ) → Fault t n p → a ≡ refused n p
   pub seven : Readable t → Case7 h → a ≡ refused 7 0
   pub eight : Readable t → (Case7 h → ⊥) → Case8 t h cells → a ≡ refused 8 0
@@ -45,9 +45,9 @@ module _ (C : Calls) where
 
   pub record Refusals : Type 0 where
     -- rows 1 to 8
-    pub count-opens : (t : List ℕ) (h : ℕ) (cells : List ℕ) → Opens t h cells (count t h cells)
-    pub scenarios-opens : (t : List ℕ) (h : ℕ) (is cells out : List ℕ) → Opens t h cells (scenarios t h is cells out)
-    pub index-opens : (t s cells : List ℕ) → Opens t (length s) cells (index t s cells)
+    pub count-early : (t : List ℕ) (h : ℕ) (cells : List ℕ) → EarlyRows t h cells (count t h cells)
+    pub scenarios-early : (t : List ℕ) (h : ℕ) (is cells out : List ℕ) → EarlyRows t h cells (scenarios t h is cells out)
+    pub index-early : (t s cells : List ℕ) → EarlyRows t (length s) cells (index t s cells)
     -- 12: 'output shorter than list length × h'
     pub scenarios-12 : (t : List ℕ) (h : ℕ) (is cells out : List ℕ) → Sized t h cells → Case12 h is out → scenarios t h is cells out ≡ refused 12 0
     -- 13: 'event byte E or more', 'position, from 0'

@@ -29,14 +29,14 @@ onto x [] = (x ∷ []) ∷ []
 onto x (p ∷ ps) = (x ∷ p) ∷ ps
 
 -- the pieces that byte b parts: one more than there are bytes b
-unfoldable pub parted : ℕ → List ℕ → List (List ℕ)
-parted b [] = [] ∷ []
-parted b (x ∷ xs) = pick (eqb x b) ([] ∷ parted b xs) (onto x (parted b xs))
+unfoldable pub splitOn : ℕ → List ℕ → List (List ℕ)
+splitOn b [] = [] ∷ []
+splitOn b (x ∷ xs) = pick (eqb x b) ([] ∷ splitOn b xs) (onto x (splitOn b xs))
 
-unfoldable pub butLast : List (List ℕ) → List (List ℕ)
-butLast [] = []
-butLast (p ∷ []) = []
-butLast (p ∷ (q ∷ ps)) = p ∷ butLast (q ∷ ps)
+unfoldable pub init : List (List ℕ) → List (List ℕ)
+init [] = []
+init (p ∷ []) = []
+init (p ∷ (q ∷ ps)) = p ∷ init (q ∷ ps)
 
 unfoldable pub lastOf : List (List ℕ) → List ℕ
 lastOf [] = []
@@ -45,24 +45,24 @@ lastOf (p ∷ (q ∷ ps)) = lastOf (q ∷ ps)
 
 -- 'A line ends with byte 10'
 unfoldable pub lines : List ℕ → List (List ℕ)
-lines t = butLast (parted 10 t)
+lines t = init (splitOn 10 t)
 
 unfoldable pub unended : List ℕ → List ℕ
-unended t = lastOf (parted 10 t)
+unended t = lastOf (splitOn 10 t)
 
 -- 'fields are parted by one byte 9'
 unfoldable pub fields : List ℕ → List (List ℕ)
-fields l = parted 9 l
+fields l = splitOn 9 l
 
-unfoldable pub digits : ℕ → List ℕ → Option ℕ
-digits n [] = some n
-digits n (b ∷ bs) = pick (leb 48 b && leb b 57) (digits (10 * n + (b - 48)) bs) none
+unfoldable pub digitsValue : ℕ → List ℕ → Option ℕ
+digitsValue n [] = some n
+digitsValue n (b ∷ bs) = pick (leb 48 b && leb b 57) (digitsValue (10 * n + (b - 48)) bs) none
 
 -- 'A number is one to five digits, no leading zero except 0 itself'
 unfoldable pub number : List ℕ → Option ℕ
 number [] = none
-number (b ∷ []) = digits 0 (b ∷ [])
-number (b ∷ (c ∷ bs)) = pick (eqb b 48) none (pick (leb (length bs) 3) (digits 0 (b ∷ (c ∷ bs))) none)
+number (b ∷ []) = digitsValue 0 (b ∷ [])
+number (b ∷ (c ∷ bs)) = pick (eqb b 48) none (pick (leb (length bs) 3) (digitsValue 0 (b ∷ (c ∷ bs))) none)
 
 unfoldable pub same : List ℕ → List ℕ → Bool
 same [] [] = true

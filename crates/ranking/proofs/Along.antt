@@ -14,43 +14,43 @@ use borrow.Author.Tests.{lt-ltb, le-ltb}
 use Rattle.automaton.specs.Automaton.{Automaton}
 use Rattle.automaton.specs.Pruning.{live}
 use Rattle.automaton.specs.Counting.{N, most}
-use Rattle.automaton.specs.Ranking.{before, rank, offence}
+use Rattle.automaton.specs.Ranking.{before, rank, firstViolation}
 use Rattle.automaton.proofs.Pruning.{live-back}
 use Rattle.counting.proofs.Sums.{upTo, upTo-least}
 use Rattle.ranking.specs.Ranks.{Numbered, rankedAs}
-use Rattle.ranking.specs.declared.Ranked.the-variants.{Index, Offence}
+use Rattle.ranking.specs.declared.Ranked.the-variants.{Index, Violation}
 use Rattle.ranking.proofs.Steps.{event-in, before-upTo, upTo-next, entry-live, entry-next}
 
 -- the first k events of s lead from x to `at` by live states, and their counts before are `index` together
 pub record Along (A : Automaton) (x : ℕ) (s : List ℕ) (k at index : ℕ) : Type 0 where
-  pub offence-on : offence A x s ≡ k + offence A at (drop k s)
+  pub firstViolation-on : firstViolation A x s ≡ k + firstViolation A at (drop k s)
   pub rank-on : rank A x s ≡ index + rank A at (drop k s)
   pub room : index + N A (length s - k) at ≤ N A (length s) x
 
 module _ (A : Automaton) (x : ℕ) (s : List ℕ) where
   pub along-start : Along A x s 0 x 0
-  along-start = record { offence-on = sym (zero-add _); rank-on = sym (zero-add _); room = rw (sub-zero (length s)) (omega arith) }
+  along-start = record { firstViolation-on = sym (zero-add _); rank-on = sym (zero-add _); room = rw (sub-zero (length s)) (omega arith) }
 
   pub along-end : (k at index : ℕ) → k ≡ length s → Along A x s k at index → Index index ≡ rankedAs A x s
-  unfolding rankedAs offence rank
+  unfolding rankedAs firstViolation rank
   along-end k at index e is =
       let none : drop k s ≡ [] = drop-of-length-le s {i = k} (omega arith) in
-      let o : offence A x s ≡ k + 0 = is .offence-on ∙ ap (λ (l : List ℕ). k + offence A at l) none in
+      let o : firstViolation A x s ≡ k + 0 = is .firstViolation-on ∙ ap (λ (l : List ℕ). k + firstViolation A at l) none in
       let r : rank A x s ≡ index + 0 = is .rank-on ∙ ap (λ (l : List ℕ). index + rank A at l) none in
       let i : index ≡ rank A x s = omega arith in
-      rw (le-ltb (offence A x s) (length s) (omega arith)) (ap Index i)
+      rw (le-ltb (firstViolation A x s) (length s) (omega arith)) (ap Index i)
 
   module _ (p events : ℕ) (t : List ℕ) (numbered : Numbered A p events t) (few : p ≤ 1024) (k at index : ℕ) (hk : k < length s)
       (he : getD s k 0 < events) (hat : at < p) (least : N A (length s) x < most) (is : Along A x s k at index) where
     rest : drop k s ≡ getD s k 0 ∷ drop (suc k) s
     rest = drop-cons s k 0 hk
 
-    pub along-off : p ≤ getD t (at * 16 + getD s k 0) 0 → Offence k ≡ rankedAs A x s
-    unfolding rankedAs offence
+    pub along-off : p ≤ getD t (at * 16 + getD s k 0) 0 → Violation k ≡ rankedAs A x s
+    unfolding rankedAs firstViolation
     along-off h =
         let dead : live A (A .next at (getD s k 0)) ≡ false = sym (entry-live A p events t numbered few at (getD s k 0) hat he) ∙ le-ltb _ p h in
-        let z : offence A at (getD s k 0 ∷ drop (suc k) s) ≡ 0 = rw dead in
-        let o : offence A x s ≡ k = is .offence-on ∙ ap (λ (l : List ℕ). k + offence A at l) rest ∙ omega (arith, z) in
+        let z : firstViolation A at (getD s k 0 ∷ drop (suc k) s) ≡ 0 = rw dead in
+        let o : firstViolation A x s ≡ k = is .firstViolation-on ∙ ap (λ (l : List ℕ). k + firstViolation A at l) rest ∙ omega (arith, z) in
         rw (o, lt-ltb k (length s) hk)
 
     module _ (goes : getD t (at * 16 + getD s k 0) 0 < p) where
@@ -71,7 +71,7 @@ module _ (A : Automaton) (x : ℕ) (s : List ℕ) where
 
       pub along-step : (y n q : ℕ) → y ≡ getD t (at * 16 + getD s k 0) 0 → n ≡ before (λ d. N A (length s - 1 - k) (A .next at d)) (A .events) (getD s k 0)
           → q ≡ min (index + n) (2 ^ 64 - 1) → Along A x s (k + 1) y q
-      unfolding offence rank most
+      unfolding firstViolation rank most
       along-step y n q read count sum =
           let e = getD s k 0 in
           let r = length s - 1 - k in
@@ -83,13 +83,13 @@ module _ (A : Automaton) (x : ℕ) (s : List ℕ) where
           let within : upTo A r at (e + 1) ≤ N A (r + 1) at = upTo-least A r at (e + 1) here in
           let whole : N A (length s - k) at ≡ N A (r + 1) at = ap (λ (m : ℕ). N A m at) more-left in
           let exact : q ≡ index + n = omega (arith, is .room) in
-          let one : offence A at (e ∷ drop (suc k) s) ≡ suc (offence A (A .next at e) (drop (suc k) s)) = rw alive in
+          let one : firstViolation A at (e ∷ drop (suc k) s) ≡ suc (firstViolation A (A .next at e) (drop (suc k) s)) = rw alive in
           let two : rank A at (e ∷ drop (suc k) s) ≡ n + rank A (A .next at e) (drop (suc k) s) =
           ap (λ (m : ℕ). before (λ d. N A m (A .next at d)) (A .events) e + rank A (A .next at e) (drop (suc k) s)) len ∙ ap (λ (m : ℕ). m + rank A (A .next at e) (drop (suc k) s)) (sym count) in
-          let o : offence A x s ≡ k + suc (offence A (A .next at e) (drop (suc k) s)) = is .offence-on ∙ ap (λ (l : List ℕ). k + offence A at l) rest ∙ ap (λ (m : ℕ). k + m) one in
+          let o : firstViolation A x s ≡ k + suc (firstViolation A (A .next at e) (drop (suc k) s)) = is .firstViolation-on ∙ ap (λ (l : List ℕ). k + firstViolation A at l) rest ∙ ap (λ (m : ℕ). k + m) one in
           let w : rank A x s ≡ index + (n + rank A (A .next at e) (drop (suc k) s)) = is .rank-on ∙ ap (λ (l : List ℕ). index + rank A at l) rest ∙ ap (λ (m : ℕ). index + m) two in
           record {
-            offence-on = rw (leads, add-one k) (omega arith);
+            firstViolation-on = rw (leads, add-one k) (omega arith);
             rank-on = rw (leads, add-one k) (omega arith);
             room = rw (leads, fewer) (omega (arith, is .room));
           }

@@ -1,7 +1,6 @@
 -- The laws that the proofs of this crate share, and those that a caller gives its premises by.
 pub mod Steps
 pub mod Rows
-pub mod Rest
 pub mod Walk
 pub mod Along
 pub mod Premises

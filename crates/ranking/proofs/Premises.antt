@@ -4,7 +4,7 @@ use mathlib.Core.List.{List, _++_}
 use Prim.Native.Nat.{ℕ, _+_, _≤_}
 use native.Mathlib.Omega.{arith}
 use lib.ListN.{length, getD, drop}
-use Rattle.lists.specs.Lists.{each, range}
+use Rattle.lists.specs.Lists.{concatMap, range}
 use Rattle.lists.proofs.Tables.{length-range}
 use Rattle.automaton.specs.Automaton.{Automaton}
 use Rattle.automaton.specs.Counting.{N}
@@ -13,7 +13,7 @@ use Rattle.automaton.specs.Table.{Pruned}
 use Rattle.promises.specs.Calls.{filled}
 use Rattle.ranking.specs.Ranks.{Numbered, HoldsRows, IndicesBelow, withScenarios}
 use Rattle.ranking.proofs.Rows.{rows-fewer, filled-rows}
-use Rattle.ranking.proofs.Walk.{length-unrank, length-each-sized}
+use Rattle.ranking.proofs.Walk.{length-unrank, length-concatMap-sized}
 
 module _ (A : Automaton) where
   pub numbered : (p events : ℕ) (t : List ℕ) → A .states ≡ p → A .events ≡ range events → events ≤ 16 → Pruned A t → Numbered A p events t
@@ -26,8 +26,8 @@ module _ (A : Automaton) where
 
   -- the scenarios fill as many bytes as they have
   pub served-fresh : (h x : ℕ) (is out : List ℕ) → IndicesBelow (N A h x) is
-      → withScenarios A h x is out ≡ each (unrank A h x) is ++ drop (length (each (unrank A h x) is)) out
+      → withScenarios A h x is out ≡ concatMap (unrank A h x) is ++ drop (length (concatMap (unrank A h x) is)) out
   unfolding withScenarios IndicesBelow
   served-fresh h x is out below =
-      ap (λ (n : ℕ). each (unrank A h x) is ++ drop n out)
-      (sym (length-each-sized (unrank A h x) h is (λ k lt. length-unrank A h x (getD is k 0) (below k lt))))
+      ap (λ (n : ℕ). concatMap (unrank A h x) is ++ drop n out)
+      (sym (length-concatMap-sized (unrank A h x) h is (λ k lt. length-unrank A h x (getD is k 0) (below k lt))))

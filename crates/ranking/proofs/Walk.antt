@@ -12,7 +12,7 @@ use lib.ListN.{length, getD, take, drop, length-append, length-take, length-drop
 use lib.Seq.{take-at, drop-at, take-suc, drop-cons, drop-drop, take-length}
 use lib.Dec.{ltb, leb}
 use borrow.Author.Tests.{lt-ltb, le-ltb, le-leb, lt-leb, leb-true, leb-false}
-use Rattle.lists.specs.Lists.{each}
+use Rattle.lists.specs.Lists.{concatMap}
 use Rattle.lists.proofs.Tests.{case, split}
 use Rattle.lists.proofs.Members.{getD-in}
 use Rattle.automaton.specs.Automaton.{Automaton}
@@ -75,31 +75,31 @@ pub length-unrank : (A : Automaton) (r x i : ℕ) → i < N A r x → length (un
 length-unrank A r x i h =
     ap length (unrank-at A r x i h) ∙ scenarios-sound A r x (getD (scenarios A r x) i []) (getD-in (scenarios A r x) i [] (omega (arith, scenarios-length A r x))) .0
 
-each-snoc : (f : ℕ → List ℕ) (l : List ℕ) (i : ℕ) → each f (l ++ i ∷ []) ≡ each f l ++ f i
-each-snoc f [] i = append-nil (f i)
-each-snoc f (x ∷ l) i = ap (λ (w : List ℕ). f x ++ w) (each-snoc f l i) ∙ sym (append-assoc (f x) (each f l) (f i))
+concatMap-snoc : (f : ℕ → List ℕ) (l : List ℕ) (i : ℕ) → concatMap f (l ++ i ∷ []) ≡ concatMap f l ++ f i
+concatMap-snoc f [] i = append-nil (f i)
+concatMap-snoc f (x ∷ l) i = ap (λ (w : List ℕ). f x ++ w) (concatMap-snoc f l i) ∙ sym (append-assoc (f x) (concatMap f l) (f i))
 
 module _ (f : ℕ → List ℕ) (h : ℕ) (is : List ℕ) (sized : (k : ℕ) → k < length is → length (f (getD is k 0)) ≡ h) where
-  each-suc : (n : ℕ) → n < length is → each f (take (suc n) is) ≡ each f (take n is) ++ f (getD is n 0)
-  each-suc n lt = ap (each f) (take-suc is n 0 lt) ∙ each-snoc f (take n is) (getD is n 0)
+  concatMap-suc : (n : ℕ) → n < length is → concatMap f (take (suc n) is) ≡ concatMap f (take n is) ++ f (getD is n 0)
+  concatMap-suc n lt = ap (concatMap f) (take-suc is n 0 lt) ∙ concatMap-snoc f (take n is) (getD is n 0)
 
-  length-each-take : (n : ℕ) → n ≤ length is → length (each f (take n is)) ≡ n * h
-  length-each-take zero le = sym (zero-mul h)
-  length-each-take (suc n) le =
-      ap length (each-suc n le) ∙ rw (length-append, length-each-take n (omega arith), sized n le, suc-mul)
+  length-concatMap-take : (n : ℕ) → n ≤ length is → length (concatMap f (take n is)) ≡ n * h
+  length-concatMap-take zero le = sym (zero-mul h)
+  length-concatMap-take (suc n) le =
+      ap length (concatMap-suc n le) ∙ rw (length-append, length-concatMap-take n (omega arith), sized n le, suc-mul)
 
-  pub length-each-sized : length (each f is) ≡ length is * h
-  length-each-sized = ap (λ (l : List ℕ). length (each f l)) (sym (take-length is)) ∙ length-each-take (length is) (omega arith)
+  pub length-concatMap-sized : length (concatMap f is) ≡ length is * h
+  length-concatMap-sized = ap (λ (l : List ℕ). length (concatMap f l)) (sym (take-length is)) ∙ length-concatMap-take (length is) (omega arith)
 
   -- the h bytes from n × h were lent, and are the scenario of index n now
-  pub walk-step : (d out : List ℕ) (n : ℕ) (last : List ℕ) → n < length is → out ≡ each f (take n is) ++ drop (n * h) d → last ≡ f (getD is n 0)
-      → take (n * h) out ++ (last ++ drop (n * h + h - n * h) (drop (n * h) out)) ≡ each f (take (n + 1) is) ++ drop ((n + 1) * h) d
+  pub walk-step : (d out : List ℕ) (n : ℕ) (last : List ℕ) → n < length is → out ≡ concatMap f (take n is) ++ drop (n * h) d → last ≡ f (getD is n 0)
+      → take (n * h) out ++ (last ++ drop (n * h + h - n * h) (drop (n * h) out)) ≡ concatMap f (take (n + 1) is) ++ drop ((n + 1) * h) d
   walk-step d out n last lt now back =
-      let len : length (each f (take n is)) ≡ n * h = length-each-take n (omega arith) in
-      let w : take (n * h) out ≡ each f (take n is) = ap (take (n * h)) now ∙ take-at (each f (take n is)) (drop (n * h) d) (n * h) len in
-      let r : drop (n * h) out ≡ drop (n * h) d = ap (drop (n * h)) now ∙ drop-at (each f (take n is)) (drop (n * h) d) (n * h) len in
+      let len : length (concatMap f (take n is)) ≡ n * h = length-concatMap-take n (omega arith) in
+      let w : take (n * h) out ≡ concatMap f (take n is) = ap (take (n * h)) now ∙ take-at (concatMap f (take n is)) (drop (n * h) d) (n * h) len in
+      let r : drop (n * h) out ≡ drop (n * h) d = ap (drop (n * h)) now ∙ drop-at (concatMap f (take n is)) (drop (n * h) d) (n * h) len in
       let one : n * h + h - n * h ≡ h = omega arith in
-      rw (back, r, one, drop-drop h (n * h) d, w, add-one n, suc-mul n h, each-suc n lt) (sym (append-assoc (each f (take n is)) (f (getD is n 0)) (drop (n * h + h) d)))
+      rw (back, r, one, drop-drop h (n * h) d, w, add-one n, suc-mul n h, concatMap-suc n lt) (sym (append-assoc (concatMap f (take n is)) (f (getD is n 0)) (drop (n * h + h) d)))
 
 -- the part of h bytes from n × h on
 pub length-part : (out : List ℕ) (a h : ℕ) → a + h ≤ length out → length (take (a + h - a) (drop a out)) ≡ h

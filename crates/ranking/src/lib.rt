@@ -2,7 +2,7 @@
 ghost use mathlib.Core.Path.{_≡_};
 ghost use mathlib.Core.Bool.{true, not};
 ghost use Prim.Native.Nat.{ℕ, _+_, _-_, _*_, _<_, _≤_, _^_, min};
-ghost use lib.ListN.{length, set};
+ghost use lib.ListN.{length};
 ghost use lib.Dec.{ltb};
 ghost use Rattle.lists.specs.Lists.{pick};
 ghost use Rattle.automaton.specs.Automaton.{Automaton};
@@ -23,7 +23,7 @@ pub struct Choice {
 // A sequence's index, or the place of its first event that is not admitted or leads to a state not live.
 pub enum Ranked {
     Index(u64),
-    Offence(usize),
+    Violation(usize),
 }
 
 // The event that the index i from x falls in, by the row of cells of what is left after it. Columns past the last event lead nowhere.
@@ -52,47 +52,18 @@ pub fn choose_event(cells: &[u64], table: &[u16; 16384], p: usize, x: usize, i: 
     }
 }
 
-// Writes the first event of the scenario of index i from x to the part lent, one byte for each event left.
-fn first_event(
-    cells: &[u64],
-    table: &[u16; 16384],
-    p: usize,
-    x: usize,
-    i: u64,
-    out: &mut [u8],
-) -> Choice
-    requires { ⌜ (p ≤ 1024) × (x < p) × (0 < length (now out)) × (length (now out) * p ≤ length (now cells)) ⌝ }
-    ensures { λ c. ⌜ (c .state < p) × (now (out .exit) ≡ set (now (out .entry)) 0 (c .event)) ⌝ }
-    ensures { λ c. ⌜ ((A : Automaton) (events : ℕ) → Numbered A p events (now (table .entry)) → HoldsRows A (length (now (out .entry))) (now (cells .entry)) → i < N A (length (now (out .entry))) x → N A (length (now (out .entry))) x < most → Chosen A (length (now (out .entry)) - 1) x i c) ⌝ }
-{
-    let from = (out.len() - 1) * p;
-    let c = choose_event(&cells[from..], table, p, x, i);
-    out[0] = c.event;
-    c
-}
-
 // Writes the scenario of index i from x to the part lent, one byte for each event left.
 pub fn unrank(cells: &[u64], table: &[u16; 16384], p: usize, x: usize, i: u64, out: &mut [u8])
     requires { ⌜ (p ≤ 1024) × (x < p) × (length (now out) * p ≤ length (now cells)) ⌝ }
     ensures { λ _. ⌜ ((A : Automaton) (events : ℕ) → Numbered A p events (now (table .entry)) → HoldsRows A (length (now (out .entry))) (now (cells .entry)) → i < N A (length (now (out .entry))) x → N A (length (now (out .entry))) x < most → now (out .exit) ≡ unrank A (length (now (out .entry))) x i) ⌝ }
 {
-    if out.len() == 0 {
+    let r = out.len();
+    if r == 0 {
         return;
     }
-    let c = first_event(cells, table, p, x, i, out);
-    unrank_rest(cells, table, p, c.state, c.left, &mut out[1..]);
-}
-
-// The rest of a scenario, as `unrank` writes it. They call each other, so that the compiler can make one function of the two, with a call for
-// every second event: what a processor loses at each of 1,000 returns in a row is halved.
-fn unrank_rest(cells: &[u64], table: &[u16; 16384], p: usize, x: usize, i: u64, out: &mut [u8])
-    requires { ⌜ (p ≤ 1024) × (x < p) × (length (now out) * p ≤ length (now cells)) ⌝ }
-    ensures { λ _. ⌜ ((A : Automaton) (events : ℕ) → Numbered A p events (now (table .entry)) → HoldsRows A (length (now (out .entry))) (now (cells .entry)) → i < N A (length (now (out .entry))) x → N A (length (now (out .entry))) x < most → now (out .exit) ≡ unrank A (length (now (out .entry))) x i) ⌝ }
-{
-    if out.len() == 0 {
-        return;
-    }
-    let c = first_event(cells, table, p, x, i, out);
+    let from = (r - 1) * p;
+    let c = choose_event(&cells[from..], table, p, x, i);
+    out[0] = c.event;
     unrank(cells, table, p, c.state, c.left, &mut out[1..]);
 }
 
@@ -143,7 +114,7 @@ pub fn rank(
         let e = wide(s[k]);
         let y = counting::wide(table[at * 16 + e]);
         if p <= y {
-            return Ranked::Offence(k);
+            return Ranked::Violation(k);
         }
         let from = (h - 1 - k) * p;
         let n = count_before(&cells[from..], table, p, at, e);

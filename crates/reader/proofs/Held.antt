@@ -20,14 +20,14 @@ use Rattle.promises.specs.Reading.{empty, moves, goOut, goAgain, tests, isOther
 use Rattle.promises.specs.Rig.{target}
 use Rattle.promises.proofs.Lines.{monitors-more}
 use Rattle.rig.specs.declared.Rig.{Rig}
-use Rattle.rig.specs.Record.{place, moveAt}
+use Rattle.rig.specs.Record.{moveIndex, moveAt}
 use Rattle.decoding.specs.declared.Form.{Form}
 use Rattle.decoding.specs.declared.Form.the-variants.{Rig as RigForm, Mon, Go, Other}
-use Rattle.decoding.specs.Forms.{lineOf}
+use Rattle.decoding.specs.Forms.{formLine}
 use Rattle.reader.specs.declared.Sizes.{Sizes}
 use Rattle.reader.specs.Reading.{withLine, recordFrom}
 use Rattle.reader.specs.Record.{nobody}
-use Rattle.reader.specs.Taking.{Room, rigCase, rigSizes, monCase, monSizes, monCounts, goCase, goMoves, caseOf, sizesAfter, movesAfter, countsAfter}
+use Rattle.reader.specs.Taking.{Bounded, rigCase, rigSizes, monCase, monSizes, monCounts, goCase, goMoves, caseOf, sizesAfter, movesAfter, countsAfter}
 use Rattle.reader.proofs.Monitors.{monitorAt, events-snoc, empty-nil, empty-snoc, empty-length, length-addLine, product-addLine, addLine-at, addLine-beside, latest-at, new-before, new-at, new-after, product-new}
 use Rattle.reader.proofs.Tables.{Table, table-blank, table-beside, table-go}
 
@@ -49,7 +49,7 @@ pub record Holds (r : Rig) (ls : List Line) (z : Sizes) (mv ct : List ℕ) : Typ
   pub latest-is : (k : ℕ) → suc k ≡ z .monitors → statesAt (monitors ls) k ≡ z .latest
   pub tabled : Tabled (monitors ls) (z .monitors) (z .events) mv ct
   pub recorded : recordFrom r ls ≡ record { moves = mv; counts = ct; monitors = z .monitors; events = z .events }
-  pub room : Room z
+  pub room : Bounded z
   pub long : length mv ≡ 2048
   pub wide : length ct ≡ 4
 
@@ -70,7 +70,7 @@ holds-none mv ct blank long wide = record {
   joint-is = refl;
   latest-is = λ k q. absurd (omega arith);
   tabled = record {
-    tables = λ k h. table-blank mv k 0 _ (λ s e hs he. blank (place k s e) (omega arith));
+    tables = λ k h. table-blank mv k 0 _ (λ s e hs he. blank (moveIndex k s e) (omega arith));
     counts-are = λ k h. absurd (omega arith);
     some-state = λ k h. absurd (omega arith);
     few-states = λ k h. absurd (omega arith);
@@ -156,7 +156,7 @@ head-addLine l ms k = case (eqb (suc k) (length ms)) (λ q. ap (λ m. m .head) (
 -- a move more, of the monitor m, which is the last
 module _ (ms : List Monitor) (n E m s e t : ℕ) (mv ct : List ℕ) (last : suc m ≡ length ms) (long : length mv ≡ 2048) (fewE : E ≤ 16) (fewS : statesAt ms m ≤ 32)
     (hm : m < 4) (hs : s < statesAt ms m) (he : e < E) (ht : t < statesAt ms m) (free : moveAt mv m s e ≡ 255) (T : Tabled ms n E mv ct) where
-  one-move : Tabled (addLine (go s e t) ms) n E (set mv (place m s e) t) ct
+  one-move : Tabled (addLine (go s e t) ms) n E (set mv (moveIndex m s e) t) ct
   one-move = record {
     tables = λ k h. case (eqb k m) (λ q. at k h (eqb-true k m q)) (λ q. beside k h (eqb-false k m q));
     counts-are = λ k h. T .counts-are k h ∙ sym (heads k);
@@ -167,10 +167,10 @@ module _ (ms : List Monitor) (n E m s e t : ℕ) (mv ct : List ℕ) (last : suc 
       heads : (k : ℕ) → statesAt (addLine (go s e t) ms) k ≡ statesAt ms k
       heads k = ap statesOf (head-addLine (go s e t) ms k)
 
-      at : (k : ℕ) → k < 4 → k ≡ m → Table (set mv (place m s e) t) k (monitorAt (addLine (go s e t) ms) k .body) E (statesAt (addLine (go s e t) ms) k)
+      at : (k : ℕ) → k < 4 → k ≡ m → Table (set mv (moveIndex m s e) t) k (monitorAt (addLine (go s e t) ms) k .body) E (statesAt (addLine (go s e t) ms) k)
       at k h q = rw (q, addLine-at (go s e t) ms m last) (table-go mv m s e t (monitorAt ms m .body) E (statesAt ms m) (T .tables m hm) hm long fewS fewE hs he ht free)
 
-      beside : (k : ℕ) → k < 4 → (k ≡ m → ⊥) → Table (set mv (place m s e) t) k (monitorAt (addLine (go s e t) ms) k .body) E (statesAt (addLine (go s e t) ms) k)
+      beside : (k : ℕ) → k < 4 → (k ≡ m → ⊥) → Table (set mv (moveIndex m s e) t) k (monitorAt (addLine (go s e t) ms) k .body) E (statesAt (addLine (go s e t) ms) k)
       beside k h ne = rw (addLine-beside (go s e t) ms k (λ q. ne (omega arith))) (table-beside mv k m s e t (monitorAt ms k .body) E (statesAt ms k) ne (omega arith) (omega arith) (T .tables k h))
 
 module _ (r : Rig) (ls : List Line) (z : Sizes) (mv ct : List ℕ) (H : Holds r ls z mv ct) where
@@ -221,7 +221,7 @@ module _ (r : Rig) (ls : List Line) (z : Sizes) (mv ct : List ℕ) (H : Holds r 
   unfolding goCase lineCase tests isOther
   go-case s e t = sym (same-picks _ _ _ _ _ _ misplaced (λ p. out-of-range p s e t) (λ p. again p s e t))
 
-  pub case-is : (f : Form) → caseOf mv z f ≡ lineCase ls (lineOf f)
+  pub case-is : (f : Form) → caseOf mv z f ≡ lineCase ls (formLine f)
   unfolding lineCase isOther
   case-is (RigForm e) = rig-case e
   case-is (Mon s) = mon-case s
@@ -302,11 +302,11 @@ module _ (r : Rig) (ls : List Line) (z : Sizes) (mv ct : List ℕ) (H : Holds r 
         tabled = rw ms (one-move (monitors ls) (z .monitors) (z .events) (z .monitors - 1) s e t mv ct (last p) (H .long) (H .room .few-events) (rw (last-states p) (H .room .few-latest)) (omega (arith, H .room .few-monitors)) (rw (last-states p) hs) he (rw (last-states p) ht) free (H .tabled));
         recorded = recorded-more (go s e t);
         room = H .room;
-        long = length-set mv (place (z .monitors - 1) s e) t ∙ H .long;
+        long = length-set mv (moveIndex (z .monitors - 1) s e) t ∙ H .long;
         wide = H .wide;
       }
 
-  pub holds-more : (f : Form) → caseOf mv z f ≡ 0 → Holds r (ls ++ (lineOf f ∷ [])) (sizesAfter z f) (movesAfter mv z f) (countsAfter ct z f)
+  pub holds-more : (f : Form) → caseOf mv z f ≡ 0 → Holds r (ls ++ (formLine f ∷ [])) (sizesAfter z f) (movesAfter mv z f) (countsAfter ct z f)
   holds-more (RigForm e) q = holds-rig e q
   holds-more (Mon s) q = holds-mon s q
   holds-more (Go s e t) q = holds-go s e t q

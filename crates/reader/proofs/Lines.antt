@@ -5,48 +5,48 @@ use mathlib.Core.List.{List, [], _∷_, map}
 use Prim.Native.Nat.{ℕ, _+_, _-_, _≤_, _<_}
 use lib.ListN.{length, take, drop}
 use lib.Dec.{eqb}
-use Rattle.lists.specs.Lists.{pick, place}
-use Rattle.promises.specs.Text.{onto, parted, butLast, lastOf, lines, unended, decode, decoded}
-use Rattle.decoding.proofs.Parts.{parted-whole, parted-first}
+use Rattle.lists.specs.Lists.{pick, indexOf}
+use Rattle.promises.specs.Text.{onto, splitOn, init, lastOf, lines, unended, decode, decoded}
+use Rattle.decoding.proofs.Parts.{splitOn-whole, splitOn-first}
 
 -- there is at least one piece
-parted-some : (b : ℕ) (l : List ℕ) → (p : List ℕ) × (ps : List (List ℕ)) × (parted b l ≡ p ∷ ps)
-unfolding parted onto
-parted-some b [] = ([], [], refl)
-parted-some b (x ∷ l) = go (eqb x b) (parted b l)
+splitOn-some : (b : ℕ) (l : List ℕ) → (p : List ℕ) × (ps : List (List ℕ)) × (splitOn b l ≡ p ∷ ps)
+unfolding splitOn onto
+splitOn-some b [] = ([], [], refl)
+splitOn-some b (x ∷ l) = go (eqb x b) (splitOn b l)
   where
     go : (t : Bool) (q : List (List ℕ)) → (p : List ℕ) × (ps : List (List ℕ)) × (pick t ([] ∷ q) (onto x q) ≡ p ∷ ps)
     go true q = ([], q, refl)
     go false [] = (x ∷ [], [], refl)
     go false (p ∷ ps) = (x ∷ p, ps, refl)
 
-butLast-more : (p : List ℕ) (b : ℕ) (l : List ℕ) → butLast (p ∷ parted b l) ≡ p ∷ butLast (parted b l)
-unfolding butLast
-butLast-more p b l = let (q, qs, e) = parted-some b l in rw e
+init-more : (p : List ℕ) (b : ℕ) (l : List ℕ) → init (p ∷ splitOn b l) ≡ p ∷ init (splitOn b l)
+unfolding init
+init-more p b l = let (q, qs, e) = splitOn-some b l in rw e
 
-lastOf-more : (p : List ℕ) (b : ℕ) (l : List ℕ) → lastOf (p ∷ parted b l) ≡ lastOf (parted b l)
+lastOf-more : (p : List ℕ) (b : ℕ) (l : List ℕ) → lastOf (p ∷ splitOn b l) ≡ lastOf (splitOn b l)
 unfolding lastOf
-lastOf-more p b l = let (q, qs, e) = parted-some b l in rw e
+lastOf-more p b l = let (q, qs, e) = splitOn-some b l in rw e
 
 -- a text with a line end
-module _ (l : List ℕ) (end : ℕ) (e : end ≡ place l 10) (h : end < length l) where
-  parts : parted 10 l ≡ take end l ∷ parted 10 (drop (end + 1) l)
-  parts = rw e (parted-first 10 l (rw (← e) h))
+module _ (l : List ℕ) (end : ℕ) (e : end ≡ indexOf l 10) (h : end < length l) where
+  parts : splitOn 10 l ≡ take end l ∷ splitOn 10 (drop (end + 1) l)
+  parts = rw e (splitOn-first 10 l (rw (← e) h))
 
   pub decoded-first : decoded l ≡ decode (take end l) ∷ decoded (drop (end + 1) l)
   unfolding decoded lines
-  decoded-first = ap (λ ps. map decode (butLast ps)) parts ∙ ap (map decode) (butLast-more (take end l) 10 (drop (end + 1) l))
+  decoded-first = ap (λ ps. map decode (init ps)) parts ∙ ap (map decode) (init-more (take end l) 10 (drop (end + 1) l))
 
   pub unended-first : unended l ≡ unended (drop (end + 1) l)
   unfolding unended
   unended-first = ap lastOf parts ∙ lastOf-more (take end l) 10 (drop (end + 1) l)
 
 -- a text without one
-module _ (l : List ℕ) (h : length l ≤ place l 10) where
+module _ (l : List ℕ) (h : length l ≤ indexOf l 10) where
   pub decoded-none : decoded l ≡ []
-  unfolding decoded lines butLast
-  decoded-none = ap (λ ps. map decode (butLast ps)) (parted-whole 10 l h)
+  unfolding decoded lines init
+  decoded-none = ap (λ ps. map decode (init ps)) (splitOn-whole 10 l h)
 
   pub unended-all : unended l ≡ l
   unfolding unended lastOf
-  unended-all = ap lastOf (parted-whole 10 l h)
+  unended-all = ap lastOf (splitOn-whole 10 l h)

@@ -1,5 +1,5 @@
 -- The reader on its way through a text: what it has passed, and what is left to read. Assumes nothing.
---   wholeReading t      == what reading the lines of t gives
+--   wholeReading t         == what reading the lines of t gives
 --   Passed r t z n i mv ct == the lines before byte i of t are read into r with no refusal; the next one is line n
 use mathlib.Core.Path.{_≡_, refl, sym, ap, ap₂, _∙_}
 use mathlib.Core.Bool.{Bool, true, false, not}
@@ -10,7 +10,7 @@ use lib.ListN.{length, getD, take, drop, length-append, length-drop, drop-of-len
 use lib.Seq.{drop-drop}
 use lib.Dec.{eqb}
 use borrow.Author.Tests.{eq-eqb, ne-eqb, eqb-true, le-ltb, lt-ltb}
-use Rattle.lists.specs.Lists.{pick, place}
+use Rattle.lists.specs.Lists.{pick, indexOf}
 use Rattle.lists.proofs.Tests.{case}
 use Rattle.promises.specs.Answer.{Answer, served, refused}
 use Rattle.promises.specs.Text.{Line, monitors, decode, decoded, unended}
@@ -18,8 +18,8 @@ use Rattle.promises.specs.Reading.{empty, lineCase, readingFrom, reading}
 use Rattle.rig.specs.declared.Rig.{Rig}
 use Rattle.rig.specs.Record.{emptyRig}
 use Rattle.decoding.specs.declared.Form.{Form}
-use Rattle.decoding.specs.Forms.{lineOf}
-use Rattle.decoding.proofs.Parts.{place-le}
+use Rattle.decoding.specs.Forms.{formLine}
+use Rattle.decoding.proofs.Parts.{indexOf-le}
 use Rattle.decoding.proofs.Numbers.{rest-whole}
 use Rattle.reader.specs.declared.Reading.{Reading}
 use Rattle.reader.specs.declared.Sizes.{Sizes}
@@ -66,29 +66,29 @@ taken-bad n m z q = go (eqb n 0) refl q
 
 module _ (r : Rig) (t : List ℕ) (z : Sizes) (line at : ℕ) (mv ct : List ℕ) (P : Passed r t z line at mv ct) where
   -- the last line is not ended
-  pub stops-unended : at < length t → (end : ℕ) → end ≡ place (take (length t - at) (drop at t)) 10 → end ≡ length (take (length t - at) (drop at t)) → wholeReading t ≡ refused 2 line
+  pub stops-unended : at < length t → (end : ℕ) → end ≡ indexOf (take (length t - at) (drop at t)) 10 → end ≡ length (take (length t - at) (drop at t)) → wholeReading t ≡ refused 2 line
   unfolding readingFrom
   stops-unended h end e q =
-      let e′ : end ≡ place (drop at t) 10 = rw (rest-whole t at) at e in
+      let e′ : end ≡ indexOf (drop at t) 10 = rw (rest-whole t at) at e in
       let q′ : end ≡ length (drop at t) = rw (rest-whole t at) at q in
-      let none : length (drop at t) ≤ place (drop at t) 10 = omega arith in
+      let none : length (drop at t) ≤ indexOf (drop at t) 10 = omega arith in
       P .left ∙ rw (decoded-none (drop at t) none, unended-all (drop at t) none, filled, P .counted)
     where
       filled : empty (drop at t) ≡ false
       filled = empty-length (drop at t) ∙ ne-eqb (length (drop at t)) 0 (λ w. omega (arith, length-drop at t))
 
-  module _ (end : ℕ) (e : end ≡ place (take (length t - at) (drop at t)) 10) (q : end ≡ length (take (length t - at) (drop at t)) → ⊥)
-      (f : Form) (d : lineOf f ≡ decode (take end (take (length t - at) (drop at t)))) where
-    at-end : end ≡ place (drop at t) 10
+  module _ (end : ℕ) (e : end ≡ indexOf (take (length t - at) (drop at t)) 10) (q : end ≡ length (take (length t - at) (drop at t)) → ⊥)
+      (f : Form) (d : formLine f ≡ decode (take end (take (length t - at) (drop at t)))) where
+    at-end : end ≡ indexOf (drop at t) 10
     at-end = rw (rest-whole t at) at e
 
     ended : end < length (drop at t)
-    ended = let n : (end ≡ length (drop at t) → ⊥) = rw (rest-whole t at) at q in omega (arith, at-end, place-le (drop at t) 10)
+    ended = let n : (end ≡ length (drop at t) → ⊥) = rw (rest-whole t at) at q in omega (arith, at-end, indexOf-le (drop at t) 10)
 
-    is-form : decode (take end (drop at t)) ≡ lineOf f
+    is-form : decode (take end (drop at t)) ≡ formLine f
     is-form = sym (rw (rest-whole t at) at d)
 
-    lines-left : decoded (drop at t) ≡ lineOf f ∷ decoded (drop (at + (end + 1)) t)
+    lines-left : decoded (drop at t) ≡ formLine f ∷ decoded (drop (at + (end + 1)) t)
     lines-left = decoded-first (drop at t) end at-end ended ∙ ap₂ _∷_ is-form (ap decoded (drop-drop (end + 1) at t))
 
     unended-left : unended (drop at t) ≡ unended (drop (at + (end + 1)) t)
@@ -99,12 +99,12 @@ module _ (r : Rig) (t : List ℕ) (z : Sizes) (line at : ℕ) (mv ct : List ℕ)
     unfolding readingFrom
     stops-bad n b =
         let (p, m) = taken-bad (caseOf mv z f) n (sizesAfter z f) b in
-        let c : lineCase (P .front) (lineOf f) ≡ n = sym (case-is r (P .front) z mv ct (P .holds) f) ∙ sym m in
+        let c : lineCase (P .front) (formLine f) ≡ n = sym (case-is r (P .front) z mv ct (P .holds) f) ∙ sym m in
         let p′ : eqb n 0 ≡ false = rw (← m) at p in
         P .left ∙ rw (lines-left, c, p′, P .counted)
 
-    reads-on : lineCase (P .front) (lineOf f) ≡ 0
-        → readingFrom (P .front) (decoded (drop at t)) (unended (drop at t)) ≡ readingFrom (P .front ++ (lineOf f ∷ [])) (decoded (drop (at + (end + 1)) t)) (unended (drop (at + (end + 1)) t))
+    reads-on : lineCase (P .front) (formLine f) ≡ 0
+        → readingFrom (P .front) (decoded (drop at t)) (unended (drop at t)) ≡ readingFrom (P .front ++ (formLine f ∷ [])) (decoded (drop (at + (end + 1)) t)) (unended (drop (at + (end + 1)) t))
     unfolding readingFrom
     reads-on c = rw (lines-left, unended-left, c)
 
@@ -113,17 +113,17 @@ module _ (r : Rig) (t : List ℕ) (z : Sizes) (line at : ℕ) (mv ct : List ℕ)
         → nt ≡ onlyIf (caseOf mv z f) (countsAfter ct z f) ct → Passed r t y (line + 1) (at + (end + 1)) nv nt
     goes-on y nv nt b mq cq =
         let (p, s) = taken-next (caseOf mv z f) (sizesAfter z f) y b in
-        let c : lineCase (P .front) (lineOf f) ≡ 0 = sym (case-is r (P .front) z mv ct (P .holds) f) ∙ p in
+        let c : lineCase (P .front) (formLine f) ≡ 0 = sym (case-is r (P .front) z mv ct (P .holds) f) ∙ p in
         let m′ : nv ≡ movesAfter mv z f = rw p at mq in
         let c′ : nt ≡ countsAfter ct z f = rw p at cq in
         record {
-          front = P .front ++ (lineOf f ∷ []);
+          front = P .front ++ (formLine f ∷ []);
           holds = rw (s, m′, c′) (holds-more r (P .front) z mv ct (P .holds) f p);
           counted = rw length-append (omega (arith, P .counted));
           inside = omega (arith, ended, length-drop at t);
           early = omega (arith, P .early);
           left = P .left ∙ reads-on c;
-          split = P .split ∙ ap (λ l. P .front ++ l) lines-left ∙ sym (append-assoc (P .front) (lineOf f ∷ []) (decoded (drop (at + (end + 1)) t)));
+          split = P .split ∙ ap (λ l. P .front ++ l) lines-left ∙ sym (append-assoc (P .front) (formLine f ∷ []) (decoded (drop (at + (end + 1)) t)));
         }
 
   -- ---- the end

@@ -11,10 +11,10 @@ use lib.ListN.{length, getD, length-map, length-replicate, getD-replicate, repli
 use lib.Seq.{ext-getD}
 use lib.Dec.{ltb}
 use borrow.Author.Tests.{eqb-false, lt-ltb, le-ltb, ltb-true}
-use Rattle.lists.specs.Lists.{pick, tab, range}
+use Rattle.lists.specs.Lists.{pick, tabulate, range}
 use Rattle.lists.proofs.Tests.{contra, case}
 use Rattle.lists.proofs.Tells.{tells-true}
-use Rattle.lists.proofs.Tables.{length-tab, getD-tab}
+use Rattle.lists.proofs.Tables.{length-tabulate, getD-tabulate}
 use Rattle.lists.proofs.Members.{getD-map-lt, getD-in}
 use Rattle.automaton.specs.Joint.{At, joint, jointState, sizes}
 use Rattle.promises.specs.Text.{Line, rig, mon, go, other, Monitor, monitorsFrom, monitors, decoded, statesOf, startOf, eventsOf, product, jointStates, AllSound, Readable}
@@ -27,7 +27,7 @@ use Rattle.rig.specs.declared.Rig.{Rig}
 use Rattle.rig.specs.Record.{moveAt, countOf, moveOf, monitorAt, standing, recordAutomaton, recordStart, WellFormed, emptyRig}
 use Rattle.decoding.specs.declared.Form.{Form}
 use Rattle.decoding.specs.declared.Form.the-variants.{Rig as RigForm, Mon, Go, Other}
-use Rattle.decoding.specs.Forms.{lineOf}
+use Rattle.decoding.specs.Forms.{formLine}
 use Rattle.reader.specs.declared.Sizes.{Sizes}
 use Rattle.reader.specs.Reading.{recordFrom, whereServed, recordOf}
 use Rattle.reader.specs.Record.{nobody, monitorIn, ReadFrom}
@@ -51,14 +51,14 @@ formOf (mon s) = Mon s
 formOf (go s e t) = Go s e t
 formOf other = Other
 
-line-form : (l : Line) → lineOf (formOf l) ≡ l
+line-form : (l : Line) → formLine (formOf l) ≡ l
 unfolding formOf
 line-form (rig e) = refl
 line-form (mon s) = refl
 line-form (go s e t) = refl
 line-form other = refl
 
-held-more : (r : Rig) (ls : List Line) (f : Form) → Held r ls → lineCase ls (lineOf f) ≡ 0 → Held r (ls ++ (lineOf f ∷ []))
+held-more : (r : Rig) (ls : List Line) (f : Form) → Held r ls → lineCase ls (formLine f) ≡ 0 → Held r (ls ++ (formLine f ∷ []))
 held-more r ls f H q =
     let z = H .sizes-are in
     let mv = H .moves-are in
@@ -153,7 +153,7 @@ module _ (ls : List Line) (r : Rig) (H : Recorded ls r) where
 
   pub standing-is : standing r ≡ lines.standing (eventsOf ls) (monitors ls)
   unfolding standing lines.standing startOf
-  standing-is = ext-getD nowhere _ _ (length-tab inRecord (r .monitors) ∙ H .monitors-are ∙ sym (length-map (monitors ls) inLines)) (λ i h. same i (rw (length-tab inRecord (r .monitors)) at h))
+  standing-is = ext-getD nowhere _ _ (length-tabulate inRecord (r .monitors) ∙ H .monitors-are ∙ sym (length-map (monitors ls) inLines)) (λ i h. same i (rw (length-tabulate inRecord (r .monitors)) at h))
     where
       nowhere : At
       nowhere = record { of = monitorAt r 0; state = 0 }
@@ -164,9 +164,9 @@ module _ (ls : List Line) (r : Rig) (H : Recorded ls r) where
       inLines : Monitor → At
       inLines m = record { of = lines.monitorOf (eventsOf ls) m; state = startOf (m .head) }
 
-      same : (i : ℕ) → i < r .monitors → getD (tab inRecord (r .monitors)) i nowhere ≡ getD (map inLines (monitors ls)) i nowhere
+      same : (i : ℕ) → i < r .monitors → getD (tabulate inRecord (r .monitors)) i nowhere ≡ getD (map inLines (monitors ls)) i nowhere
       same i h =
-          getD-tab inRecord (r .monitors) i nowhere h
+          getD-tabulate inRecord (r .monitors) i nowhere h
           ∙ ap (λ a. record { of = a; state = 0 }) (at-monitor i h ∙ ap (λ E. lines.monitorOf E (getD (monitors ls) i nobody)) (H .events-are))
           ∙ sym (getD-map-lt inLines (monitors ls) i nobody nowhere (rw (← H .monitors-are) h))
 

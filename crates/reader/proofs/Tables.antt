@@ -13,7 +13,7 @@ use Rattle.lists.proofs.Tests.{contra, case, and-left, and-right}
 use Rattle.promises.specs.Text.{Line, go}
 use Rattle.promises.specs.Reading.{isMove, moves}
 use Rattle.promises.specs.Rig.{leadsTo, target}
-use Rattle.rig.specs.Record.{place, moveAt}
+use Rattle.rig.specs.Record.{moveIndex, moveAt}
 use Rattle.reader.proofs.Monitors.{moves-snoc, target-beside, target-new}
 
 pub record Table (mv : List ℕ) (k : ℕ) (b : List Line) (E S : ℕ) : Type 0 where
@@ -32,15 +32,15 @@ table-blank mv k E S h = record {
 }
 
 -- a `go` line of another monitor
-pub table-beside : (mv : List ℕ) (k m s e t : ℕ) (b : List Line) (E S : ℕ) → (k ≡ m → ⊥) → s < 32 → e < 16 → Table mv k b E S → Table (set mv (place m s e) t) k b E S
+pub table-beside : (mv : List ℕ) (k m s e t : ℕ) (b : List Line) (E S : ℕ) → (k ≡ m → ⊥) → s < 32 → e < 16 → Table mv k b E S → Table (set mv (moveIndex m s e) t) k b E S
 table-beside mv k m s e t b E S ne hs he T = record {
   entry = λ x y hx hy. same x y hx hy ∙ T .entry x y hx hy;
   seen = λ x y hx hy. T .seen x y hx hy ∙ sym (ap (λ n. not (eqb n 255)) (same x y hx hy));
   within = T .within;
 }
   where
-    same : (x y : ℕ) → x < 32 → y < 16 → moveAt (set mv (place m s e) t) k x y ≡ moveAt mv k x y
-    same x y hx hy = getD-set-other mv (place m s e) (place k x y) t 0 (λ q. ne (omega arith))
+    same : (x y : ℕ) → x < 32 → y < 16 → moveAt (set mv (moveIndex m s e) t) k x y ≡ moveAt mv k x y
+    same x y hx hy = getD-set-other mv (moveIndex m s e) (moveIndex k x y) t 0 (λ q. ne (omega arith))
 
 -- a new `go` line of this monitor
 module _ (mv : List ℕ) (k s e t : ℕ) (b : List Line) (E S : ℕ) (T : Table mv k b E S)
@@ -48,13 +48,13 @@ module _ (mv : List ℕ) (k s e t : ℕ) (b : List Line) (E S : ℕ) (T : Table 
   unmoved : moves s e b ≡ false
   unmoved = T .seen s e (omega arith) (omega arith) ∙ ap not (eq-eqb _ _ free)
 
-  here : moveAt (set mv (place k s e) t) k s e ≡ t
-  here = getD-set-same mv (place k s e) t 0 (omega arith)
+  here : moveAt (set mv (moveIndex k s e) t) k s e ≡ t
+  here = getD-set-same mv (moveIndex k s e) t 0 (omega arith)
 
-  beside : (x y : ℕ) → x < 32 → y < 16 → (eqb s x && eqb e y) ≡ false → moveAt (set mv (place k s e) t) k x y ≡ moveAt mv k x y
-  beside x y hx hy q = getD-set-other mv (place k s e) (place k x y) t 0 (λ p. contra (both p) q)
+  beside : (x y : ℕ) → x < 32 → y < 16 → (eqb s x && eqb e y) ≡ false → moveAt (set mv (moveIndex k s e) t) k x y ≡ moveAt mv k x y
+  beside x y hx hy q = getD-set-other mv (moveIndex k s e) (moveIndex k x y) t 0 (λ p. contra (both p) q)
     where
-      both : place k x y ≡ place k s e → (eqb s x && eqb e y) ≡ true
+      both : moveIndex k x y ≡ moveIndex k s e → (eqb s x && eqb e y) ≡ true
       both p = ap₂ _&&_ (eq-eqb s x (omega arith)) (eq-eqb e y (omega arith))
 
   moves-here : moves s e (b ++ (go s e t ∷ [])) ≡ true
@@ -80,7 +80,7 @@ module _ (mv : List ℕ) (k s e t : ℕ) (b : List Line) (E S : ℕ) (T : Table 
   unfolding isMove
   moves-it = ap₂ _&&_ (eq-eqb s s refl) (eq-eqb e e refl)
 
-  pub table-go : Table (set mv (place k s e) t) k (b ++ (go s e t ∷ [])) E S
+  pub table-go : Table (set mv (moveIndex k s e) t) k (b ++ (go s e t ∷ [])) E S
   unfolding isMove leadsTo
   table-go = record {
     entry = at-each (λ hx hy. here ∙ sym (target-new 255 (go s e t) b s e unmoved moves-it)) (λ x y q hx hy. beside x y hx hy q ∙ T .entry x y hx hy ∙ sym (target-beside 255 (go s e t) b x y q));

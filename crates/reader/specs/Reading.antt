@@ -12,7 +12,7 @@ use Rattle.promises.specs.Answer.{Answer, served, refused}
 use Rattle.promises.specs.Text.{Line, rig, mon, go, other, decoded}
 use Rattle.promises.specs.Reading.{reading}
 use Rattle.rig.specs.declared.Rig.{Rig}
-use Rattle.rig.specs.Record.{place, emptyRig}
+use Rattle.rig.specs.Record.{moveIndex, emptyRig}
 use Rattle.reader.specs.declared.Verdict.{Verdict}
 use Rattle.reader.specs.declared.Verdict.the-variants.{Readable, Refused}
 
@@ -25,7 +25,7 @@ answerOf (Refused number place) = refused number place
 unfoldable pub withLine : Rig → Line → Rig
 withLine r (rig e) = record { moves = r .moves; counts = r .counts; monitors = r .monitors; events = e }
 withLine r (mon s) = record { moves = r .moves; counts = set (r .counts) (r .monitors) s; monitors = r .monitors + 1; events = r .events }
-withLine r (go s e t) = record { moves = set (r .moves) (place (r .monitors - 1) s e) t; counts = r .counts; monitors = r .monitors; events = r .events }
+withLine r (go s e t) = record { moves = set (r .moves) (moveIndex (r .monitors - 1) s e) t; counts = r .counts; monitors = r .monitors; events = r .events }
 withLine r other = r
 
 unfoldable pub recordFrom : Rig → List Line → Rig

@@ -1,5 +1,5 @@
 -- One line more, in the reader's own state: the sizes so far and the two tables. The laws of `proofs/Held` tie it to the lines.
---   Room z             == sizes within the paper's limits
+--   Bounded z             == sizes within the paper's limits
 --   onlyIf n a b       == a where the number n is 0, else b
 --   taken n z          == Next z where the number n is 0, else Bad n
 --   refusal n p        == the answer to a text that is refused
@@ -13,7 +13,7 @@ use Prim.Native.Nat.{ℕ, _+_, _-_, _*_, _≤_}
 use lib.ListN.{set}
 use lib.Dec.{ltb, leb, eqb}
 use Rattle.lists.specs.Lists.{pick}
-use Rattle.rig.specs.Record.{place, moveAt, emptyRig}
+use Rattle.rig.specs.Record.{moveIndex, moveAt, emptyRig}
 use Rattle.decoding.specs.declared.Form.{Form}
 use Rattle.decoding.specs.declared.Form.the-variants.{Rig, Mon, Go, Other}
 use Rattle.reader.specs.declared.Reading.{Reading}
@@ -22,7 +22,7 @@ use Rattle.reader.specs.declared.Taken.{Taken}
 use Rattle.reader.specs.declared.Taken.the-variants.{Next, Bad}
 use Rattle.reader.specs.declared.Verdict.the-variants.{Refused}
 
-pub record Room (z : Sizes) : Type 0 where
+pub record Bounded (z : Sizes) : Type 0 where
   pub few-events : z .events ≤ 16
   pub few-monitors : z .monitors ≤ 4
   pub few-latest : z .latest ≤ 32
@@ -66,7 +66,7 @@ goCase mv z s e t =
     0))
 
 abbrev pub goMoves : List ℕ → Sizes → ℕ → ℕ → ℕ → List ℕ
-goMoves mv z s e t = set mv (place (z .monitors - 1) s e) t
+goMoves mv z s e t = set mv (moveIndex (z .monitors - 1) s e) t
 
 -- ---- any line
 

@@ -33,7 +33,7 @@ module _ (n : ℕ) (ds s out : List ℕ) where
   unfolding promisedOutput outputAfter ScratchKept
   refusal k p e = (sym e, (rw e, rw e refl))
 
-  pub service : (left fresh : List ℕ) → promised n ds s out ≡ served [] → fresh ≡ swapped ds ++ drop (length ds) out → Kept (2 * length ds) s left
+  pub service : (left fresh : List ℕ) → promised n ds s out ≡ served [] → fresh ≡ swapped ds ++ drop (length ds) out → Kept ds s left
       → (served [] ≡ promised n ds s out) × ((fresh ≡ promisedOutput n ds s out) × ScratchKept (promised n ds s out) ds s left)
   unfolding promisedOutput outputAfter ScratchKept
   service left fresh e f k = (sym e, (rw (e, length-shuffle ds) f, rw e (k .long, k .rest)))

@@ -8,41 +8,34 @@ use Prim.Native.Nat.{ℕ, zero, suc, _+_, _<_, _≤_, min}
 use native.Mathlib.Decide.{ℕ-discrete}
 use native.Mathlib.Omega.{arith}
 use lib.ListN.{length, getD, drop, length-set, List·getD-append}
-use lib.Seq.{drop-cons, drop-length, append-snoc, getD-append-add, getD-drop, getD-set-same, getD-set-other, drop-set-lt}
+use lib.Seq.{drop-cons, drop-length, append-snoc, getD-set-same, getD-set-other, drop-set-lt}
 use lib.Dec.{eqb, ltb}
 use borrow.Author.Tests.{eqb-true, eqb-false, ltb-true, lt-ltb}
-use Rattle.lists.specs.Lists.{pick, tab}
+use Rattle.lists.specs.Lists.{pick, tabulate}
 use Rattle.lists.proofs.Tests.{case, split}
-use Rattle.lists.proofs.Tables.{length-tab, getD-tab}
+use Rattle.lists.proofs.Tables.{length-tabulate, getD-tabulate}
 use Rattle.automaton.specs.Shuffle.{swap, shuffleFrom, shuffle}
 use Rattle.automaton.proofs.Shuffle.{swap-first, swap-second, swap-other}
-use Rattle.shuffle.specs.Places.{arranged, drawn, latest, itself, moved, Held}
+use Rattle.shuffle.specs.Places.{arranged, drawn, latestStep, itself, moved, Held}
 
 -- ---- the output
 
-from-step : (ds : List ℕ) (i : ℕ) → tab (drawn ds) i ++ (swap (arranged ds i) i (getD ds i 0) i ∷ shuffleFrom (swap (arranged ds i) i (getD ds i 0)) (suc i) (drop (suc i) ds))
-    ≡ tab (drawn ds) (suc i) ++ shuffleFrom (arranged ds (suc i)) (suc i) (drop (suc i) ds)
-unfolding tab arranged drawn
+from-step : (ds : List ℕ) (i : ℕ) → tabulate (drawn ds) i ++ (swap (arranged ds i) i (getD ds i 0) i ∷ shuffleFrom (swap (arranged ds i) i (getD ds i 0)) (suc i) (drop (suc i) ds))
+    ≡ tabulate (drawn ds) (suc i) ++ shuffleFrom (arranged ds (suc i)) (suc i) (drop (suc i) ds)
+unfolding tabulate arranged drawn
 from-step ds i =
-    rw (swap-first (arranged ds i) i (getD ds i 0)) (sym (append-snoc (tab (drawn ds) i) (arranged ds i (getD ds i 0)) (shuffleFrom (arranged ds (suc i)) (suc i) (drop (suc i) ds))))
+    rw (swap-first (arranged ds i) i (getD ds i 0)) (sym (append-snoc (tabulate (drawn ds) i) (arranged ds i (getD ds i 0)) (shuffleFrom (arranged ds (suc i)) (suc i) (drop (suc i) ds))))
 
-from : (ds : List ℕ) (r i : ℕ) → i + r ≡ length ds → tab (drawn ds) i ++ shuffleFrom (arranged ds i) i (drop i ds) ≡ tab (drawn ds) (length ds)
+from : (ds : List ℕ) (r i : ℕ) → i + r ≡ length ds → tabulate (drawn ds) i ++ shuffleFrom (arranged ds i) i (drop i ds) ≡ tabulate (drawn ds) (length ds)
 unfolding shuffleFrom
 from ds zero i q =
     let e : i ≡ length ds = omega arith in
-    rw (e, drop-length ds) (append-nil (tab (drawn ds) (length ds)))
+    rw (e, drop-length ds) (append-nil (tabulate (drawn ds) (length ds)))
 from ds (suc r) i q = rw (drop-cons ds i 0 (omega arith)) (from-step ds i ∙ from ds r (suc i) (omega arith))
 
-pub outputs : (ds : List ℕ) → tab (drawn ds) (length ds) ≡ shuffle ds
-unfolding shuffle tab arranged
+pub outputs : (ds : List ℕ) → tabulate (drawn ds) (length ds) ≡ shuffle ds
+unfolding shuffle tabulate arranged
 outputs ds = sym (from ds (length ds) 0 (omega arith))
-
--- behind the numbers of the first i draws the output is as it was
-pub past-output : (ds t : List ℕ) (i : ℕ) → getD (tab (drawn ds) i ++ drop i t) i 0 ≡ getD t i 0
-past-output ds t i =
-    let e : i ≡ length (tab (drawn ds) i) + 0 = rw length-tab (omega arith) in
-    let f : i + 0 ≡ i = omega arith in
-    ap (λ (k : ℕ). getD (tab (drawn ds) i ++ drop i t) k 0) e ∙ getD-append-add (tab (drawn ds) i) (drop i t) 0 0 ∙ getD-drop i t 0 0 ∙ ap (λ (k : ℕ). getD t k 0) f
 
 -- ---- a place that no step has come to
 
@@ -51,31 +44,31 @@ numberBy : List ℕ → ℕ → ℕ → ℕ
 numberBy ds k zero = k
 numberBy ds k (suc s) = arranged ds s s
 
-by-last : (ds : List ℕ) (k i : ℕ) → i ≤ k → arranged ds i k ≡ numberBy ds k (latest (eqb k) ds i)
-unfolding arranged latest numberBy
+by-last : (ds : List ℕ) (k i : ℕ) → i ≤ k → arranged ds i k ≡ numberBy ds k (latestStep (eqb k) ds i)
+unfolding arranged latestStep numberBy
 by-last ds k zero h = refl
 by-last ds k (suc i) h = go (eqb k (getD ds i 0)) refl (by-last ds k i (omega arith))
   where
-    go : (t : Bool) → eqb k (getD ds i 0) ≡ t → arranged ds i k ≡ numberBy ds k (latest (eqb k) ds i)
-        → swap (arranged ds i) i (getD ds i 0) k ≡ numberBy ds k (pick t (suc i) (latest (eqb k) ds i))
+    go : (t : Bool) → eqb k (getD ds i 0) ≡ t → arranged ds i k ≡ numberBy ds k (latestStep (eqb k) ds i)
+        → swap (arranged ds i) i (getD ds i 0) k ≡ numberBy ds k (pick t (suc i) (latestStep (eqb k) ds i))
     go true q ih = ap (swap (arranged ds i) i (getD ds i 0)) (eqb-true k (getD ds i 0) q) ∙ swap-second (arranged ds i) i (getD ds i 0)
     go false q ih = swap-other (arranged ds i) i (getD ds i 0) k (λ e. omega arith) (eqb-false k (getD ds i 0) q) ∙ ih
 
-pub drawn-first : (ds : List ℕ) (i : ℕ) → i ≤ getD ds i 0 → latest (eqb (getD ds i 0)) ds i ≡ 0 → drawn ds i ≡ getD ds i 0
+pub drawn-first : (ds : List ℕ) (i : ℕ) → i ≤ getD ds i 0 → latestStep (eqb (getD ds i 0)) ds i ≡ 0 → drawn ds i ≡ getD ds i 0
 unfolding drawn numberBy
 drawn-first ds i h q = by-last ds (getD ds i 0) i h ∙ ap (numberBy ds (getD ds i 0)) q
 
-pub drawn-again : (ds : List ℕ) (i s : ℕ) → i ≤ getD ds i 0 → latest (eqb (getD ds i 0)) ds i ≡ suc s → drawn ds i ≡ arranged ds s s
+pub drawn-again : (ds : List ℕ) (i s : ℕ) → i ≤ getD ds i 0 → latestStep (eqb (getD ds i 0)) ds i ≡ suc s → drawn ds i ≡ arranged ds s s
 unfolding drawn numberBy
 drawn-again ds i s h q = by-last ds (getD ds i 0) i h ∙ ap (numberBy ds (getD ds i 0)) q
 
 -- ---- the places that the scratch holds
 
-pub held-first : (m : ℕ) (ds s : List ℕ) → Held m ds 0 (tab itself m ++ drop m s)
+pub held-first : (m : ℕ) (ds s : List ℕ) → Held m ds 0 (tabulate itself m ++ drop m s)
 unfolding arranged
 held-first m ds s k h =
     let e : min 0 k ≡ 0 = omega arith in
-    rw e (List·getD-append (tab itself m) (drop m s) 0 k (rw length-tab h) ∙ getD-tab itself m k 0 h)
+    rw e (List·getD-append (tabulate itself m) (drop m s) 0 k (rw length-tabulate h) ∙ getD-tabulate itself m k 0 h)
 
 -- a place from i on has the number now
 pub held-ahead : (m : ℕ) (ds s : List ℕ) (i k : ℕ) → Held m ds i s → k < m → i ≤ k → getD s k 0 ≡ arranged ds i k

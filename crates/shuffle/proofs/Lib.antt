@@ -3,6 +3,5 @@
 pub mod Arrangement
 pub mod Chains
 pub mod Draws
-pub mod Words
 pub mod Mixing
 pub mod Answers

@@ -1,30 +1,25 @@
--- What scratch and output hold while valid draws are served. ds are the draws, z of them; the scratch s holds the places below m by themselves,
--- and a draw is far if it is not below m.
---   arranged ds i      == the arrangement after the first i draws: from a place to its number
---   drawn ds i         == the number at draw i when step i comes: output i
---   latest f ds i      == one more than the last of the first i steps whose draw passes the test f, or 0
---   kin m b            == the test for a far draw that falls into bucket b
---   nought, itself     == the numbers that the scratch is cleared with, and begins with
---   chained z i d s    == s after step i, with draw d, became the head of its bucket's chain
---   begun z d s        == where a walk for draw d begins: at the head of its bucket's chain if the bucket has its marks, else nowhere
---   moved m i d s      == s after the number at i was moved to d, if d is below m
---   Linked m ds s      == for each far draw, s has at m + its step the last step before it in the same bucket
---   Walked m ds i s    == the walk for the far draw i has come to s: s is on the chain, and no step from there on before i has the same draw
---   Begun m ds t       == t has for each far draw where its walk begins
---   Held m ds i s      == s has at k the number at k when step k came, and where it has not come yet, the number now
---   Ready m ds s       == far draws are linked, and both kinds of place have room in the first 2 × z numbers
---   Kept m s t         == t is s, but for the first m numbers
+-- What the scratch holds while valid draws are served. ds are the draws; the scratch s holds the places below m by themselves.
+--   arranged ds i     == the arrangement after the first i draws: from a place to its number
+--   drawn ds i        == the number at draw i when step i comes: output i
+--   latestStep f ds i == one more than the last of the first i steps whose draw passes the test f, or 0
+--   inBucket m b      == the test for a draw from m on that falls into bucket b
+--   nought, itself    == the numbers that the scratch is cleared with, and begins with
+--   chained z i d s   == s after step i, with draw d, became the head of its bucket's chain
+--   moved m i d s     == s after the number at i was moved to d, if d is below m
+--   Linked m ds s     == for each draw from m on, s has at m + its step the last step before it in the same bucket
+--   Held m ds i s     == s has at k the number at k when step k came, and where it has not come yet, the number now
+--   Ready m ds s      == the draws are linked, and both kinds of place have room in the first 2 × z numbers
+--   Kept ds s t       == t is s, but for the first 2 × z numbers
 -- Assumes nothing.
 use mathlib.Core.Path.{_≡_}
 use mathlib.Core.Bool.{Bool, _&&_}
 use mathlib.Core.List.{List}
 use Prim.Native.Nat.{ℕ, zero, suc, _+_, _*_, _<_, _≤_, min}
 use lib.ListN.{length, getD, set, drop}
-use lib.Bits.{bitAnd}
 use lib.Dec.{ltb, leb, eqb}
 use Rattle.lists.specs.Lists.{pick}
 use Rattle.automaton.specs.Shuffle.{swap}
-use Rattle.shuffle.specs.Buckets.{bucketOf, width, marksOf, stepIn, headed}
+use Rattle.shuffle.specs.Buckets.{bucketOf}
 
 -- 'Begin with 0 to n−1 in order. For i from 0, swap the numbers at i and at draw i'
 unfoldable pub arranged : List ℕ → ℕ → ℕ → ℕ
@@ -35,12 +30,12 @@ arranged ds (suc i) = swap (arranged ds i) i (getD ds i 0)
 unfoldable pub drawn : List ℕ → ℕ → ℕ
 drawn ds i = arranged ds i (getD ds i 0)
 
-unfoldable pub latest : (ℕ → Bool) → List ℕ → ℕ → ℕ
-latest f ds zero = 0
-latest f ds (suc i) = pick (f (getD ds i 0)) (suc i) (latest f ds i)
+unfoldable pub latestStep : (ℕ → Bool) → List ℕ → ℕ → ℕ
+latestStep f ds zero = 0
+latestStep f ds (suc i) = pick (f (getD ds i 0)) (suc i) (latestStep f ds i)
 
-unfoldable pub kin : ℕ → ℕ → ℕ → Bool
-kin m b d = leb m d && eqb (bucketOf m d) b
+unfoldable pub inBucket : ℕ → ℕ → ℕ → Bool
+inBucket m b d = leb m d && eqb (bucketOf m d) b
 
 abbrev pub nought : ℕ → ℕ
 nought k = 0
@@ -49,30 +44,14 @@ abbrev pub itself : ℕ → ℕ
 itself k = k
 
 unfoldable pub chained : ℕ → ℕ → ℕ → List ℕ → List ℕ
-chained z i d s =
-    let x = getD s (bucketOf z d) 0 in
-    pick (leb z d) (set (set s (z + i) (stepIn (width z) x)) (bucketOf z d) (headed (width z) (marksOf (width z) d) (i + 1) x)) s
-
-unfoldable pub begun : ℕ → ℕ → List ℕ → ℕ
-begun z d s =
-    let x = getD s (bucketOf z d) 0 in
-    let k = marksOf (width z) d in
-    pick (leb z d && eqb (bitAnd x k) k) (stepIn (width z) x) 0
+chained z i d s = pick (leb z d) (set (set s (z + i) (getD s (bucketOf z d) 0)) (bucketOf z d) (i + 1)) s
 
 unfoldable pub moved : ℕ → ℕ → ℕ → List ℕ → List ℕ
 moved m i d s = pick (ltb d m) (set s d (getD s i 0)) s
 
 pub record Linked (m : ℕ) (ds s : List ℕ) : Type 0 where
   pub room : (i : ℕ) → i < length ds → m ≤ getD ds i 0 → m + length ds ≤ length s
-  pub link : (i : ℕ) → i < length ds → m ≤ getD ds i 0 → getD s (m + i) 0 ≡ latest (kin m (bucketOf m (getD ds i 0))) ds i
-
-pub record Walked (m : ℕ) (ds : List ℕ) (i s : ℕ) : Type 0 where
-  pub early : s ≤ i
-  pub same : latest (eqb (getD ds i 0)) ds i ≡ latest (eqb (getD ds i 0)) ds s
-  pub on : latest (kin m (bucketOf m (getD ds i 0))) ds s ≡ s
-
-abbrev pub Begun : ℕ → List ℕ → List ℕ → Type 0
-Begun m ds t = (i : ℕ) → i < length ds → m ≤ getD ds i 0 → Walked m ds i (getD t i 0)
+  pub link : (i : ℕ) → i < length ds → m ≤ getD ds i 0 → getD s (m + i) 0 ≡ latestStep (inBucket m (bucketOf m (getD ds i 0))) ds i
 
 abbrev pub Held : ℕ → List ℕ → ℕ → List ℕ → Type 0
 Held m ds i s = (k : ℕ) → k < m → getD s k 0 ≡ arranged ds (min i k) k
@@ -84,6 +63,6 @@ pub record Ready (m : ℕ) (ds s : List ℕ) : Type 0 where
   pub linked : Linked m ds s
 
 -- 'The first 2 × z scratch numbers after a shuffle are left free; the rest keep theirs.'
-pub record Kept (m : ℕ) (s t : List ℕ) : Type 0 where
+pub record Kept (ds s t : List ℕ) : Type 0 where
   pub long : length t ≡ length s
-  pub rest : drop m t ≡ drop m s
+  pub rest : drop (2 * length ds) t ≡ drop (2 * length ds) s

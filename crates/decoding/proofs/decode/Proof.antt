@@ -5,7 +5,7 @@ use Prim.Native.Nat.{_-_}
 use lib.ListN.{take}
 use lib.Seq.{length-take-le}
 use Rattle.promises.specs.Text.{fields}
-use Rattle.decoding.proofs.Parts.{place-le}
+use Rattle.decoding.proofs.Parts.{indexOf-le}
 use Rattle.decoding.proofs.Numbers.{decode-first, decode-alone, form-rig, form-mon, form-go, form-other}
 use borrow.Author.Needs.{needs}
 use Rattle.decoding.proofs.decode.Statement.{statement}
@@ -17,7 +17,7 @@ until-requires c κs = search needs
 slice-aggregate-word : tie.Need-slice-aggregate-word
 slice-aggregate-word c =
     let l = c .before .before .before .before .args .line .now in
-    sym (length-take-le (c .before .before .until .result) l (rw (c .before .before .until .ensures) (place-le l 9)))
+    sym (length-take-le (c .before .before .until .result) l (rw (c .before .before .until .ensures) (indexOf-le l 9)))
 
 add-a : tie.Need-add-a
 add-a c = search needs

@@ -4,7 +4,7 @@ use mathlib.Core.Path.{sym, ap, _∙_}
 use Prim.Native.Nat.{_-_}
 use lib.Seq.{length-take-le}
 use Rattle.decoding.specs.Forms.{valueOf}
-use Rattle.decoding.proofs.Parts.{place-le}
+use Rattle.decoding.proofs.Parts.{indexOf-le}
 use Rattle.decoding.proofs.Numbers.{field-more, field-last, field-bad}
 use borrow.Author.Needs.{needs}
 use Rattle.decoding.proofs.read_field.Statement.{statement}
@@ -16,7 +16,7 @@ until-requires c κs = search needs
 slice-aggregate-number : tie.Need-slice-aggregate-number
 slice-aggregate-number c =
     let l = c .before .before .before .args .rest .now in
-    sym (length-take-le (c .before .until .result) l (rw (c .before .until .ensures) (place-le l 9)))
+    sym (length-take-le (c .before .until .result) l (rw (c .before .until .ensures) (indexOf-le l 9)))
 
 number-requires : tie.Need-number-requires
 number-requires c κs = search needs

@@ -4,14 +4,14 @@ use mathlib.Core.Path.{_≡_}
 use Prim.Native.Nat.{_+_, _-_, _≤_}
 use native.Mathlib.Omega.{arith}
 use lib.ListN.{length, drop}
-use Rattle.lists.specs.Lists.{place}
-use Rattle.decoding.proofs.Parts.{place-here, place-more, place-end}
+use Rattle.lists.specs.Lists.{indexOf}
+use Rattle.decoding.proofs.Parts.{indexOf-here, indexOf-more, indexOf-end}
 use borrow.Author.Needs.{needs}
 use Rattle.decoding.proofs.until.Statement.{statement}
 use Rattle.decoding.proofs.until.Tie as tie
 
 abbrev Inv-loop : tie.InvT-loop
-Inv-loop s b i₀ i = (i ≤ length s) × (place s b ≡ i + place (drop i s) b)
+Inv-loop s b i₀ i = (i ≤ length s) × (indexOf s b ≡ i + indexOf (drop i s) b)
 
 abbrev μ-loop : tie.MeasureT-loop
 μ-loop s b i₀ i = length s - i
@@ -26,7 +26,7 @@ returns : tie.Need-returns Inv-loop μ-loop
 returns c =
     let s = c .before .before .before .before .args .s .now in
     let lp = c .before .before .before .loop in
-    omega (arith, place-here s (c .before .before .before .before .args .b) (lp .i) (c .before .before .loop-test .taken) (c .if1 .taken))
+    omega (arith, indexOf-here s (c .before .before .before .before .args .b) (lp .i) (c .before .before .loop-test .taken) (c .if1 .taken))
 
 add-i : tie.Need-add-i Inv-loop μ-loop
 add-i c = search needs
@@ -38,12 +38,12 @@ loop-again : tie.Need-loop-again Inv-loop μ-loop
 loop-again c =
     let s = c .before .before .before .before .args .s .now in
     let lp = c .before .before .before .loop in
-    (omega arith, omega (arith, place-more s (c .before .before .before .before .args .b) (lp .i) (c .before .before .loop-test .taken) (c .if1 .left)))
+    (omega arith, omega (arith, indexOf-more s (c .before .before .before .before .args .b) (lp .i) (c .before .before .loop-test .taken) (c .if1 .left)))
 
 returns-2 : tie.Need-returns-2 Inv-loop μ-loop
 returns-2 c =
     let s = c .before .before .args .s .now in
-    omega (arith, place-end s (c .before .before .args .b) (c .before .loop .i) (c .loop-test .left))
+    omega (arith, indexOf-end s (c .before .before .args .b) (c .before .loop .i) (c .loop-test .left))
 
 pub until-spec : {M : Type 1} → statement M
 until-spec =

@@ -10,10 +10,10 @@ use Rattle.generator.proofs.count.Tie as tie
 use Rattle.generator.proofs.count.Reads as reads
 use Rattle.generator.proofs.count.Lts as lts
 use Rattle.generator.proofs.count_cells.Reads as count-cells-reads
-use Rattle.opening.proofs.open.Reads as open-reads
+use Rattle.checks.proofs.load.Reads as load-reads
 
-open-requires : tie.Need-open-requires
-open-requires c κs = search needs
+load-requires : tie.Need-load-requires
+load-requires c κs = search needs
 
 enum-known-checked : tie.Need-enum-known-checked
 enum-known-checked c = search needs
@@ -24,7 +24,7 @@ enum-told c = search needs
 count-cells-requires : tie.Need-count-cells-requires
 count-cells-requires c κs =
     let st = c .before .before .before .before .before .before .before .args in
-    let o = c .before .before .before .before .«open» in
+    let o = c .before .before .before .before .load in
     let e = c .before .enum-told .given .1 in
     let r = o .ensures .ready e in
     (r .well-formed, (r .joint, some-states (st .text .now) (st .h) (length (st .cells .now)) (o .result) (o .ensures) (st .cells .now) refl e, r .horizon, r .enough))
@@ -33,7 +33,7 @@ returns : tie.Need-returns
 unfolding count countCells
 returns c =
     let st = c .before .before .before .before .before .before .before .args in
-    let o = c .before .before .before .before .«open» in
+    let o = c .before .before .before .before .load in
     let k = c .before .checked .given in (
       early-answer (st .text .now) (st .h) (length (st .cells .now)) (o .result) (o .ensures) (st .cells .now) refl (k .0 .0) (k .0 .1 .0) (k .1) _,
       early-cells (st .text .now) (st .h) (length (st .cells .now)) (o .result) (o .ensures) (st .cells .now) refl (k .0 .0) (k .0 .1 .0) (k .1) _ _,
@@ -45,7 +45,7 @@ same-length c = search needs
 returns-2 : tie.Need-returns-2
 returns-2 c =
     let st = c .before .before .before .before .before .before .before .before .before .before .args in
-    let o = c .before .before .before .before .before .before .before .«open» in
+    let o = c .before .before .before .before .before .before .before .load in
     let e = c .before .before .before .before .enum-told .given .1 in
     let n = c .before .before .count-cells in (
       n .ensures .0 ∙ count-is (st .text .now) (st .h) (length (st .cells .now)) (o .result) (o .ensures) (st .cells .now) refl e,
@@ -56,7 +56,7 @@ pub count-spec : {M : Type 1} → statement M
 count-spec =
     tie.close
     (tie.spec
-    open-requires
+    load-requires
     enum-known-checked
     enum-told
     count-cells-requires

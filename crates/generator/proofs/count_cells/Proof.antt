@@ -9,13 +9,13 @@ use Rattle.automaton.specs.Counting.{N}
 use Rattle.promises.specs.Answer.{served}
 use Rattle.rig.specs.Record.{recordAutomaton}
 use Rattle.filling.proofs.Rows.{start-cell, cell-room, told-count}
-use Rattle.filling.proofs.Weighing.{told-refused}
+use Rattle.filling.proofs.CountCheck.{told-refused}
 use Rattle.generator.proofs.count_cells.Statement.{statement}
 use Rattle.generator.proofs.count_cells.Tie as tie
 use Rattle.generator.proofs.count_cells.Reads as reads
 use Rattle.generator.proofs.count_cells.Lts as lts
 use Rattle.filling.proofs.fill_cells.Reads as fill-cells-reads
-use Rattle.filling.proofs.weigh.Reads as weigh-reads
+use Rattle.filling.proofs.check_count.Reads as check-count-reads
 
 slice-aggregate-fill-cells : tie.Need-slice-aggregate-fill-cells
 slice-aggregate-fill-cells c = search needs
@@ -35,8 +35,8 @@ slice-read-n c =
     let f = c .before .before .before .before .fill-cells in
     omega (arith, f .kept .1 .1 .1 .0, cell-room (st .args .h) (st .args .states) (length (st .args .cells .now)) (st .pre .1 .1) (st .pre .1 .3))
 
-weigh-requires : tie.Need-weigh-requires
-weigh-requires c κs = search needs
+check-count-requires : tie.Need-check-count-requires
+check-count-requires c κs = search needs
 
 enum-known-number : tie.Need-enum-known-number
 enum-known-number c = search needs
@@ -51,7 +51,7 @@ returns : tie.Need-returns
 returns c =
     let st = c .before .before .before .before .before .before .before .before .before .before .before .before in
     let f = c .before .before .before .before .before .before .before .before .fill-cells in
-    let w = c .before .before .before .weigh in
+    let w = c .before .before .before .check-count in
     let k = c .before .number .given in
     let A = recordAutomaton (st .args .rig) in
     let q = start-cell A (st .args .h) (st .args .cells .now) (f .last .1 .1 .1 .0) (st .args .states) (st .pre .1 .0) (st .pre .1 .1) (f .ensures .1 .0) in
@@ -64,7 +64,7 @@ returns-2 : tie.Need-returns-2
 returns-2 c =
     let st = c .before .before .before .before .before .before .before .before .before .before .before in
     let f = c .before .before .before .before .before .before .before .fill-cells in
-    let w = c .before .before .weigh in
+    let w = c .before .before .check-count in
     let A = recordAutomaton (st .args .rig) in
     let q = start-cell A (st .args .h) (st .args .cells .now) (f .last .1 .1 .1 .0) (st .args .states) (st .pre .1 .0) (st .pre .1 .1) (f .ensures .1 .0) in
     (told-count _ (N A (st .args .h) 0) (f .result) (passes A) (w .result) (w .ensures) q (c .enum-told .given .1) (f .ensures .0), f .ensures .1 .0)
@@ -78,7 +78,7 @@ count-cells-spec =
     mul-n
     mul-n-2
     slice-read-n
-    weigh-requires
+    check-count-requires
     enum-known-number
     enum-told
     same-length

@@ -12,10 +12,10 @@ use Rattle.generator.proofs.index.Reads as reads
 use Rattle.generator.proofs.index.Lts as lts
 use Rattle.generator.proofs.first_not_event.Reads as first-not-event-reads
 use Rattle.generator.proofs.index_cells.Reads as index-cells-reads
-use Rattle.opening.proofs.open.Reads as open-reads
+use Rattle.checks.proofs.load.Reads as load-reads
 
-open-requires : tie.Need-open-requires
-open-requires c κs = search needs
+load-requires : tie.Need-load-requires
+load-requires c κs = search needs
 
 enum-known-checked : tie.Need-enum-known-checked
 enum-known-checked c = search needs
@@ -29,7 +29,7 @@ first-not-event-requires c κs = search needs
 returns : tie.Need-returns
 returns c =
     let st = c .before .before .before .before .before .before .before .before .before .args in
-    let o = c .before .before .before .before .before .«open» in
+    let o = c .before .before .before .before .before .load in
     let e = c .before .before .enum-told .given .1 in
     let g = c .before .first-not-event in
     (bad-index (st .text .now) (st .sequence .now) (length (st .cells .now)) (o .result) (o .ensures) (st .cells .now) refl e (g .result) (g .ensures) (c .if1 .taken), bad-index-cells (st .text .now) (st .sequence .now) (length (st .cells .now)) (o .result) (o .ensures) (st .cells .now) refl e (g .result) (g .ensures) (c .if1 .taken))
@@ -37,7 +37,7 @@ returns c =
 index-cells-requires : tie.Need-index-cells-requires
 index-cells-requires c κs =
     let st = c .before .before .before .before .before .before .before .before .before .before .args in
-    let o = c .before .before .before .before .before .before .«open» in
+    let o = c .before .before .before .before .before .before .load in
     let e = c .before .before .before .enum-told .given .1 in
     let r = o .ensures .ready e in
     let g = c .before .before .first-not-event in
@@ -47,7 +47,7 @@ returns-2 : tie.Need-returns-2
 unfolding index indexCells
 returns-2 c =
     let st = c .before .before .before .before .before .before .before .before .args in
-    let o = c .before .before .before .before .«open» in
+    let o = c .before .before .before .before .load in
     let k = c .before .checked .given in
     (early-answer (st .text .now) (length (st .sequence .now)) (length (st .cells .now)) (o .result) (o .ensures) (st .cells .now) refl (k .0 .0) (k .0 .1 .0) (k .1) _, early-cells (st .text .now) (length (st .sequence .now)) (length (st .cells .now)) (o .result) (o .ensures) (st .cells .now) refl (k .0 .0) (k .0 .1 .0) (k .1) _ _)
 
@@ -57,7 +57,7 @@ same-length c = search needs
 returns-3 : tie.Need-returns-3
 returns-3 c =
     let st = c .before .before .before .before .before .before .before .before .before .before .before .before .before .args in
-    let o = c .before .before .before .before .before .before .before .before .before .«open» in
+    let o = c .before .before .before .before .before .before .before .before .before .load in
     let e = c .before .before .before .before .before .before .enum-told .given .1 in
     let g = c .before .before .before .before .before .first-not-event in
     let n = c .before .before .index-cells in
@@ -67,7 +67,7 @@ pub index-spec : {M : Type 1} → statement M
 index-spec =
     tie.close
     (tie.spec
-    open-requires
+    load-requires
     enum-known-checked
     enum-told
     first-not-event-requires

@@ -6,17 +6,17 @@ use borrow.Author.Needs.{needs}
 use Rattle.automaton.specs.Counting.{N}
 use Rattle.rig.specs.Record.{recordAutomaton}
 use Rattle.pruning.proofs.Digits.{states-few}
-use Rattle.filling.proofs.Weighing.{told-refused}
+use Rattle.filling.proofs.CountCheck.{told-refused}
 use Rattle.ranking.proofs.Premises.{filled-holds}
 use Rattle.filling.proofs.Laws.{numbered}
 use Rattle.filling.proofs.Rows.{start-cell, cell-room}
-use Rattle.generator.proofs.Laws.{told-index, told-offence}
+use Rattle.generator.proofs.Laws.{told-index, told-violation}
 use Rattle.generator.proofs.index_cells.Statement.{statement}
 use Rattle.generator.proofs.index_cells.Tie as tie
 use Rattle.generator.proofs.index_cells.Reads as reads
 use Rattle.generator.proofs.index_cells.Lts as lts
 use Rattle.filling.proofs.fill_cells.Reads as fill-cells-reads
-use Rattle.filling.proofs.weigh.Reads as weigh-reads
+use Rattle.filling.proofs.check_count.Reads as check-count-reads
 use Rattle.ranking.proofs.rank.Reads as rank-reads
 
 slice-aggregate-fill-cells : tie.Need-slice-aggregate-fill-cells
@@ -37,8 +37,8 @@ slice-read-n c =
     let f = c .before .before .before .before .fill-cells in
     omega (arith, f .kept .1 .1 .1 .0, cell-room (length (st .args .sequence .now)) (st .args .states) (length (st .args .cells .now)) (st .pre .1 .0 .1) (st .pre .1 .0 .3))
 
-weigh-requires : tie.Need-weigh-requires
-weigh-requires c κs = search needs
+check-count-requires : tie.Need-check-count-requires
+check-count-requires c κs = search needs
 
 enum-known-number : tie.Need-enum-known-number
 enum-known-number c = search needs
@@ -72,7 +72,7 @@ returns : tie.Need-returns
 returns c =
     let st = c .before .before .before .before .before .before .before .before .before .before .before .before .before in
     let f = c .before .before .before .before .before .before .before .before .fill-cells in
-    let w = c .before .before .before .weigh in
+    let w = c .before .before .before .check-count in
     let k = c .before .number .given in
     let A = recordAutomaton (st .args .rig) in
     let q = start-cell A (length (st .args .sequence .now)) (st .args .cells .now) (f .last .1 .1 .1 .0) (st .args .states) (st .pre .1 .0 .0) (st .pre .1 .0 .1) (f .ensures .1 .0) in
@@ -85,7 +85,7 @@ returns-2 : tie.Need-returns-2
 returns-2 c =
     let st = c .before .before .before .before .before .before .before .before .before .before .before .before .before .before .before .before .before .before in
     let f = c .before .before .before .before .before .before .before .before .before .before .before .before .before .fill-cells in
-    let w = c .before .before .before .before .before .before .before .before .weigh in
+    let w = c .before .before .before .before .before .before .before .before .check-count in
     let r = c .before .before .before .rank in
     let k = c .before .ranked .given in
     let e = c .before .before .before .before .before .before .enum-told .given .1 in
@@ -102,7 +102,7 @@ returns-3 : tie.Need-returns-3
 returns-3 c =
     let st = c .before .before .before .before .before .before .before .before .before .before .before .before .before .before .before .before .before .before in
     let f = c .before .before .before .before .before .before .before .before .before .before .before .before .before .fill-cells in
-    let w = c .before .before .before .before .before .before .before .before .weigh in
+    let w = c .before .before .before .before .before .before .before .before .check-count in
     let r = c .before .before .before .rank in
     let k = c .before .ranked2 .given in
     let e = c .before .before .before .before .before .before .enum-told .given .1 in
@@ -110,7 +110,7 @@ returns-3 c =
     let q = start-cell A (length (st .args .sequence .now)) (st .args .cells .now) (f .last .1 .1 .1 .0) (st .args .states) (st .pre .1 .0 .0) (st .pre .1 .0 .1) (f .ensures .1 .0) in
     let x = w .ensures .exact e (N A (length (st .args .sequence .now)) 0) q in
     let rows = filled-holds A (length (st .args .sequence .now)) (f .last .1 .1 .1 .0) (st .args .cells .now) (f .ensures .1 .0) in
-    (told-offence _ (N A (length (st .args .sequence .now)) 0) (w .result) A (st .args .sequence .now) (r .result) (k .0 .0) (w .ensures) q e (r .ensures A (numbered (st .args .rig) (st .args .states) (f .last .1 .1 .1 .1 .0) _ (st .pre .0) (st .pre .1 .0 .0) (f .ensures .1 .1)) rows (x .2)) (k .1), f .ensures .1 .0)
+    (told-violation _ (N A (length (st .args .sequence .now)) 0) (w .result) A (st .args .sequence .now) (r .result) (k .0 .0) (w .ensures) q e (r .ensures A (numbered (st .args .rig) (st .args .states) (f .last .1 .1 .1 .1 .0) _ (st .pre .0) (st .pre .1 .0 .0) (f .ensures .1 .1)) rows (x .2)) (k .1), f .ensures .1 .0)
 
 pub index-cells-spec : {M : Type 1} → statement M
 index-cells-spec =
@@ -121,7 +121,7 @@ index-cells-spec =
     mul-n
     mul-n-2
     slice-read-n
-    weigh-requires
+    check-count-requires
     enum-known-number
     enum-told
     rank-requires

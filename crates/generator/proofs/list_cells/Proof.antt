@@ -8,7 +8,7 @@ use Rattle.automaton.specs.Counting.{N}
 use Rattle.promises.specs.Calls.{outputAfter}
 use Rattle.rig.specs.Record.{recordAutomaton}
 use Rattle.pruning.proofs.Digits.{states-few}
-use Rattle.filling.proofs.Weighing.{told-refused}
+use Rattle.filling.proofs.CountCheck.{told-refused}
 use Rattle.ranking.proofs.Premises.{filled-holds}
 use Rattle.filling.proofs.Laws.{numbered}
 use Rattle.filling.proofs.Rows.{start-cell, cell-room}
@@ -18,7 +18,7 @@ use Rattle.generator.proofs.list_cells.Tie as tie
 use Rattle.generator.proofs.list_cells.Reads as reads
 use Rattle.generator.proofs.list_cells.Lts as lts
 use Rattle.filling.proofs.fill_cells.Reads as fill-cells-reads
-use Rattle.filling.proofs.weigh.Reads as weigh-reads
+use Rattle.filling.proofs.check_count.Reads as check-count-reads
 use Rattle.ranking.proofs.unrank_list.Reads as unrank-list-reads
 
 slice-aggregate-fill-cells : tie.Need-slice-aggregate-fill-cells
@@ -39,8 +39,8 @@ slice-read-n c =
     let f = c .before .before .before .before .fill-cells in
     omega (arith, f .kept .1 .1 .1 .0, cell-room (st .args .h) (st .args .states) (length (st .args .cells .now)) (st .pre .1 .1) (st .pre .1 .3))
 
-weigh-requires : tie.Need-weigh-requires
-weigh-requires c κs = search needs
+check-count-requires : tie.Need-check-count-requires
+check-count-requires c κs = search needs
 
 enum-known-number : tie.Need-enum-known-number
 enum-known-number c = search needs
@@ -69,7 +69,7 @@ unfolding outputAfter
 returns c =
     let st = c .before .before .before .before .before .before .before .before .before .before .before .before .before .before .before .before .before .before .before .before in
     let f = c .before .before .before .before .before .before .before .before .before .before .before .before .before .before .fill-cells in
-    let w = c .before .before .before .before .before .before .before .before .before .weigh in
+    let w = c .before .before .before .before .before .before .before .before .before .check-count in
     let u = c .before .before .before .unrank-list in
     let e = c .before .before .before .before .before .before .before .enum-told .given .1 in
     let A = recordAutomaton (st .args .rig) in
@@ -87,7 +87,7 @@ unfolding outputAfter
 returns-2 c =
     let st = c .before .before .before .before .before .before .before .before .before .before .before .before .before .before in
     let f = c .before .before .before .before .before .before .before .before .fill-cells in
-    let w = c .before .before .before .weigh in
+    let w = c .before .before .before .check-count in
     let k = c .before .number .given in
     let A = recordAutomaton (st .args .rig) in
     let q = start-cell A (st .args .h) (st .args .cells .now) (f .last .1 .1 .1 .0) (st .args .states) (st .pre .1 .0) (st .pre .1 .1) (f .ensures .1 .0) in
@@ -104,7 +104,7 @@ unfolding outputAfter
 returns-3 c =
     let st = c .before .before .before .before .before .before .before .before .before .before .before .before .before .before .before .before .before .before .before .before in
     let f = c .before .before .before .before .before .before .before .before .before .before .before .before .before .before .fill-cells in
-    let w = c .before .before .before .before .before .before .before .before .before .weigh in
+    let w = c .before .before .before .before .before .before .before .before .before .check-count in
     let u = c .before .before .before .unrank-list in
     let e = c .before .before .before .before .before .before .before .enum-told .given .1 in
     let A = recordAutomaton (st .args .rig) in
@@ -123,7 +123,7 @@ list-cells-spec =
     mul-n
     mul-n-2
     slice-read-n
-    weigh-requires
+    check-count-requires
     enum-known-number
     enum-told
     unrank-list-requires

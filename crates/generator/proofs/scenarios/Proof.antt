@@ -12,11 +12,11 @@ use Rattle.generator.proofs.scenarios.Tie as tie
 use Rattle.generator.proofs.scenarios.Reads as reads
 use Rattle.generator.proofs.scenarios.Lts as lts
 use Rattle.generator.proofs.list_cells.Reads as list-cells-reads
-use Rattle.opening.proofs.open.Reads as open-reads
+use Rattle.checks.proofs.load.Reads as load-reads
 use Rattle.ranking.proofs.fits.Reads as fits-reads
 
-open-requires : tie.Need-open-requires
-open-requires c κs = search needs
+load-requires : tie.Need-load-requires
+load-requires c κs = search needs
 
 enum-known-checked : tie.Need-enum-known-checked
 enum-known-checked c = search needs
@@ -30,7 +30,7 @@ fits-requires c κs = search needs
 list-cells-requires : tie.Need-list-cells-requires
 list-cells-requires c κs =
     let st = c .before .before .before .before .before .before .before .before .before .before .before .before .args in
-    let o = c .before .before .before .before .before .before .before .«open» in
+    let o = c .before .before .before .before .before .before .before .load in
     let e = c .before .before .before .before .enum-told .given .1 in
     let r = o .ensures .ready e in
     let g = c .before .before .before .fits2 in
@@ -45,7 +45,7 @@ same-length-2 c = search needs
 returns : tie.Need-returns
 returns c =
     let st = c .before .before .before .before .before .before .before .before .before .before .before .before .before .before .before .before .before .args in
-    let o = c .before .before .before .before .before .before .before .before .before .before .before .before .«open» in
+    let o = c .before .before .before .before .before .before .before .before .before .before .before .before .load in
     let e = c .before .before .before .before .before .before .before .before .before .enum-told .given .1 in
     let g = c .before .before .before .before .before .before .before .before .fits2 in
     let n = c .before .before .before .before .list-cells in
@@ -57,14 +57,14 @@ returns-2 : tie.Need-returns-2
 unfolding scenarios scenariosCells written
 returns-2 c =
     let st = c .before .before .before .before .before .before .before .before .before .args in
-    let o = c .before .before .before .before .«open» in
+    let o = c .before .before .before .before .load in
     let k = c .before .checked .given in
     (early-answer (st .text .now) (st .h) (length (st .cells .now)) (o .result) (o .ensures) (st .cells .now) refl (k .0 .0) (k .0 .1 .0) (k .1) _, (early-cells (st .text .now) (st .h) (length (st .cells .now)) (o .result) (o .ensures) (st .cells .now) refl (k .0 .0) (k .0 .1 .0) (k .1) _ _, early-output (st .text .now) (st .h) (length (st .cells .now)) (o .result) (o .ensures) (st .cells .now) refl (k .0 .0) (k .0 .1 .0) (k .1) _ _ (st .out .now)))
 
 returns-3 : tie.Need-returns-3
 returns-3 c =
     let st = c .before .before .before .before .before .before .before .before .before .before .args in
-    let o = c .before .before .before .before .before .«open» in
+    let o = c .before .before .before .before .before .load in
     let e = c .before .before .enum-told .given .1 in
     let g = c .before .fits2 in
     let short = fits-false (g .result) (length (st .out .now)) (length (st .list .now) * st .h) (g .ensures) (c .if1 .left) in
@@ -74,7 +74,7 @@ pub scenarios-spec : {M : Type 1} → statement M
 scenarios-spec =
     tie.close
     (tie.spec
-    open-requires
+    load-requires
     enum-known-checked
     enum-told
     fits-requires

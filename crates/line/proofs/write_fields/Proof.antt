@@ -5,7 +5,7 @@ use Prim.Native.Nat.{_+_, _-_, _*_, _<_, _≤_}
 use native.Mathlib.Omega.{arith}
 use lib.ListN.{length, getD, take}
 use lib.Seq.{take-all}
-use Rattle.lists.specs.Lists.{each}
+use Rattle.lists.specs.Lists.{concatMap}
 use Rattle.decimal.specs.Decimal.{decimal}
 use Rattle.decimal.proofs.Digits.{decimal-short}
 use Rattle.line.specs.Line.{field, placed}
@@ -17,8 +17,8 @@ use Rattle.line.proofs.write_fields.Tie as tie
 abbrev Inv-loop : tie.InvT-loop
 Inv-loop events at out₀ end₀ k₀ k-end out end k =
     (k ≤ length events) × (length out ≡ length out₀)
-    × (end ≡ at + length (each field (take k events))) × (end ≤ at + 4 * k)
-    × (out ≡ placed (each field (take k events)) at out₀)
+    × (end ≡ at + length (concatMap field (take k events))) × (end ≤ at + 4 * k)
+    × (out ≡ placed (concatMap field (take k events)) at out₀)
 
 abbrev μ-loop : tie.MeasureT-loop
 μ-loop events at out₀ end₀ k₀ k-end out end k = length events - k

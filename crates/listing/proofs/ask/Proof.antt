@@ -2,7 +2,7 @@
 use mathlib.Core.Path.{sym}
 use native.Mathlib.Omega.{arith}
 use lib.Seq.{length-take-le}
-use Rattle.decoding.proofs.Parts.{place-le}
+use Rattle.decoding.proofs.Parts.{indexOf-le}
 use Rattle.listing.proofs.Asking.{ask-good, ask-bad, ask-unended}
 use borrow.Author.Needs.{needs}
 use Rattle.listing.proofs.ask.Statement.{statement}
@@ -18,7 +18,7 @@ until-requires c κs = search needs
 slice-aggregate-asked-in : tie.Need-slice-aggregate-asked-in
 slice-aggregate-asked-in c =
     let s = c .before .before .before .before .args .input .now in
-    sym (length-take-le (c .before .before .until .result) s (rw (c .before .before .until .ensures) (place-le s 10)))
+    sym (length-take-le (c .before .before .until .result) s (rw (c .before .before .until .ensures) (indexOf-le s 10)))
 
 asked-in-requires : tie.Need-asked-in-requires
 asked-in-requires c κs = search needs

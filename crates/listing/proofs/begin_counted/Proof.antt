@@ -9,7 +9,7 @@ use Rattle.automaton.specs.Counting.{N}
 use Rattle.promises.specs.Answer.{served}
 use Rattle.rig.specs.Record.{recordAutomaton}
 use Rattle.pruning.proofs.Digits.{states-few}
-use Rattle.filling.proofs.Weighing.{told-refused}
+use Rattle.filling.proofs.CountCheck.{told-refused}
 use Rattle.filling.proofs.Laws.{numbered}
 use Rattle.filling.proofs.Rows.{start-cell, told-count}
 use Rattle.listing.proofs.Beginning.{begins-as, sized-counted, lists-counted}
@@ -19,7 +19,7 @@ use Rattle.listing.proofs.begin_counted.Tie as tie
 use Rattle.listing.proofs.begin_counted.Reads as reads
 use Rattle.listing.proofs.begin_counted.Lts as lts
 use Rattle.filling.proofs.fill_cells.Reads as fill-cells-reads
-use Rattle.filling.proofs.weigh.Reads as weigh-reads
+use Rattle.filling.proofs.check_count.Reads as check-count-reads
 use Rattle.line.proofs.write_numbers.Reads as write-numbers-reads
 use Rattle.listing.proofs.first_lines.Reads as first-lines-reads
 use Rattle.listing.proofs.refuse.Reads as refuse-reads
@@ -36,8 +36,8 @@ mul-n-2 c = search needs
 slice-read-n : tie.Need-slice-read-n
 slice-read-n c = search needs
 
-weigh-requires : tie.Need-weigh-requires
-weigh-requires c κs = search needs
+check-count-requires : tie.Need-check-count-requires
+check-count-requires c κs = search needs
 
 enum-known-number : tie.Need-enum-known-number
 enum-known-number c = search needs
@@ -70,7 +70,7 @@ returns : tie.Need-returns
 returns c =
     let st = c .before .before .before .before .before .before .before .before .before .before .before .before .before .before .before .before .before .before .before in
     let f = c .before .before .before .before .before .before .before .before .before .before .before .before .before .fill-cells in
-    let w = c .before .before .before .before .before .before .before .weigh in
+    let w = c .before .before .before .before .before .before .before .check-count in
     let k = c .before .before .before .before .before .number .given in
     let r = c .before .before .refuse in
     let A = recordAutomaton (st .args .rig) in
@@ -95,7 +95,7 @@ returns-2 : tie.Need-returns-2
 returns-2 c =
     let st = c .before .before .before .before .before .before .before .before .before .before .before .before .before .before .before .before .before .before .before .before in
     let f = c .before .before .before .before .before .before .before .before .before .before .before .before .before .before .fill-cells in
-    let w = c .before .before .before .before .before .before .before .before .weigh in
+    let w = c .before .before .before .before .before .before .before .before .check-count in
     let e = c .before .before .before .before .before .before .enum-told .given .1 in
     let l = c .before .before .before .write-numbers in
     let A = recordAutomaton (st .args .rig) in
@@ -115,7 +115,7 @@ begin-counted-spec =
     mul-n
     mul-n-2
     slice-read-n
-    weigh-requires
+    check-count-requires
     enum-known-number
     refuse-requires
     enum-told

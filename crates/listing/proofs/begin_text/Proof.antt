@@ -12,10 +12,10 @@ use Rattle.listing.proofs.begin_text.Reads as reads
 use Rattle.listing.proofs.begin_text.Lts as lts
 use Rattle.listing.proofs.begin_counted.Reads as begin-counted-reads
 use Rattle.listing.proofs.refuse.Reads as refuse-reads
-use Rattle.opening.proofs.open.Reads as open-reads
+use Rattle.checks.proofs.load.Reads as load-reads
 
-open-requires : tie.Need-open-requires
-open-requires c κs = search needs
+load-requires : tie.Need-load-requires
+load-requires c κs = search needs
 
 enum-known-checked : tie.Need-enum-known-checked
 enum-known-checked c = search needs
@@ -29,7 +29,7 @@ enum-told c = search needs
 begin-counted-requires : tie.Need-begin-counted-requires
 begin-counted-requires c κs =
     let st = c .before .before .before .before .before .before .before .before .before .before .before in
-    let o = c .before .before .before .before .before .before .«open» in
+    let o = c .before .before .before .before .before .before .load in
     let e = c .before .before .before .enum-told .given .1 in
     let r = o .ensures .ready e in
     let states = some-states (st .args .text .now) (st .args .h) (length (st .args .cells .now)) (o .result) (o .ensures) (st .args .cells .now) refl e in
@@ -41,7 +41,7 @@ same-length c = search needs
 returns : tie.Need-returns
 returns c =
     let st = c .before .before .before .before .before .before .before .before .before .before .before .before .before .args in
-    let o = c .before .before .before .before .before .before .before .before .«open» in
+    let o = c .before .before .before .before .before .before .before .before .load in
     let k = c .before .before .before .before .before .checked .given in
     let r = c .before .before .refuse in (
       r .ensures .0,
@@ -63,7 +63,7 @@ same-length-4 c = search needs
 returns-2 : tie.Need-returns-2
 returns-2 c =
     let st = c .before .before .before .before .before .before .before .before .before .before .before .before .before .before .before .before .before .before .args in
-    let o = c .before .before .before .before .before .before .before .before .before .before .before .before .before .«open» in
+    let o = c .before .before .before .before .before .before .before .before .before .before .before .before .before .load in
     let e = c .before .before .before .before .before .before .before .before .before .before .enum-told .given .1 in
     let n = c .before .before .before .before .before .before .begin-counted in
     let r = o .ensures .ready e in (
@@ -78,7 +78,7 @@ pub begin-text-spec : {M : Type 1} → statement M
 begin-text-spec =
     tie.close
     (tie.spec
-    open-requires
+    load-requires
     enum-known-checked
     refuse-requires
     enum-told

@@ -7,7 +7,7 @@ use native.Mathlib.Omega.{arith}
 use native.Mathlib.Nat.{zero-mul}
 use lib.ListN.{length, getD, take, drop}
 use lib.Seq.{take-length}
-use Rattle.lists.specs.Lists.{each}
+use Rattle.lists.specs.Lists.{concatMap}
 use Rattle.automaton.specs.Automaton.{Automaton}
 use Rattle.automaton.specs.Counting.{N, most}
 use Rattle.automaton.specs.Ranking.{unrank}
@@ -21,7 +21,7 @@ use Rattle.ranking.proofs.unrank_all.Tie as tie
 abbrev Inv-loop : tie.InvT-loop
 Inv-loop cells table p x h list out₀ n₀ n-end out n =
     (n ≤ length list) × (length out ≡ length out₀)
-    × ((A : Automaton) (events : ℕ) → Numbered A p events table → HoldsRows A h cells → IndicesBelow (N A h x) list → N A h x < most → out ≡ each (unrank A h x) (take n list) ++ drop (n * h) out₀)
+    × ((A : Automaton) (events : ℕ) → Numbered A p events table → HoldsRows A h cells → IndicesBelow (N A h x) list → N A h x < most → out ≡ concatMap (unrank A h x) (take n list) ++ drop (n * h) out₀)
 
 abbrev μ-loop : tie.MeasureT-loop
 μ-loop cells table p x h list out₀ n₀ n-end out n = length list - n
@@ -112,8 +112,8 @@ returns c =
     let lp = c .before .loop in
     let e : lp .n ≡ length (a .list .now) = omega arith in
     lp .inv .2 A events numbered rows below least
-    ∙ ap (λ (n : ℕ). each (unrank A (a .h) (a .x)) (take n (a .list .now)) ++ drop (n * a .h) (a .out .now)) e
-    ∙ ap (λ (l : List ℕ). each (unrank A (a .h) (a .x)) l ++ drop (length (a .list .now) * a .h) (a .out .now)) (take-length (a .list .now))
+    ∙ ap (λ (n : ℕ). concatMap (unrank A (a .h) (a .x)) (take n (a .list .now)) ++ drop (n * a .h) (a .out .now)) e
+    ∙ ap (λ (l : List ℕ). concatMap (unrank A (a .h) (a .x)) l ++ drop (length (a .list .now) * a .h) (a .out .now)) (take-length (a .list .now))
 
 pub unrank-all-spec : {M : Type 1} → statement M
 unrank-all-spec =

@@ -8,10 +8,10 @@ use lib.ListN.{length, take, drop}
 use mathlib.Core.List.{[]}
 use lib.ListN.{replicate, length-replicate, getD-replicate, length-drop, length-take}
 use lib.Seq.{length-take-le}
-use Rattle.lists.specs.Lists.{place}
+use Rattle.lists.specs.Lists.{indexOf}
 use Rattle.promises.specs.Answer.{served, refused}
 use Rattle.rig.specs.Record.{emptyRig}
-use Rattle.decoding.proofs.Parts.{place-le}
+use Rattle.decoding.proofs.Parts.{indexOf-le}
 use Rattle.reader.proofs.Passing.{Passed, passed-none, stops-unended, stops-bad, goes-on, ends-none, ends-served, ends-record, reading-long, reading-whole, answers-refusal, answers-record}
 use borrow.Author.Needs.{needs}
 use Rattle.reader.proofs.read.Statement.{statement}
@@ -60,7 +60,7 @@ slice-aggregate-decode c =
     let t = c .before .before .before .before .before .before .before .before .args .text .now in
     let lp = c .before .before .before .before .before .loop in
     let u = c .before .before .until in
-    sym (length-take-le (u .result) (take (length t - lp .at) (drop (lp .at) t)) (rw (u .ensures) (place-le (take (length t - lp .at) (drop (lp .at) t)) 10)))
+    sym (length-take-le (u .result) (take (length t - lp .at) (drop (lp .at) t)) (rw (u .ensures) (indexOf-le (take (length t - lp .at) (drop (lp .at) t)) 10)))
 
 decode-requires : tie.Need-decode-requires Inv-loop μ-loop
 decode-requires c κs = search needs
@@ -103,7 +103,7 @@ add-at c =
     let lp = c .before .before .before .before .before .before .before .before .before .before .before .before .before .before .loop in
     let u = c .before .before .before .before .before .before .before .before .before .before .before .until in
     let rest = take (length t - lp .at) (drop (lp .at) t) in
-    let h : u .result ≤ length rest = rw (u .ensures) (place-le rest 10) in
+    let h : u .result ≤ length rest = rw (u .ensures) (indexOf-le rest 10) in
     omega (arith, c .before .before .before .before .before .before .before .before .before .before .before .before .before .before .before .if1 .left, length-take (length t - lp .at) (drop (lp .at) t), length-drop (lp .at) t)
 
 add-at-2 : tie.Need-add-at-2 Inv-loop μ-loop
@@ -112,7 +112,7 @@ add-at-2 c =
     let lp = c .before .before .before .before .before .before .before .before .before .before .before .before .before .before .loop in
     let u = c .before .before .before .before .before .before .before .before .before .before .before .until in
     let rest = take (length t - lp .at) (drop (lp .at) t) in
-    let h : u .result ≤ length rest = rw (u .ensures) (place-le rest 10) in
+    let h : u .result ≤ length rest = rw (u .ensures) (indexOf-le rest 10) in
     omega (arith, c .before .before .before .before .before .before .before .before .before .before .before .before .before .before .before .if1 .left, length-take (length t - lp .at) (drop (lp .at) t), length-drop (lp .at) t)
 
 loop-less : tie.Need-loop-less Inv-loop μ-loop

@@ -1,20 +1,47 @@
--- `shuffle::bucket` meets its contract: it is its definition, and what is scaled is below 2^32 times z.
-use mathlib.Core.Path.{refl}
-use Prim.Native.Nat.{_/_, _%_, _^_}
+-- `shuffle::bucket` meets its contract. It is its definition, step by step; what is scaled is below 2^32 times z, so the bucket is below z.
+use mathlib.Core.Path.{_≡_, sym}
+use Prim.Native.Nat.{_*_, _/_, _%_, _^_}
 use native.Mathlib.Omega.{arith}
 use borrow.Author.Needs.{needs}
-use Rattle.shuffle.proofs.Mixing.{part-fits, scaled-bucket}
+use Rattle.shuffle.specs.Buckets.{bucketOf}
+use Rattle.shuffle.proofs.Mixing.{halves-fit, bucket-below}
 use Rattle.shuffle.proofs.bucket.Statement.{statement}
 use Rattle.shuffle.proofs.bucket.Tie as tie
+
+spread-bits-requires : tie.Need-spread-bits-requires
+spread-bits-requires c κs = search needs
+
+mul-spread-bits : tie.Need-mul-spread-bits
+mul-spread-bits c =
+    let m = c .spread-bits in
+    record { fits = halves-fit (m .result) (m .result % 2 ^ 32) (m .ensures .1) (omega arith) }
+
+spread-bits-requires-2 : tie.Need-spread-bits-requires-2
+spread-bits-requires-2 c κs = search needs
 
 at-most-word-requires : tie.Need-at-most-word-requires
 at-most-word-requires c κs = search needs
 
 mul-result : tie.Need-mul-result
-mul-result c = record { fits = part-fits (c .before .args .m / 2 ^ 10 % 2 ^ 32) (c .at-most-word .result) (omega arith) (omega arith) }
+mul-result c =
+    let h = c .before .spread-bits2 in
+    record { fits = halves-fit (h .result) (c .at-most-word .result) (h .ensures .1) (omega arith) }
 
 returns : tie.Need-returns
-returns c = rw (c .at-most-word .ensures) (refl, scaled-bucket (c .before .args .m / 2 ^ 10 % 2 ^ 32) (c .before .args .z) (omega arith) (c .before .pre))
+unfolding bucketOf
+returns c =
+    let st = c .before .before .before in
+    let e : bucketOf (st .args .z) (st .args .d) ≡ c .before .spread-bits2 .result / 2 ^ 32 * c .at-most-word .result / 2 ^ 32 =
+    rw (← c .before .before .spread-bits .ensures .0, ← c .before .spread-bits2 .ensures .0, ← c .at-most-word .ensures) in
+    (sym e, rw (← e) (bucket-below (st .args .z) (st .args .d) (st .pre)))
 
 pub bucket-spec : {M : Type 1} → statement M
-bucket-spec = tie.close (tie.spec at-most-word-requires mul-result returns)
+bucket-spec =
+    tie.close
+    (tie.spec
+    spread-bits-requires
+    mul-spread-bits
+    spread-bits-requires-2
+    at-most-word-requires
+    mul-result
+    returns)

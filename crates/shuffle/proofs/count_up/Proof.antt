@@ -5,21 +5,21 @@ use Prim.Native.Nat.{ℕ, _-_, _≤_}
 use native.Mathlib.Omega.{arith}
 use lib.ListN.{length, set, drop, length-set}
 use borrow.Author.Needs.{needs}
-use Rattle.lists.specs.Lists.{tab}
-use Rattle.lists.proofs.Tables.{tab-more}
+use Rattle.lists.specs.Lists.{tabulate}
+use Rattle.lists.proofs.Tables.{tabulate-more}
 use Rattle.shuffle.specs.Places.{itself}
 use Rattle.shuffle.proofs.count_up.Statement.{statement}
 use Rattle.shuffle.proofs.count_up.Tie as tie
 
 abbrev Inv-loop : tie.InvT-loop
 Inv-loop scratch₀ m k₀ scratch k =
-    (k ≤ m) × (length scratch ≡ length scratch₀) × (scratch ≡ tab itself k ++ drop k scratch₀)
+    (k ≤ m) × (length scratch ≡ length scratch₀) × (scratch ≡ tabulate itself k ++ drop k scratch₀)
 
 abbrev μ-loop : tie.MeasureT-loop
 μ-loop scratch₀ m k₀ scratch k = m - k
 
 loop-holds : tie.Need-loop-holds Inv-loop μ-loop
-unfolding tab
+unfolding tabulate
 loop-holds c = (omega arith, refl, refl)
 
 mul-scratch : tie.Need-mul-scratch Inv-loop μ-loop
@@ -38,7 +38,7 @@ loop-again : tie.Need-loop-again Inv-loop μ-loop
 loop-again c =
     let st = c .before .before in
     let lp = c .before .loop in
-    (omega arith, simp length-set (lp .inv .1), ap (λ (l : List ℕ). set l (lp .k) (itself (lp .k))) (lp .inv .2) ∙ tab-more itself (st .args .scratch .now) (lp .k) (itself (lp .k)) 0 (omega arith) refl)
+    (omega arith, simp length-set (lp .inv .1), ap (λ (l : List ℕ). set l (lp .k) (itself (lp .k))) (lp .inv .2) ∙ tabulate-more itself (st .args .scratch .now) (lp .k) (itself (lp .k)) 0 (omega arith) refl)
 
 same-length : tie.Need-same-length Inv-loop μ-loop
 same-length c = search needs
@@ -48,7 +48,7 @@ returns c =
     let st = c .before .before in
     let lp = c .before .loop in
     let e : lp .k ≡ st .args .m = omega arith in
-    lp .inv .2 ∙ ap (λ (n : ℕ). tab itself n ++ drop n (st .args .scratch .now)) e
+    lp .inv .2 ∙ ap (λ (n : ℕ). tabulate itself n ++ drop n (st .args .scratch .now)) e
 
 pub count-up-spec : {M : Type 1} → statement M
 count-up-spec =

@@ -8,7 +8,7 @@ use lib.Dec.{eqb}
 use borrow.Author.Needs.{needs}
 use Rattle.shuffle.specs.Places.{drawn}
 use Rattle.shuffle.proofs.Arrangement.{held-ahead, held-behind, drawn-first, drawn-again}
-use Rattle.shuffle.proofs.Chains.{latest-le}
+use Rattle.shuffle.proofs.Chains.{latestStep-le}
 use Rattle.shuffle.proofs.number_at.Statement.{statement}
 use Rattle.shuffle.proofs.number_at.Tie as tie
 
@@ -36,7 +36,7 @@ last-step-requires c κs =
     let r = st .pre .1 .0 .linked in
     let h = st .pre .0 .0 in
     let far : st .args .reach ≤ getD (st .args .draws .now) (st .args .i) 0 = omega arith in
-    ((h, far, r .room (st .args .i) h far), (r, st .pre .0 .2 far))
+    (h, far, r .room (st .args .i) h far, r)
 
 returns-2 : tie.Need-returns-2
 returns-2 c =
@@ -51,7 +51,7 @@ mul-result-2 c =
     let st = c .before .before .before .before .before .before in
     let ds = st .args .draws .now in
     let s = c .before .last-step in
-    let l = latest-le (eqb (getD ds (st .args .i) 0)) ds (st .args .i) in
+    let l = latestStep-le (eqb (getD ds (st .args .i) 0)) ds (st .args .i) in
     let e = s .ensures in
     omega arith
 
@@ -60,7 +60,7 @@ shared-slice-read-result-2 c =
     let st = c .before .before .before .before .before .before .before in
     let ds = st .args .draws .now in
     let s = c .before .before .last-step in
-    let l = latest-le (eqb (getD ds (st .args .i) 0)) ds (st .args .i) in
+    let l = latestStep-le (eqb (getD ds (st .args .i) 0)) ds (st .args .i) in
     let e = s .ensures in
     let near = st .pre .1 .0 .near in
     let small = st .pre .1 .0 .small in
@@ -73,7 +73,7 @@ returns-3 c =
     let st = c .before .before .before .before .before .before .before in
     let ds = st .args .draws .now in
     let s = c .before .before .last-step in
-    let l = latest-le (eqb (getD ds (st .args .i) 0)) ds (st .args .i) in
+    let l = latestStep-le (eqb (getD ds (st .args .i) 0)) ds (st .args .i) in
     let e = s .ensures in
     let near = st .pre .1 .0 .near in
     let h = st .pre .0 .0 in

@@ -1,49 +1,40 @@
--- `shuffle::swap_all` meets its contract. After i steps the scratch holds the arrangement that i draws make, and the output their numbers, with the
--- beginnings of the later draws' walks still behind them; the numbers drawn in all steps are the shuffle.
+-- `shuffle::swap_all` meets its contract. After i steps the scratch holds the arrangement that i draws make, and the output their numbers;
+-- the numbers drawn in all steps are the shuffle.
 use mathlib.Core.Path.{_≡_, refl, ap, _∙_}
 use mathlib.Core.List.{List, _++_}
-use Prim.Native.Nat.{ℕ, _-_, _*_, _≤_}
+use Prim.Native.Nat.{ℕ, _-_, _≤_}
 use native.Mathlib.Omega.{arith}
-use lib.ListN.{length, getD, set, drop, length-set}
+use lib.ListN.{length, set, drop, length-set}
 use borrow.Author.Needs.{needs}
-use Rattle.lists.specs.Lists.{tab}
-use Rattle.lists.proofs.Tables.{tab-more}
+use Rattle.lists.specs.Lists.{tabulate}
+use Rattle.lists.proofs.Tables.{tabulate-more}
 use Rattle.shuffle.specs.Places.{drawn, Linked, Held, Kept}
-use Rattle.shuffle.proofs.Arrangement.{outputs, held-moved, past-output}
-use Rattle.shuffle.proofs.Chains.{linked-moved, kept-same, kept-trans, kept-moved}
+use Rattle.shuffle.proofs.Arrangement.{outputs, held-moved}
+use Rattle.shuffle.proofs.Chains.{linked-moved, kept-trans, kept-moved}
 use Rattle.shuffle.proofs.swap_all.Statement.{statement}
 use Rattle.shuffle.proofs.swap_all.Tie as tie
 
 abbrev Inv-loop : tie.InvT-loop
 Inv-loop draws scratch₀ reach out₀ i₀ i-end scratch out i =
-    (i ≤ length draws) × (length out ≡ length out₀) × Kept (2 * length draws) scratch₀ scratch × Linked reach draws scratch × Held reach draws i scratch × (out ≡ tab (drawn draws) i ++ drop i out₀)
+    (i ≤ length draws) × (length out ≡ length out₀) × Kept draws scratch₀ scratch × Linked reach draws scratch × Held reach draws i scratch
+    × (out ≡ tabulate (drawn draws) i ++ drop i out₀)
 
 abbrev μ-loop : tie.MeasureT-loop
 μ-loop draws scratch₀ reach out₀ i₀ i-end scratch out i = length draws - i
 
 loop-holds : tie.Need-loop-holds Inv-loop μ-loop
-unfolding tab
+unfolding tabulate
 loop-holds c =
     let st = c .before .before .before in
-    (omega arith, refl, kept-same _ _, st .pre .1 .0 .linked, st .pre .1 .1, refl)
-
-mul-number-at : tie.Need-mul-number-at Inv-loop μ-loop
-mul-number-at c = search needs
-
-slice-read-number-at : tie.Need-slice-read-number-at Inv-loop μ-loop
-slice-read-number-at c = search needs
+    (omega arith, refl, record { long = refl; rest = refl }, st .pre .1 .0 .linked, st .pre .1 .1, refl)
 
 number-at-requires : tie.Need-number-at-requires Inv-loop μ-loop
 number-at-requires c κs =
-    let st = c .before .before .before .before .before .before .before in
-    let lp = c .before .before .before .loop in
-    let h = c .before .before .loop-test .taken in
-    let ds = st .args .draws .now in
-    let out = st .args .out .now in
+    let st = c .before .before .before .before .before .before in
+    let lp = c .before .before .loop in
     let r = st .pre .1 .0 in
     let long = lp .inv .2 .long in
-    let e : getD (lp .out) (lp .i) 0 ≡ getD out (lp .i) 0 = ap (λ (l : List ℕ). getD l (lp .i) 0) (lp .inv .5) ∙ past-output ds out (lp .i) in
-    ((h, st .pre .0 .1 (lp .i) h, rw e (st .pre .0 .2 (lp .i) h)), (record { near = r .near; small = r .small; wide = omega arith; linked = lp .inv .3 }, lp .inv .4))
+    ((c .before .loop-test .taken, st .pre .0 .1 (lp .i) (c .before .loop-test .taken)), (record { near = r .near; small = r .small; wide = omega arith; linked = lp .inv .3 }, lp .inv .4))
 
 mul-move-number : tie.Need-mul-move-number Inv-loop μ-loop
 mul-move-number c = search needs
@@ -53,8 +44,8 @@ shared-slice-read-move-number c = search needs
 
 move-number-requires : tie.Need-move-number-requires Inv-loop μ-loop
 move-number-requires c κs =
-    let st = c .before .before .before .before .before .before .before .before .before .before in
-    let lp = c .before .before .before .before .before .before .loop in
+    let st = c .before .before .before .before .before .before .before .before .before in
+    let lp = c .before .before .before .before .before .loop in
     let near = st .pre .1 .0 .near in
     let small = st .pre .1 .0 .small in
     let wide = st .pre .1 .0 .wide in
@@ -75,9 +66,9 @@ loop-less c = search needs
 
 loop-again : tie.Need-loop-again Inv-loop μ-loop
 loop-again c =
-    let st = c .before .before .before .before .before .before .before .before .before .before .before .before .before in
-    let lp = c .before .before .before .before .before .before .before .before .before .loop in
-    let h = c .before .before .before .before .before .before .before .before .loop-test .taken in
+    let st = c .before .before .before .before .before .before .before .before .before .before .before .before in
+    let lp = c .before .before .before .before .before .before .before .before .loop in
+    let h = c .before .before .before .before .before .before .before .loop-test .taken in
     let near = st .pre .1 .0 .near in
     let small = st .pre .1 .0 .small in
     let wide = st .pre .1 .0 .wide in
@@ -89,7 +80,7 @@ loop-again c =
       rw m (kept-trans _ _ _ _ (lp .inv .2) (kept-moved _ _ _ _ _ small)),
       rw m (linked-moved _ _ _ _ _ (lp .inv .3)),
       rw m (held-moved _ _ _ _ (omega arith) (omega arith) (st .pre .0 .1 (lp .i) h) (lp .inv .4)),
-      ap (λ (l : List ℕ). set l (lp .i) (v .result)) (lp .inv .5) ∙ tab-more _ _ _ _ 0 (omega arith) (v .ensures),
+      ap (λ (l : List ℕ). set l (lp .i) (v .result)) (lp .inv .5) ∙ tabulate-more _ _ _ _ 0 (omega arith) (v .ensures),
     )
 
 same-length : tie.Need-same-length Inv-loop μ-loop
@@ -104,7 +95,7 @@ returns c =
     let lp = c .before .loop in
     let ds = st .args .draws .now in
     let e : lp .i ≡ length ds = omega arith in
-    (lp .inv .5 ∙ ap (λ (n : ℕ). tab (drawn ds) n ++ drop n (st .args .out .now)) e ∙ ap (λ (l : List ℕ). l ++ drop (length ds) (st .args .out .now)) (outputs ds), lp .inv .2)
+    (lp .inv .5 ∙ ap (λ (n : ℕ). tabulate (drawn ds) n ++ drop n (st .args .out .now)) e ∙ ap (λ (l : List ℕ). l ++ drop (length ds) (st .args .out .now)) (outputs ds), lp .inv .2)
 
 pub swap-all-spec : {M : Type 1} → statement M
 swap-all-spec =
@@ -113,8 +104,6 @@ swap-all-spec =
     Inv-loop
     μ-loop
     loop-holds
-    mul-number-at
-    slice-read-number-at
     number-at-requires
     mul-move-number
     shared-slice-read-move-number

@@ -6,14 +6,14 @@ use native.Mathlib.Omega.{arith}
 use lib.ListN.{length, drop}
 use native.Mathlib.Numerals.{add-one}
 use native.Mathlib.Nat.{pow-le-pow-right, pow-suc}
-use Rattle.promises.specs.Text.{digits}
+use Rattle.promises.specs.Text.{digitsValue}
 use Rattle.decoding.proofs.Numbers.{digits-more, digits-low, digits-high, digits-end}
 use borrow.Author.Needs.{needs}
-use Rattle.decoding.proofs.digits.Statement.{statement}
-use Rattle.decoding.proofs.digits.Tie as tie
+use Rattle.decoding.proofs.digits_value.Statement.{statement}
+use Rattle.decoding.proofs.digits_value.Tie as tie
 
 abbrev Inv-loop : tie.InvT-loop
-Inv-loop field n₀ i₀ n i = (i ≤ length field) × (n < 10 ^ i) × (digits 0 field ≡ digits n (drop i field))
+Inv-loop field n₀ i₀ n i = (i ≤ length field) × (n < 10 ^ i) × (digitsValue 0 field ≡ digitsValue n (drop i field))
 
 abbrev μ-loop : tie.MeasureT-loop
 μ-loop field n₀ i₀ n i = length field - i
@@ -75,8 +75,8 @@ returns-3 c =
     let lp = c .before .loop in
     sym (lp .inv .2 ∙ digits-end s (lp .n) (lp .i) (c .loop-test .left))
 
-pub digits-spec : {M : Type 1} → statement M
-digits-spec =
+pub digits-value-spec : {M : Type 1} → statement M
+digits-value-spec =
     tie.close
     (tie.spec
     Inv-loop

@@ -1,2 +1,2 @@
 -- What the checks come to.
-pub mod Opening
+pub mod Loading

@@ -1,17 +1,17 @@
--- `measure` meets its contract: each return is a case of rows 7 and 8. The product fits because h is at most 1,000 and P at most 1,024.
+-- `check_sizes` meets its contract: each return is a case of rows 7 and 8. The product fits because h is at most 1,000 and P at most 1,024.
 -- Assumes nothing.
 use Prim.Native.Nat.{_+_, _*_, _≤_}
 use native.Mathlib.Omega.{arith}
 use Rattle.pruning.proofs.Digits.{states-few}
-use Rattle.opening.proofs.Laws.{cells-few, weighs-7, weighs-8, weighs-on}
-use Rattle.opening.proofs.measure.Statement.{statement}
-use Rattle.opening.proofs.measure.Tie as tie
-use Rattle.opening.proofs.measure.Reads as reads
-use Rattle.opening.proofs.measure.Lts as lts
+use Rattle.checks.proofs.Laws.{cells-few, sizes-7, sizes-8, sizes-on}
+use Rattle.checks.proofs.check_sizes.Statement.{statement}
+use Rattle.checks.proofs.check_sizes.Tie as tie
+use Rattle.checks.proofs.check_sizes.Reads as reads
+use Rattle.checks.proofs.check_sizes.Lts as lts
 use Rattle.pruning.proofs.joint_states.Reads as joint-states-reads
 
 returns : tie.Need-returns
-returns c = let st = c .before .args in weighs-7 (st .rig) (st .h) (st .room) (c .if1 .taken)
+returns c = let st = c .before .args in sizes-7 (st .rig) (st .h) (st .room) (c .if1 .taken)
 
 joint-states-requires : tie.Need-joint-states-requires
 joint-states-requires c κs = c .before .pre
@@ -29,13 +29,13 @@ mul-if2 c =
 returns-2 : tie.Need-returns-2
 returns-2 c =
     let st = c .before .before .before .args in
-    weighs-8 (st .rig) (st .h) (st .room) (c .before .joint-states .result) (c .before .before .if1 .left) (c .before .joint-states .ensures) (c .if2 .taken)
+    sizes-8 (st .rig) (st .h) (st .room) (c .before .joint-states .result) (c .before .before .if1 .left) (c .before .joint-states .ensures) (c .if2 .taken)
 
 returns-3 : tie.Need-returns-3
 returns-3 c =
     let st = c .before .before .before .args in
-    weighs-on (st .rig) (st .h) (st .room) (c .before .joint-states .result) (c .before .before .if1 .left) (c .before .joint-states .ensures) (c .if2 .left)
+    sizes-on (st .rig) (st .h) (st .room) (c .before .joint-states .result) (c .before .before .if1 .left) (c .before .joint-states .ensures) (c .if2 .left)
 
-pub measure-spec : {M : Type 1} → statement M
-measure-spec =
+pub check-sizes-spec : {M : Type 1} → statement M
+check-sizes-spec =
     tie.close (tie.spec returns joint-states-requires add-if2 mul-if2 returns-2 returns-3)

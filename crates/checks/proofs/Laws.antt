@@ -5,7 +5,7 @@ use Prim.Native.Nat.{ℕ, zero, suc, _+_, _*_, _≤_, _<_}
 use native.Mathlib.Omega.{arith}
 use native.Mathlib.Nat.{mul-le-mul, zero-mul}
 use borrow.Author.Tests.{lt-ltb, le-ltb}
-use Rattle.lists.specs.Lists.{tab}
+use Rattle.lists.specs.Lists.{tabulate}
 use Rattle.automaton.specs.Joint.{At, sizes, jointState}
 use Rattle.automaton.proofs.Joint.{joint-number}
 use Rattle.rig.specs.declared.Rig.{Rig}
@@ -21,9 +21,9 @@ use Rattle.reader.specs.Reading.{answerOf, recordOf}
 use Rattle.reader.specs.declared.Verdict.the-variants.{Readable as Read, Refused as Unread}
 use Rattle.reader.specs.Record.{ReadFrom}
 use Rattle.reader.proofs.Record.{read-from}
-use Rattle.opening.specs.Opening.{Opens, Weighs}
-use Rattle.opening.specs.declared.Checked.the-variants.{Passed, Refused}
-use Rattle.opening.specs.declared.Opened.{Opened}
+use Rattle.checks.specs.Loading.{Loads, ChecksSizes}
+use Rattle.checks.specs.declared.Checked.the-variants.{Passed, Refused}
+use Rattle.checks.specs.declared.Loaded.{Loaded}
 
 -- ---- the horizon and the room
 
@@ -36,22 +36,22 @@ refused-early n p m q le e = let z : n ≡ m = cc in omega arith
 passed-not : (n p : ℕ) → Refused n p ≡ Passed → ⊥
 passed-not n p e = let z : _≡_ {A = ℕ} 0 1 = cc in omega arith
 
-pub weighs-7 : (r : Rig) (h room : ℕ) → 1000 < h → Weighs r h room (record { checked = Refused 7 0; rig = r; states = 0 })
-weighs-7 r h room c = record {
+pub sizes-7 : (r : Rig) (h room : ℕ) → 1000 < h → ChecksSizes r h room (record { checked = Refused 7 0; rig = r; states = 0 })
+sizes-7 r h room c = record {
   answer = λ a. rw (lt-ltb 1000 h c);
   early = λ n p. refused-early 7 0 n p (omega arith);
   passed = λ e. absurd (passed-not 7 0 e);
 }
 
-pub weighs-8 : (r : Rig) (h room states : ℕ) → h ≤ 1000 → states ≡ recordAutomaton r .states → room < (h + 1) * states → Weighs r h room (record { checked = Refused 8 0; rig = r; states = 0 })
-weighs-8 r h room states c q lt = record {
+pub sizes-8 : (r : Rig) (h room states : ℕ) → h ≤ 1000 → states ≡ recordAutomaton r .states → room < (h + 1) * states → ChecksSizes r h room (record { checked = Refused 8 0; rig = r; states = 0 })
+sizes-8 r h room states c q lt = record {
   answer = λ a. rw (le-ltb 1000 h c, ← q, lt-ltb room ((h + 1) * states) lt);
   early = λ n p. refused-early 8 0 n p (omega arith);
   passed = λ e. absurd (passed-not 8 0 e);
 }
 
-pub weighs-on : (r : Rig) (h room states : ℕ) → h ≤ 1000 → states ≡ recordAutomaton r .states → (h + 1) * states ≤ room → Weighs r h room (record { checked = Passed; rig = r; states = states })
-weighs-on r h room states c q le = record {
+pub sizes-on : (r : Rig) (h room states : ℕ) → h ≤ 1000 → states ≡ recordAutomaton r .states → (h + 1) * states ≤ room → ChecksSizes r h room (record { checked = Passed; rig = r; states = states })
+sizes-on r h room states c q le = record {
   answer = λ a. rw (le-ltb 1000 h c, ← q, le-ltb room ((h + 1) * states) le);
   early = λ n p e. absurd (passed-not n p (sym e));
   passed = λ e. (refl, q, c, le);
@@ -60,28 +60,28 @@ weighs-on r h room states c q le = record {
 -- ---- the text
 
 -- every monitor starts in 0, so all of them together do
-zero-start : (f : ℕ → At) → ((m : ℕ) → f m .state ≡ 0) → (n : ℕ) → jointState (tab f n) ≡ 0
-unfolding tab jointState sizes
+zero-start : (f : ℕ → At) → ((m : ℕ) → f m .state ≡ 0) → (n : ℕ) → jointState (tabulate f n) ≡ 0
+unfolding tabulate jointState sizes
 zero-start f z zero = refl
-zero-start f z (suc n) = joint-number (tab f n) (f n ∷ []) ∙ rw (zero-start f z n, z n, zero-mul (f n .of .states * 1), zero-mul 1)
+zero-start f z (suc n) = joint-number (tabulate f n) (f n ∷ []) ∙ rw (zero-start f z n, z n, zero-mul (f n .of .states * 1), zero-mul 1)
 
 pub record-start : (r : Rig) → recordStart r ≡ 0
 unfolding recordStart standing
 record-start r = zero-start _ (λ m. refl) (r .monitors)
 
 -- a refused text: the refusal is that of reading, whatever the rest says
-pub opens-refused : (t : List ℕ) (h room n p : ℕ) (r : Rig) → answerOf (Unread n p) ≡ promised.reading t → Opens t h room (record { checked = Refused n p; rig = r; states = 0 })
+pub loads-refused : (t : List ℕ) (h room n p : ℕ) (r : Rig) → answerOf (Unread n p) ≡ promised.reading t → Loads t h room (record { checked = Refused n p; rig = r; states = 0 })
 unfolding sized
-opens-refused t h room n p r q = record {
+loads-refused t h room n p r q = record {
   answer = λ cells a l. rw (sym q);
   early = λ m k e. refused-early n p m k (omega (arith, fault-number t n p (reading-refuses t n p .0 (sym q)))) e;
   ready = λ e. absurd (passed-not n p e);
 }
 
 -- a readable text: rows 7 and 8 of its record
-pub opens-readable : (t : List ℕ) (h room : ℕ) (r : Rig) (o : Opened) → answerOf Read ≡ promised.reading t → r ≡ recordOf t → Weighs r h room o → Opens t h room o
+pub loads-readable : (t : List ℕ) (h room : ℕ) (r : Rig) (o : Loaded) → answerOf Read ≡ promised.reading t → r ≡ recordOf t → ChecksSizes r h room o → Loads t h room o
 unfolding sized Served
-opens-readable t h room r o q e w = record {
+loads-readable t h room r o q e w = record {
   answer = λ cells a l. rw (← q, l, ← states) (w .answer a);
   early = w .early;
   ready = λ c. let (x, y, z, u) = w .passed c in rw x (record {

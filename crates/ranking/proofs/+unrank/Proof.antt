@@ -1,0 +1,215 @@
+-- The step is chosen by the row of what is left after it, which the part lent begins with (`row-lent`). Its event is stored and the rest of the
+-- part lent on for what is left of the index, which is below the next state's count (`chosen-unrank`); the events left fall by one.
+use mathlib.Core.Path.{_≡_, sym, ap, _∙_, subst}
+use mathlib.Core.Bool.{true}
+use Prim.Native.Nat.{ℕ, _+_, _-_, _*_, _≤_, _<_}
+use native.Mathlib.Omega.{arith}
+use lib.ListN.{length, length-set, length-take, length-drop}
+use Rattle.automaton.specs.Pruning.{live}
+use Rattle.automaton.specs.Counting.{N, most}
+use Rattle.automaton.specs.Ranking.{unrank}
+use Rattle.automaton.proofs.Counting.{N-live}
+use Rattle.ranking.specs.Ranks.{HoldsRows, Chosen}
+use Rattle.ranking.proofs.Steps.{chosen-unrank, chosen-least}
+use Rattle.ranking.proofs.Rows.{row-within, row-lent, rows-fewer, length-rest, rest-within, rest-none, rest-back}
+use borrow.Author.Needs.{needs}
+use borrow.Fn.Kinds.{In}
+use borrow.Fn.PlainCycle.{Measures, is, falls, and}
+use Rattle.ranking.proofs.unrank.Reads as unrank
+use Rattle.ranking.proofs.unrank.Kinds as unrank-kinds
+use Rattle.ranking.proofs.+unrank.Lts-unrank as unrank-lts
+use Rattle.ranking.proofs.choose_event.Reads as choose-event-reads
+use Rattle.ranking.proofs.+unrank.{statement}
+use Rattle.ranking.proofs.+unrank.Tie.{close}
+
+abbrev μ-unrank : Measures 3 unrank-kinds.ps ℕ
+μ-unrank κs a = length (a .1 .1 .1 .1 .1 .0 .now)
+
+abbrev unrank-at : ℕ → In 3 unrank-kinds.ps
+unrank-at t = and 3 unrank-kinds.ps (is 3 unrank-kinds.ps μ-unrank t) unrank.Pre
+
+abbrev unrank-below : ℕ → In 3 unrank-kinds.ps
+unrank-below t = and 3 unrank-kinds.ps (falls 3 unrank-kinds.ps _<_ μ-unrank t) unrank.Pre
+
+unrank-returns : (t : ℕ) → unrank-lts.Need-returns (
+  choose-event-reads.Asked,
+  choose-event-reads.Learnt,
+  unrank-below t,
+  unrank.Post,
+) (unrank-at t) unrank.Post
+unrank-returns t c =
+    λ A events numbered rows below least.
+    let a = c .before .before .before .args in
+    rest-none A (a .x) (a .i) (a .out .now) (c .if1 .taken)
+
+unrank-sub-from : (t : ℕ) → unrank-lts.Need-sub-from (
+  choose-event-reads.Asked,
+  choose-event-reads.Learnt,
+  unrank-below t,
+  unrank.Post,
+) (unrank-at t) unrank.Post
+unrank-sub-from t c = search needs
+
+unrank-mul-from : (t : ℕ) → unrank-lts.Need-mul-from (
+  choose-event-reads.Asked,
+  choose-event-reads.Learnt,
+  unrank-below t,
+  unrank.Post,
+) (unrank-at t) unrank.Post
+unrank-mul-from t c =
+    let st = c .before .before .before in
+    omega (arith, row-within (length (st .args .out .now) - 1) (length (st .args .out .now)) (st .args .p) (length (st .args .cells .now)) (omega arith) (st .pre .1 .2))
+
+unrank-mul-choose-event : (t : ℕ) → unrank-lts.Need-mul-choose-event (
+  choose-event-reads.Asked,
+  choose-event-reads.Learnt,
+  unrank-below t,
+  unrank.Post,
+) (unrank-at t) unrank.Post
+unrank-mul-choose-event t c =
+    let st = c .before .before .before in
+    omega (arith, row-within (length (st .args .out .now) - 1) (length (st .args .out .now)) (st .args .p) (length (st .args .cells .now)) (omega arith) (st .pre .1 .2))
+
+unrank-sub-choose-event : (t : ℕ) → unrank-lts.Need-sub-choose-event (
+  choose-event-reads.Asked,
+  choose-event-reads.Learnt,
+  unrank-below t,
+  unrank.Post,
+) (unrank-at t) unrank.Post
+unrank-sub-choose-event t c =
+    let st = c .before .before .before in
+    omega (arith, row-within (length (st .args .out .now) - 1) (length (st .args .out .now)) (st .args .p) (length (st .args .cells .now)) (omega arith) (st .pre .1 .2))
+
+unrank-part-choose-event-start : (t : ℕ) → unrank-lts.Need-part-choose-event-start (
+  choose-event-reads.Asked,
+  choose-event-reads.Learnt,
+  unrank-below t,
+  unrank.Post,
+) (unrank-at t) unrank.Post
+unrank-part-choose-event-start t c =
+    let st = c .before .before .before in
+    omega (arith, row-within (length (st .args .out .now) - 1) (length (st .args .out .now)) (st .args .p) (length (st .args .cells .now)) (omega arith) (st .pre .1 .2))
+
+unrank-part-choose-event-end : (t : ℕ) → unrank-lts.Need-part-choose-event-end (
+  choose-event-reads.Asked,
+  choose-event-reads.Learnt,
+  unrank-below t,
+  unrank.Post,
+) (unrank-at t) unrank.Post
+unrank-part-choose-event-end t c = search needs
+
+unrank-choose-event-requires : (t : ℕ) → unrank-lts.Need-choose-event-requires (
+  choose-event-reads.Asked,
+  choose-event-reads.Learnt,
+  unrank-below t,
+  unrank.Post,
+) (unrank-at t) unrank.Post
+unrank-choose-event-requires t c κs =
+    let st = c .before .before .before .before in
+    let fits : (length (st .args .out .now) - 1) * st .args .p + st .args .p ≤ length (st .args .cells .now) = row-within (length (st .args .out .now) - 1) (length (st .args .out .now)) (st .args .p) (length (st .args .cells .now)) (omega arith) (st .pre .1 .2) in
+    (omega arith, omega arith, simp (length-take, length-drop) (omega arith))
+
+unrank-slice-write-out : (t : ℕ) → unrank-lts.Need-slice-write-out (
+  choose-event-reads.Asked,
+  choose-event-reads.Learnt,
+  unrank-below t,
+  unrank.Post,
+) (unrank-at t) unrank.Post
+unrank-slice-write-out t c = search needs
+
+unrank-sub-unrank : (t : ℕ) → unrank-lts.Need-sub-unrank (
+  choose-event-reads.Asked,
+  choose-event-reads.Learnt,
+  unrank-below t,
+  unrank.Post,
+) (unrank-at t) unrank.Post
+unrank-sub-unrank t c = simp length-set (omega arith)
+
+unrank-part-unrank-start : (t : ℕ) → unrank-lts.Need-part-unrank-start (
+  choose-event-reads.Asked,
+  choose-event-reads.Learnt,
+  unrank-below t,
+  unrank.Post,
+) (unrank-at t) unrank.Post
+unrank-part-unrank-start t c = simp length-set (omega arith)
+
+unrank-part-unrank-end : (t : ℕ) → unrank-lts.Need-part-unrank-end (
+  choose-event-reads.Asked,
+  choose-event-reads.Learnt,
+  unrank-below t,
+  unrank.Post,
+) (unrank-at t) unrank.Post
+unrank-part-unrank-end t c = search needs
+
+unrank-unrank-requires : (t : ℕ) → unrank-lts.Need-unrank-requires (
+  choose-event-reads.Asked,
+  choose-event-reads.Learnt,
+  unrank-below t,
+  unrank.Post,
+) (unrank-at t) unrank.Post
+unrank-unrank-requires t c κs =
+    let st = c .before .before .before .before .before .before in
+    let a = st .args in
+    let v = c .before .choose-event .result .event in (
+      simp (length-take, length-drop, length-set) (omega arith),
+      (omega arith, c .before .choose-event .ensures .0, rest-within (a .out .now) v (omega arith) (a .p) (length (a .cells .now)) (st .pre .1 .2)),
+    )
+
+unrank-same-length : (t : ℕ) → unrank-lts.Need-same-length (
+  choose-event-reads.Asked,
+  choose-event-reads.Learnt,
+  unrank-below t,
+  unrank.Post,
+) (unrank-at t) unrank.Post
+unrank-same-length t c = c .before .out .given .1 ∙ simp length-set
+
+unrank-returns-2 : (t : ℕ) → unrank-lts.Need-returns-2 (
+  choose-event-reads.Asked,
+  choose-event-reads.Learnt,
+  unrank-below t,
+  unrank.Post,
+) (unrank-at t) unrank.Post
+unrank-returns-2 t c =
+    λ A events numbered rows below least.
+    let st = c .before .before .before .before .before .before .before .before .before in
+    let a = st .args in
+    let cells = a .cells .now in
+    let r = length (a .out .now) in
+    let k = r - 1 in
+    let e : r ≡ k + 1 = omega arith in
+    let ch = c .before .before .before .before .choose-event in
+    let less : N A (k + 1) (a .x) < most = subst (λ (n : ℕ). N A n (a .x) < most) e least in
+    let is : Chosen A k (a .x) (a .i) (ch .result) =
+    ch .ensures .1 A events k numbered (row-lent A cells (a .p) k r (numbered .tabled .states) rows (omega arith)) (subst (λ (n : ℕ). a .i < N A n (a .x)) e below) less in
+    let l : live A (a .x) ≡ true = N-live A r (a .x) (omega arith) in
+    let fewer : N A k (ch .result .state) < most = omega (arith, chosen-least A k (a .x) (a .i) (ch .result) is l) in
+    let q = sym (length-rest (a .out .now) (ch .result .event) (omega arith)) in
+    let back = c .before .before .unrank .ensures A events numbered (subst (λ (n : ℕ). HoldsRows A n cells) q (rows-fewer A cells k r (omega arith) rows))
+    (subst (λ (n : ℕ). ch .result .left < N A n (ch .result .state)) q (is .is-below)) (subst (λ (n : ℕ). N A n (ch .result .state) < most) q fewer) in
+    rest-back (a .out .now) (ch .result .event) (unrank A k (ch .result .state) (ch .result .left)) _ (omega arith) (back ∙ ap (λ (n : ℕ). unrank A n (ch .result .state) (ch .result .left)) (sym q))
+    ∙ sym (chosen-unrank A k (a .x) (a .i) (ch .result) is) ∙ ap (λ (n : ℕ). unrank A n (a .x) (a .i)) (sym e)
+
+pub +unrank-spec : {M : Type 1} → statement M
++unrank-spec = close μ-unrank λ t. unrank-lts.spec (
+  choose-event-reads.Asked,
+  choose-event-reads.Learnt,
+  unrank-below t,
+  unrank.Post,
+)
+    (unrank-at t)
+    unrank.Post
+    (unrank-returns t)
+    (unrank-sub-from t)
+    (unrank-mul-from t)
+    (unrank-mul-choose-event t)
+    (unrank-sub-choose-event t)
+    (unrank-part-choose-event-start t)
+    (unrank-part-choose-event-end t)
+    (unrank-choose-event-requires t)
+    (unrank-slice-write-out t)
+    (unrank-sub-unrank t)
+    (unrank-part-unrank-start t)
+    (unrank-part-unrank-end t)
+    (unrank-unrank-requires t)
+    (unrank-same-length t)
+    (unrank-returns-2 t)
