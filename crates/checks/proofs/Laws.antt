@@ -1,9 +1,9 @@
 -- What the checks come to, case by case. Assumes nothing.
 use mathlib.Core.Path.{_≡_, refl, sym, ap, _∙_}
 use mathlib.Core.List.{List, [], _∷_}
-use Prim.Native.Nat.{ℕ, zero, suc, _+_, _*_, _≤_, _<_}
+use Prim.Native.Nat.{ℕ, zero, suc, _+_, _-_, _*_, _≤_, _<_}
 use native.Mathlib.Omega.{arith}
-use native.Mathlib.Nat.{mul-le-mul, zero-mul}
+use native.Mathlib.Nat.{mul-le-mul, zero-mul, sub-zero}
 use borrow.Author.Tests.{lt-ltb, le-ltb}
 use Rattle.lists.specs.Lists.{tabulate}
 use Rattle.automaton.specs.Joint.{At, sizes, jointState}
@@ -17,6 +17,8 @@ use Rattle.promises.specs.Rig.{rigAutomaton}
 use Rattle.promises.specs.Calls.{sized}
 use Rattle.promises.proofs.Meaning.{rig-states}
 use Rattle.promises.proofs.Reading.{reading-serves, reading-refuses, fault-number}
+use Rattle.pruning.specs.Digits.{span}
+use Rattle.pruning.proofs.Digits.{states-are, span-some}
 use Rattle.reader.specs.Reading.{answerOf, recordOf}
 use Rattle.reader.specs.declared.Verdict.the-variants.{Readable as Read, Refused as Unread}
 use Rattle.reader.specs.Record.{ReadFrom}
@@ -36,10 +38,17 @@ refused-early n p m q le e = let z : n ≡ m = cc in omega arith
 passed-not : (n p : ℕ) → Refused n p ≡ Passed → ⊥
 passed-not n p e = let z : _≡_ {A = ℕ} 0 1 = cc in omega arith
 
+states-some : (r : Rig) → WellFormed r → 0 < recordAutomaton r .states
+states-some r w =
+    let some : 1 ≤ span (r .counts) (r .monitors - 0) 0 = span-some (r .counts) (r .monitors) (w .some-state) 0 (omega arith) in
+    rw (states-are r) (rw (sub-zero (r .monitors)) at some)
+
 pub sizes-7 : (r : Rig) (h room : ℕ) → 1000 < h → ChecksSizes r h room (record { checked = Refused 7 0; rig = r; states = 0 })
 sizes-7 r h room c = record {
   answer = λ a. rw (lt-ltb 1000 h c);
   early = λ n p. refused-early 7 0 n p (omega arith);
+  refused-states = λ n p e. refl;
+  same = refl;
   passed = λ e. absurd (passed-not 7 0 e);
 }
 
@@ -47,14 +56,19 @@ pub sizes-8 : (r : Rig) (h room states : ℕ) → h ≤ 1000 → states ≡ reco
 sizes-8 r h room states c q lt = record {
   answer = λ a. rw (le-ltb 1000 h c, ← q, lt-ltb room ((h + 1) * states) lt);
   early = λ n p. refused-early 8 0 n p (omega arith);
+  refused-states = λ n p e. refl;
+  same = refl;
   passed = λ e. absurd (passed-not 8 0 e);
 }
 
-pub sizes-on : (r : Rig) (h room states : ℕ) → h ≤ 1000 → states ≡ recordAutomaton r .states → (h + 1) * states ≤ room → ChecksSizes r h room (record { checked = Passed; rig = r; states = states })
-sizes-on r h room states c q le = record {
+pub sizes-on : (r : Rig) (h room states : ℕ) → WellFormed r → h ≤ 1000 → states ≡ recordAutomaton r .states → (h + 1) * states ≤ room
+    → ChecksSizes r h room (record { checked = Passed; rig = r; states = states })
+sizes-on r h room states w c q le = record {
   answer = λ a. rw (le-ltb 1000 h c, ← q, le-ltb room ((h + 1) * states) le);
   early = λ n p e. absurd (passed-not n p (sym e));
-  passed = λ e. (refl, q, c, le);
+  refused-states = λ n p e. absurd (passed-not n p (sym e));
+  same = refl;
+  passed = λ e. record { well-formed = w; joint = q; some-states = rw q (states-some r w); horizon = c; enough = le };
 }
 
 -- ---- the text
@@ -70,12 +84,15 @@ unfolding recordStart standing
 record-start r = zero-start _ (λ m. refl) (r .monitors)
 
 -- a refused text: the refusal is that of reading, whatever the rest says
-pub loads-refused : (t : List ℕ) (h room n p : ℕ) (r : Rig) → answerOf (Unread n p) ≡ promised.reading t → Loads t h room (record { checked = Refused n p; rig = r; states = 0 })
+pub loads-refused : (t : List ℕ) (h room n p : ℕ) (r : Rig) → answerOf (Unread n p) ≡ promised.reading t → r ≡ recordOf t
+    → Loads t h room (record { checked = Refused n p; rig = r; states = 0 })
 unfolding sized
-loads-refused t h room n p r q = record {
+loads-refused t h room n p r q e = record {
   answer = λ cells a l. rw (sym q);
-  early = λ m k e. refused-early n p m k (omega (arith, fault-number t n p (reading-refuses t n p .0 (sym q)))) e;
-  ready = λ e. absurd (passed-not n p e);
+  early = λ m k. refused-early n p m k (omega (arith, fault-number t n p (reading-refuses t n p .0 (sym q))));
+  refused-states = λ m k f. refl;
+  is-record = e;
+  ready = λ f. absurd (passed-not n p f);
 }
 
 -- a readable text: rows 7 and 8 of its record
@@ -84,15 +101,14 @@ unfolding sized Served
 loads-readable t h room r o q e w = record {
   answer = λ cells a l. rw (← q, l, ← states) (w .answer a);
   early = w .early;
-  ready = λ c. let (x, y, z, u) = w .passed c in rw x (record {
+  refused-states = w .refused-states;
+  is-record = w .same ∙ e;
+  ready = λ c. rw (w .same) (record {
     readable = readable;
     automaton = automaton;
-    well-formed = rw e (from .well-formed);
-    joint = y;
     events = rw e (from .events-are);
     starts = sym (from .start-is) ∙ record-start (recordOf t);
-    horizon = z;
-    enough = u;
+    fits = w .passed c;
   });
 }
   where

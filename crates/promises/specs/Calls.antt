@@ -3,6 +3,7 @@
 --   firstBad bad l     == the position of the first number of l that `bad` holds of, given the position too; the length where there is none
 --   row A r, rows A n  == the cells of one r, and of every r below n
 --   filled A h cells   == the cells filled for the horizon h, the others as they were
+--   sizeRows, countRows, indicesRow, sequenceRow == the rows 7 and 8; 9 and 10; 11; 14 of the table of refusals
 --   count, scenarios, index, shuffle           == the answers
 --   countCells, scenariosCells, indexCells     == the cells afterwards
 --   written, shuffled                          == the output afterwards
@@ -65,25 +66,36 @@ outputAfter (refused n p) fresh out = out
 
 -- ---- the calls on a rig text
 
+-- 7: 'h over 1,000'. 8: 'cells below (h+1) × P', for P joint states and so many cells
+abbrev pub sizeRows : ℕ → ℕ → ℕ → Answer → Answer
+sizeRows P h room a = unless 7 0 (ltb 1000 h) (unless 8 0 (ltb room ((h + 1) * P)) a)
+
+-- 9: 'N is 0'. 10: 'N is 18,446,744,073,709,551,615 or more'
+abbrev pub countRows : ℕ → Answer → Answer
+countRows n a = unless 9 0 (eqb n 0) (unless 10 0 (leb most n) a)
+
+-- of a number at any position: it is n or more
+abbrev pub notBelow : ℕ → ℕ → ℕ → Bool
+notBelow n p i = leb n i
+
+-- 11: 'index not below N'
+abbrev pub indicesRow : ℕ → List ℕ → Answer
+indicesRow n is = unlessAt 11 (notBelow n) is (served [])
+
+-- 14: 'sequence no scenario'; else its index is told
+abbrev pub sequenceRow : Automaton → ℕ → List ℕ → Answer
+sequenceRow A x s = unless 14 (firstViolation A x s) (ltb (firstViolation A x s) (length s)) (served (rank A x s ∷ []))
+
 module _ (t : List ℕ) where
-  -- 7: 'h over 1,000'. 8: 'cells below (h+1) × P'
   unfoldable pub sized : ℕ → List ℕ → Answer → Answer
-  sized h cells a =
-      after (reading t)
-      (unless 7 0 (ltb 1000 h)
-      (unless 8 0 (ltb (length cells) ((h + 1) * jointStates t))
-      a))
+  sized h cells a = after (reading t) (sizeRows (jointStates t) h (length cells) a)
 
   -- 'N is N(h, start)'
   unfoldable pub total : ℕ → ℕ
   total h = N (rigAutomaton t) h (start t)
 
-  -- 9: 'N is 0'. 10: 'N is 18,446,744,073,709,551,615 or more'
   unfoldable pub counted : ℕ → Answer → Answer
-  counted h a =
-      unless 9 0 (eqb (total h) 0)
-      (unless 10 0 (leb most (total h))
-      a)
+  counted h a = countRows (total h) a
 
   -- 'Count: text, h, cells. Gives N and the passes.'
   unfoldable pub count : ℕ → List ℕ → Answer
@@ -92,14 +104,13 @@ module _ (t : List ℕ) where
   unfoldable pub countCells : ℕ → List ℕ → List ℕ
   countCells h cells = cellsAfter (count h cells) (rigAutomaton t) h cells
 
-  -- 'Scenarios: text, h, a list of indices, cells, output bytes.' 12: 'output shorter than list length × h'. 11: 'index not below N'
+  -- 'Scenarios: text, h, a list of indices, cells, output bytes.' 12: 'output shorter than list length × h'
   unfoldable pub scenarios : ℕ → List ℕ → List ℕ → List ℕ → Answer
   scenarios h is cells out =
       sized h cells
       (unless 12 0 (ltb (length out) (length is * h))
       (counted h
-      (unlessAt 11 (λ p i. leb (total h) i) is
-      (served []))))
+      (indicesRow (total h) is)))
 
   unfoldable pub scenariosCells : ℕ → List ℕ → List ℕ → List ℕ → List ℕ
   scenariosCells h is cells out = cellsAfter (scenarios h is cells out) (rigAutomaton t) h cells
@@ -108,14 +119,13 @@ module _ (t : List ℕ) where
   unfoldable pub written : ℕ → List ℕ → List ℕ → List ℕ → List ℕ
   written h is cells out = outputAfter (scenarios h is cells out) (concatMap (unrank (rigAutomaton t) h (start t)) is) out
 
-  -- 'Index: text, a sequence of event bytes (its length is h), cells. Gives its index.' 13: 'event byte E or more'. 14: 'sequence no scenario'
+  -- 'Index: text, a sequence of event bytes (its length is h), cells. Gives its index.' 13: 'event byte E or more'
   unfoldable pub index : List ℕ → List ℕ → Answer
   index s cells =
       sized (length s) cells
-      (unlessAt 13 (λ p e. leb (eventsOf (decoded t)) e) s
+      (unlessAt 13 (notBelow (eventsOf (decoded t))) s
       (counted (length s)
-      (unless 14 (firstViolation (rigAutomaton t) (start t) s) (ltb (firstViolation (rigAutomaton t) (start t) s) (length s))
-      (served (rank (rigAutomaton t) (start t) s ∷ [])))))
+      (sequenceRow (rigAutomaton t) (start t) s)))
 
   unfoldable pub indexCells : List ℕ → List ℕ → List ℕ
   indexCells s cells = cellsAfter (index s cells) (rigAutomaton t) (length s) cells

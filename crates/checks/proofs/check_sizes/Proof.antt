@@ -34,7 +34,7 @@ returns-2 c =
 returns-3 : tie.Need-returns-3
 returns-3 c =
     let st = c .before .before .before .args in
-    sizes-on (st .rig) (st .h) (st .room) (c .before .joint-states .result) (c .before .before .if1 .left) (c .before .joint-states .ensures) (c .if2 .left)
+    sizes-on (st .rig) (st .h) (st .room) (c .before .joint-states .result) (c .before .before .before .pre) (c .before .before .if1 .left) (c .before .joint-states .ensures) (c .if2 .left)
 
 pub check-sizes-spec : {M : Type 1} → statement M
 check-sizes-spec =

@@ -31,7 +31,7 @@ returns c =
     let st = c .before .before .before .before .before .before .args in
     let r = c .before .before .before .before .read in
     let v = c .before .verdict .given in
-    loads-refused (st .text .now) (st .h) (st .room) (v .0 .0) (v .0 .1 .0) (r .result .rig) (sym (ap answerOf (v .1)) ∙ r .ensures .0)
+    loads-refused (st .text .now) (st .h) (st .room) (v .0 .0) (v .0 .1 .0) (r .result .rig) (sym (ap answerOf (v .1)) ∙ r .ensures .0) (r .ensures .1)
 
 returns-2 : tie.Need-returns-2
 returns-2 c =
