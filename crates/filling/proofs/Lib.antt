@@ -1,4 +1,4 @@
 -- The laws of what is lent and told.
 pub mod Laws
-pub mod CountCheck
+pub mod CountRows
 pub mod Rows

@@ -17,15 +17,15 @@ use Rattle.automaton.specs.Counting.{N, most, cell}
 use Rattle.rig.specs.Record.{recordAutomaton}
 use Rattle.promises.specs.Answer.{Answer, served, refused}
 use Rattle.promises.specs.Rig.{rigAutomaton}
-use Rattle.promises.specs.Calls.{filled, fills, cellsAfter, outputAfter, sized, total, counted, count, countCells}
+use Rattle.promises.specs.Calls.{countRows, filled, fills, cellsAfter, outputAfter, sized, total, counted, count, countCells}
 use Rattle.promises.proofs.Buffers.{filled-at}
-use Rattle.promises.proofs.Meaning.{rig-start}
 use Rattle.checks.specs.Loading.{checkedOr, Ready, Loads}
 use Rattle.checks.specs.declared.Checked.{Checked}
 use Rattle.checks.specs.declared.Checked.the-variants.{Passed, Refused}
 use Rattle.checks.specs.declared.Loaded.{Loaded}
-use Rattle.filling.specs.CountCheck.{countRows, Tells}
-use Rattle.filling.proofs.CountCheck.{told-passed}
+use Rattle.filling.specs.declared.Filled.{Filled}
+use Rattle.ranking.specs.Ranks.{Numbered}
+use Rattle.filling.specs.Filling.{TellsRows, Fills}
 
 -- ---- the cells
 
@@ -37,6 +37,19 @@ start-cell A h cells after p q some e =
     ∙ ap (λ (i : ℕ). getD (filled A h cells) i 0) (ap (λ (n : ℕ). h * n) q ∙ sym (add-zero (h * A .states)))
     ∙ filled-at A h cells h 0 (omega arith) (omega arith)
 
+-- the cell tells rows 9 and 10, and else it is N
+pub fills-told : (A : Automaton) (p h s events : ℕ) (k : Checked) (cells left table : List ℕ) → p ≡ A .states → 0 < p → left ≡ filled A h cells → TellsRows (getD left (h * p) 0) k
+    → s ≡ passes A → Numbered A p events table → Fills A p 0 h (record { checked = k; count = getD left (h * p) 0; passes = s }) cells left table
+fills-told A p h s events k cells left table q some e t r n = record {
+  answer = λ a. t .answer (N A h 0) a (start-cell A h cells left p q some e);
+  counted = start-cell A h cells left p q some e;
+  few = t .few;
+  passed = r;
+  cells-filled = e;
+  events = events;
+  tabled = n;
+}
+
 -- no refusal up to 8 fills the cells
 pub early-fills : (n p : ℕ) → n ≤ 8 → fills (refused n p) ≡ false
 unfolding fills
@@ -44,12 +57,29 @@ early-fills n p le = rw (ne-eqb n 9 (λ q. omega arith), ne-eqb n 10 (λ q. omeg
 
 -- 9 and 10 do, and so does what fills them by itself
 pub countRows-fills : (n : ℕ) (a : Answer) → fills a ≡ true → fills (countRows n a) ≡ true
-unfolding countRows fills
+unfolding fills
 countRows-fills n a f = case (eqb n 0) (λ q. rw q) (λ q. rw q (case (leb most n) (λ r. rw r) (λ r. rw r f)))
 
--- N and the passes, told
-pub told-count : (c n s s′ : ℕ) (k : Checked) → Tells c k → c ≡ min n most → k ≡ Passed → s ≡ s′ → served (c ∷ s ∷ []) ≡ countRows n (served (n ∷ s′ ∷ []))
-told-count c n s s′ k t q e r = rw (t .exact e n q .0, r) (told-passed c n k (served (n ∷ s′ ∷ [])) t q e)
+-- ---- what filling tells
+
+module _ (A : Automaton) (p x h : ℕ) (f : Filled) (cells left table : List ℕ) (fs : Fills A p x h f cells left table) where
+  pub told-refused : (m q : ℕ) → f .checked ≡ Refused m q → (a : Answer) → refused m q ≡ countRows (N A h x) a
+  told-refused m q e a = sym (fs .answer a ∙ ap (λ (k : Checked). checkedOr k a) e)
+
+  module _ (e : f .checked ≡ Passed) where
+    pub told-passed : (a : Answer) → a ≡ countRows (N A h x) a
+    told-passed a = sym (fs .answer a ∙ ap (λ (k : Checked). checkedOr k a) e)
+
+    -- the count told is N
+    pub told-exact : f .count ≡ N A h x
+    told-exact = omega (arith, fs .few e, fs .counted)
+
+    pub told-few : N A h x < most
+    told-few = rw (← told-exact) (fs .few e)
+
+    -- N and the passes, told
+    pub told-count : served (f .count ∷ f .passes ∷ []) ≡ countRows (N A h x) (served (N A h x ∷ passes A ∷ []))
+    told-count = rw (told-exact, fs .passed) (told-passed (served (N A h x ∷ passes A ∷ [])))
 
 pub cell-room : (h p n : ℕ) → 0 < p → (h + 1) * p ≤ n → h * p < n
 cell-room h p n some le = omega (arith, suc-mul h p, ap (λ (i : ℕ). i * p) (add-one h))
@@ -84,12 +114,9 @@ module _ (t : List ℕ) (h room : ℕ) (o : Loaded) (op : Loads t h room o) (cel
     ready : Ready t h room (o .rig) (o .states)
     ready = op .ready e
 
-    pub some-states : 0 < o .states
-    some-states = omega (arith, rig-start t (ready .readable), ready .starts, ready .joint, ap (λ (A : Automaton). A .states) (ready .automaton))
-
     -- rows 9 and 10 on the record's automaton are those on the text's
     pub counted-is : (a : Answer) → countRows (N (recordAutomaton (o .rig)) h 0) a ≡ counted t h a
-    unfolding counted total countRows
+    unfolding counted total
     counted-is a = rw (ready .automaton, ready .starts)
 
     pub total-is : N (recordAutomaton (o .rig)) h 0 ≡ total t h
@@ -106,7 +133,7 @@ module _ (t : List ℕ) (h room : ℕ) (o : Loaded) (op : Loads t h room o) (cel
     count-is = rw (passed-answer, ← ready .automaton, ← total-is) (counted-is _)
 
     pub count-cells-are : (after : List ℕ) → after ≡ filled (recordAutomaton (o .rig)) h cells → after ≡ countCells t h cells
-    unfolding countCells count counted countRows fills
+    unfolding countCells count counted fills
     count-cells-are after q = passed-cells (counted t h told) after (countRows-fills (total t h) told refl) q
       where
         told : Answer

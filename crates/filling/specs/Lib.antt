@@ -1,2 +1,2 @@
--- Rows 9 and 10, as one cell decides them.
-pub mod CountCheck
+-- What filling tells and leaves.
+pub mod Filling

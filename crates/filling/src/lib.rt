@@ -1,23 +1,42 @@
-// A rig pruned, its table filled, and its cells counted: what the calls on a text share once the checks are passed.
+// A rig pruned, its table filled, its cells counted, and rows 9 and 10: what the calls on a text share once the checks before are passed.
 use checks::Checked;
 use rig::Rig;
 ghost use mathlib.Core.Path.{_≡_};
-ghost use mathlib.Core.List.{_++_};
-ghost use Prim.Native.Nat.{_+_, _*_, _≤_};
-ghost use lib.ListN.{length, drop};
+ghost use lib.ListN.{length};
 ghost use Rattle.automaton.specs.Pruning.{passes};
-ghost use Rattle.automaton.specs.Table.{tableOf};
-ghost use Rattle.rig.specs.Record.{recordAutomaton, WellFormed};
+ghost use Rattle.rig.specs.Record.{recordAutomaton};
 ghost use Rattle.promises.specs.Calls.{filled};
-ghost use Rattle.filling.specs.CountCheck.{Tells};
+ghost use Rattle.checks.specs.Loading.{Fits};
+ghost use Rattle.ranking.specs.Ranks.{Numbered};
+ghost use Rattle.filling.specs.Filling.{TellsRows, Fills};
 
-// Prunes the rig, and fills the table and the cells of rows 0 to h. Gives the number of passes.
-pub fn fill_cells(rig: Rig, states: usize, h: usize, cells: &mut [u64], table: &mut [u16]) -> usize
-    requires { ⌜ WellFormed rig ⌝ }
-    requires { ⌜ (states ≡ recordAutomaton rig .states) × (h ≤ 1000) × ((h + 1) * states ≤ length (now cells)) × (length (now table) ≡ 16384) ⌝ }
+// Whether row 9 or 10 applied, with the cell of the start, which is N where none did, and the number of passes.
+pub struct Filled {
+    pub checked: Checked,
+    pub count: u64,
+    pub passes: u64,
+}
+
+// Prunes the rig, fills the table and the cells of rows 0 to h, and tells rows 9 and 10 by the cell of the start.
+pub fn fill_cells(rig: Rig, states: usize, h: usize, cells: &mut [u64], table: &mut [u16]) -> Filled
+    requires { ⌜ Fits rig states h (length (now cells)) × (length (now table) ≡ 16384) ⌝ }
+    ensures { λ f. ⌜ Fills (recordAutomaton rig) states 0 h f (now (cells .entry)) (now (cells .exit)) (now (table .exit)) ⌝ }
+{
+    let passes = prune_and_fill(rig, states, h, cells, table);
+    let count = cells[h * states];
+    Filled {
+        checked: check_count(count),
+        count,
+        passes: passes as u64,
+    }
+}
+
+// Prunes the rig, and fills the table and the cells. Gives the number of passes.
+fn prune_and_fill(rig: Rig, states: usize, h: usize, cells: &mut [u64], table: &mut [u16]) -> usize
+    requires { ⌜ Fits rig states h (length (now cells)) × (length (now table) ≡ 16384) ⌝ }
     ensures { λ r. ⌜ r ≡ passes (recordAutomaton rig) ⌝ }
     ensures { λ _. ⌜ now (cells .exit) ≡ filled (recordAutomaton rig) h (now (cells .entry)) ⌝ }
-    ensures { λ _. ⌜ now (table .exit) ≡ tableOf (recordAutomaton rig) (recordAutomaton rig .states) ++ drop (recordAutomaton rig .states * 16) (now (table .entry)) ⌝ }
+    ensures { λ _. ⌜ Numbered (recordAutomaton rig) states (rig .events) (now (table .exit)) ⌝ }
 {
     let mut live = [0u8; 1024];
     let passes = pruning::prune(rig, &mut live);
@@ -27,8 +46,8 @@ pub fn fill_cells(rig: Rig, states: usize, h: usize, cells: &mut [u64], table: &
 }
 
 // Rows 9 and 10, by the cell of the start.
-pub fn check_count(n: u64) -> Checked
-    ensures { λ c. ⌜ Tells n c ⌝ }
+fn check_count(n: u64) -> Checked
+    ensures { λ c. ⌜ TellsRows n c ⌝ }
 {
     if n == 0 {
         return Checked::Refused(9, 0);

@@ -1,47 +1,28 @@
--- `fill_cells` meets its contract: pruning gives the live flags, the flags give the pruned table, and both give the cells. Every array is long
--- enough because a record has at most 1,024 joint states. Assumes nothing.
-use Prim.Native.Nat.{ℕ}
-use native.Mathlib.Omega.{arith}
-use lib.ListN.{length-replicate}
+-- `fill_cells` meets its contract: the cell of the start is N, cut off, so it tells rows 9 and 10 and else N itself. Assumes nothing.
 use borrow.Author.Needs.{needs}
 use Rattle.rig.specs.Record.{recordAutomaton}
-use Rattle.pruning.proofs.Digits.{states-few}
-use Rattle.filling.proofs.Laws.{flags-rest, flagged, numbered}
+use Rattle.filling.proofs.Rows.{fills-told}
 use Rattle.filling.proofs.fill_cells.Statement.{statement}
 use Rattle.filling.proofs.fill_cells.Tie as tie
 use Rattle.filling.proofs.fill_cells.Reads as reads
 use Rattle.filling.proofs.fill_cells.Lts as lts
-use Rattle.counting.proofs.fill.Reads as fill-reads
-use Rattle.pruning.proofs.fill_table.Reads as fill-table-reads
-use Rattle.pruning.proofs.prune.Reads as prune-reads
+use Rattle.filling.proofs.check_count.Reads as check-count-reads
+use Rattle.filling.proofs.prune_and_fill.Reads as prune-and-fill-reads
 
-slice-aggregate-prune : tie.Need-slice-aggregate-prune
-slice-aggregate-prune c = search needs
+prune-and-fill-requires : tie.Need-prune-and-fill-requires
+prune-and-fill-requires c κs = search needs
 
-prune-requires : tie.Need-prune-requires
-prune-requires c κs =
-    let st = c .before .before .before in
-    (st .pre .0, omega (arith, states-few (st .args .rig) (st .pre .0), length-replicate {A = ℕ} 1024 0))
+mul-count : tie.Need-mul-count
+mul-count c = search needs
 
-slice-aggregate-fill-table : tie.Need-slice-aggregate-fill-table
-slice-aggregate-fill-table c = search needs
+mul-count-2 : tie.Need-mul-count-2
+mul-count-2 c = search needs
 
-fill-table-requires : tie.Need-fill-table-requires
-fill-table-requires c κs =
-    let st = c .before .before .before .before .before .before .before in
-    let p = c .before .before .before .prune in
-    (st .pre .0, (flags-rest (recordAutomaton (st .args .rig)) (p .last .1 .0) _ (p .ensures .1), omega (arith, states-few (st .args .rig) (st .pre .0), st .pre .1 .3)))
+slice-read-count : tie.Need-slice-read-count
+slice-read-count c = search needs
 
-slice-aggregate-fill : tie.Need-slice-aggregate-fill
-slice-aggregate-fill c = search needs
-
-fill-requires : tie.Need-fill-requires
-fill-requires c κs =
-    let st = c .before .before .before .before .before .before .before .before .before .before .before .before .before in
-    let p = c .before .before .before .before .before .before .before .before .before .prune in
-    let t = c .before .before .before .before .before .fill-table in
-    let few = states-few (st .args .rig) (st .pre .0) in
-    (omega arith, st .pre .0 .few-events, st .pre .1 .2, omega (arith, t .kept .1 .1 .0), omega (arith, p .kept .1 .0, length-replicate {A = ℕ} 1024 0))
+check-count-requires : tie.Need-check-count-requires
+check-count-requires c κs = search needs
 
 same-length : tie.Need-same-length
 same-length c = search needs
@@ -51,23 +32,20 @@ same-length-2 c = search needs
 
 returns : tie.Need-returns
 returns c =
-    let st = c .before .before .before .before .before .before .before .before .before .before .before .before .before .before .before .before in
-    let p = c .before .before .before .before .before .before .before .before .before .before .before .before .prune in
-    let t = c .before .before .before .before .before .before .before .before .fill-table in
-    let A = recordAutomaton (st .args .rig) in
-    let n = numbered (st .args .rig) (st .args .states) (t .last .1 .1 .0) _ (st .pre .0) (st .pre .1 .0) (t .ensures) in
-    (p .ensures .0, (c .before .before .fill .ensures A (n .tabled) (flagged A (p .last .1 .0) _ (p .ensures .1)), t .ensures))
+    let st = c .before .before .before .before .before .before .before .before .before .before .before in
+    let f = c .before .before .before .before .before .before .prune-and-fill in
+    fills-told (recordAutomaton (st .args .rig)) (st .args .states) (st .args .h) (f .result) (st .args .rig .events) (c .check-count .result) (st .args .cells .now) (f .last .1 .1 .1 .0) (f .last .1 .1 .1 .1 .0)
+    (st .pre .0 .joint) (st .pre .0 .some-states) (f .ensures .1 .0) (c .check-count .ensures) (f .ensures .0) (f .ensures .1 .1)
 
 pub fill-cells-spec : {M : Type 1} → statement M
 fill-cells-spec =
     tie.close
     (tie.spec
-    slice-aggregate-prune
-    prune-requires
-    slice-aggregate-fill-table
-    fill-table-requires
-    slice-aggregate-fill
-    fill-requires
+    prune-and-fill-requires
+    mul-count
+    mul-count-2
+    slice-read-count
+    check-count-requires
     same-length
     same-length-2
     returns)
