@@ -39,14 +39,13 @@ start-cell A h cells after p q some e =
 
 -- the cell tells rows 9 and 10, and else it is N
 pub fills-told : (A : Automaton) (p h s events : ℕ) (k : Checked) (cells left table : List ℕ) → p ≡ A .states → 0 < p → left ≡ filled A h cells → TellsRows (getD left (h * p) 0) k
-    → s ≡ passes A → Numbered A p events table → Fills A p 0 h (record { checked = k; count = getD left (h * p) 0; passes = s }) cells left table
+    → s ≡ passes A → Numbered A p events table → Fills A p events 0 h (record { checked = k; count = getD left (h * p) 0; passes = s }) cells left table
 fills-told A p h s events k cells left table q some e t r n = record {
   answer = λ a. t .answer (N A h 0) a (start-cell A h cells left p q some e);
   counted = start-cell A h cells left p q some e;
   few = t .few;
   passed = r;
   cells-filled = e;
-  events = events;
   tabled = n;
 }
 
@@ -62,7 +61,7 @@ countRows-fills n a f = case (eqb n 0) (λ q. rw q) (λ q. rw q (case (leb most 
 
 -- ---- what filling tells
 
-module _ (A : Automaton) (p x h : ℕ) (f : Filled) (cells left table : List ℕ) (fs : Fills A p x h f cells left table) where
+module _ (A : Automaton) (p events x h : ℕ) (f : Filled) (cells left table : List ℕ) (fs : Fills A p events x h f cells left table) where
   pub told-refused : (m q : ℕ) → f .checked ≡ Refused m q → (a : Answer) → refused m q ≡ countRows (N A h x) a
   told-refused m q e a = sym (fs .answer a ∙ ap (λ (k : Checked). checkedOr k a) e)
 

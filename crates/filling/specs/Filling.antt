@@ -1,6 +1,6 @@
 -- What filling the cells tells and leaves.
 --   TellsRows c k                   == k tells rows 9 and 10 of every count that the cell c holds
---   Fills A p x h f cells left t    == f tells N from x with the passes, or row 9 or 10; the cells are filled, and t is the table of A with p states
+--   Fills A p n x h f cells left t  == f tells N from x with the passes, or row 9 or 10; the cells are filled, and t is the table of A with p states and n events
 -- Beside a refusal the count told is the cell of x, 0 or 2^64 − 1. Assumes nothing.
 use mathlib.Core.Path.{_≡_}
 use mathlib.Core.List.{List}
@@ -20,11 +20,10 @@ pub record TellsRows (c : ℕ) (k : Checked) : Type 0 where
   pub answer : (n : ℕ) (a : Answer) → c ≡ min n most → countRows n a ≡ checkedOr k a
   pub few : k ≡ Passed → c < most
 
-pub record Fills (A : Automaton) (p x h : ℕ) (f : Filled) (cells left table : List ℕ) : Type 0 where
+pub record Fills (A : Automaton) (p events x h : ℕ) (f : Filled) (cells left table : List ℕ) : Type 0 where
   pub answer : (a : Answer) → countRows (N A h x) a ≡ checkedOr (f .checked) a
   pub counted : f .count ≡ min (N A h x) most
   pub few : f .checked ≡ Passed → f .count < most
   pub passed : f .passes ≡ passes A
   pub cells-filled : left ≡ filled A h cells
-  pub events : ℕ
   pub tabled : Numbered A p events table

@@ -1,12 +1,18 @@
 -- The answers of the calls in the paper's numbers: 'When an answer is an enum, a definition states this paper's number and values for each of its cases'.
 --   countAnswer, listAnswer, indexAnswer == what Count, Scenarios and Index answer
---   notEvent E p e     == the test of refusal 13 on a position and an event byte
+--   countFrom, listFrom, indexFrom       == the same from row 9 on
+--   outputFrom                           == what Scenarios leaves in its output
 -- Assumes nothing.
-use mathlib.Core.Bool.{Bool}
-use mathlib.Core.List.{[], _∷_}
+use mathlib.Core.List.{List, [], _∷_}
 use Prim.Native.Nat.{ℕ}
-use lib.Dec.{leb}
+use lib.ListN.{length}
+use Rattle.lists.specs.Lists.{concatMap}
+use Rattle.automaton.specs.Automaton.{Automaton}
+use Rattle.automaton.specs.Pruning.{passes}
+use Rattle.automaton.specs.Counting.{N}
+use Rattle.automaton.specs.Ranking.{unrank}
 use Rattle.promises.specs.Answer.{Answer, served, refused}
+use Rattle.promises.specs.Calls.{countRows, indicesRow, sequenceRow, outputAfter}
 use Rattle.generator.specs.declared.Counted as counted
 use Rattle.generator.specs.declared.Listed as listed
 use Rattle.generator.specs.declared.Indexed as indexed
@@ -28,6 +34,16 @@ abbrev pub indexAnswer : indexed.Indexed → Answer
 indexAnswer (IndexServed i) = served (i ∷ [])
 indexAnswer (IndexRefused number place) = refused number place
 
--- 13: 'event byte E or more'
-abbrev pub notEvent : ℕ → ℕ → ℕ → Bool
-notEvent E p e = leb E e
+-- ---- once the checks before row 9 are passed, for the automaton A and its start x
+
+abbrev pub countFrom : Automaton → ℕ → ℕ → Answer
+countFrom A h x = countRows (N A h x) (served (N A h x ∷ passes A ∷ []))
+
+abbrev pub listFrom : Automaton → ℕ → ℕ → List ℕ → Answer
+listFrom A h x is = countRows (N A h x) (indicesRow (N A h x) is)
+
+abbrev pub outputFrom : Automaton → ℕ → ℕ → Answer → List ℕ → List ℕ → List ℕ
+outputFrom A h x a is out = outputAfter a (concatMap (unrank A h x) is) out
+
+abbrev pub indexFrom : Automaton → ℕ → List ℕ → Answer
+indexFrom A x s = countRows (N A (length s) x) (sequenceRow A x s)

@@ -4,22 +4,15 @@ use ranking::Ranked;
 use rig::Rig;
 use shuffle::Shuffled;
 ghost use mathlib.Core.Path.{_≡_};
-ghost use mathlib.Core.List.{List, [], _∷_};
-ghost use Prim.Native.Nat.{ℕ, _+_, _*_, _<_, _≤_, min};
+ghost use Prim.Native.Nat.{_*_, _≤_};
 ghost use lib.ListN.{length};
-ghost use lib.Dec.{ltb, leb};
-ghost use Rattle.lists.specs.Lists.{concatMap};
-ghost use Rattle.automaton.specs.Pruning.{passes};
-ghost use Rattle.automaton.specs.Counting.{N};
-ghost use Rattle.automaton.specs.Ranking.{unrank, rank, firstViolation};
-ghost use Rattle.rig.specs.Record.{recordAutomaton, WellFormed};
-ghost use Rattle.promises.specs.Answer.{served, unless};
-ghost use Rattle.promises.specs.Calls.{filled, firstBad, unlessAt, outputAfter, ScratchKept};
+ghost use Rattle.rig.specs.Record.{recordAutomaton};
+ghost use Rattle.promises.specs.Calls.{filled, firstBad, notBelow, ScratchKept};
 ghost use Rattle.promises.specs.Calls as promised;
-ghost use Rattle.ranking.specs.Ranks.{EventsBelow, notBelow};
+ghost use Rattle.checks.specs.Loading.{Fits};
+ghost use Rattle.ranking.specs.Ranks.{EventsBelow};
 ghost use Rattle.shuffle.specs.Outcome.{answerOf as shuffleAnswer};
-ghost use Rattle.filling.specs.CountCheck.{countRows};
-ghost use Rattle.generator.specs.Outcomes.{countAnswer, listAnswer, indexAnswer, notEvent};
+ghost use Rattle.generator.specs.Outcomes.{countAnswer, listAnswer, indexAnswer, countFrom, listFrom, outputFrom, indexFrom};
 
 // What Count answers: N and the passes, or a refusal's number and place.
 pub enum Counted {
@@ -41,7 +34,7 @@ pub enum Indexed {
 
 // The position of the first byte that is no event; the sequence's length where all are.
 fn first_not_event(sequence: &[u8], events: usize) -> usize
-    ensures { λ k. ⌜ k ≡ firstBad (notEvent events) (now (sequence .entry)) ⌝ }
+    ensures { λ k. ⌜ k ≡ firstBad (notBelow events) (now (sequence .entry)) ⌝ }
 {
     for k in 0..sequence.len() {
         if events <= ranking::wide(sequence[k]) {
@@ -53,17 +46,16 @@ fn first_not_event(sequence: &[u8], events: usize) -> usize
 
 // Count, once the checks are passed.
 fn count_cells(rig: Rig, states: usize, h: usize, cells: &mut [u64]) -> Counted
-    requires { ⌜ WellFormed rig ⌝ }
-    requires { ⌜ (states ≡ recordAutomaton rig .states) × (0 < states) × (h ≤ 1000) × ((h + 1) * states ≤ length (now cells)) ⌝ }
-    ensures { λ r. ⌜ countAnswer r ≡ countRows (N (recordAutomaton rig) h 0) (served (N (recordAutomaton rig) h 0 ∷ passes (recordAutomaton rig) ∷ [])) ⌝ }
+    requires { ⌜ Fits rig states h (length (now cells)) ⌝ }
+    ensures { λ r. ⌜ countAnswer r ≡ countFrom (recordAutomaton rig) h 0 ⌝ }
     ensures { λ _. ⌜ now (cells .exit) ≡ filled (recordAutomaton rig) h (now (cells .entry)) ⌝ }
 {
     let mut table = [0u16; 16384];
-    let passes = filling::fill_cells(rig, states, h, cells, &mut table);
-    let n = cells[h * states];
-    match filling::check_count(n) {
+    let f = filling::fill_cells(rig, states, h, cells, &mut table);
+    let checked = f.checked;
+    match checked {
         Checked::Refused(number, place) => Counted::Refused(number, place),
-        Checked::Passed => Counted::Served(n, passes as u64),
+        Checked::Passed => Counted::Served(f.count, f.passes),
     }
 }
 
@@ -90,19 +82,18 @@ fn list_cells(
     cells: &mut [u64],
     out: &mut [u8],
 ) -> Listed
-    requires { ⌜ WellFormed rig ⌝ }
-    requires { ⌜ (states ≡ recordAutomaton rig .states) × (0 < states) × (h ≤ 1000) × ((h + 1) * states ≤ length (now cells)) × (length (now list) * h ≤ length (now out)) ⌝ }
-    ensures { λ r. ⌜ listAnswer r ≡ countRows (N (recordAutomaton rig) h 0) (unlessAt 11 (notBelow (N (recordAutomaton rig) h 0)) (now (list .entry)) (served [])) ⌝ }
+    requires { ⌜ Fits rig states h (length (now cells)) × (length (now list) * h ≤ length (now out)) ⌝ }
+    ensures { λ r. ⌜ listAnswer r ≡ listFrom (recordAutomaton rig) h 0 (now (list .entry)) ⌝ }
     ensures { λ _. ⌜ now (cells .exit) ≡ filled (recordAutomaton rig) h (now (cells .entry)) ⌝ }
-    ensures { λ r. ⌜ now (out .exit) ≡ outputAfter (listAnswer r) (concatMap (unrank (recordAutomaton rig) h 0) (now (list .entry))) (now (out .entry)) ⌝ }
+    ensures { λ r. ⌜ now (out .exit) ≡ outputFrom (recordAutomaton rig) h 0 (listAnswer r) (now (list .entry)) (now (out .entry)) ⌝ }
 {
     let mut table = [0u16; 16384];
-    let _passes = filling::fill_cells(rig, states, h, cells, &mut table);
-    let n = cells[h * states];
-    match filling::check_count(n) {
+    let f = filling::fill_cells(rig, states, h, cells, &mut table);
+    let checked = f.checked;
+    match checked {
         Checked::Refused(number, place) => Listed::Refused(number, place),
         Checked::Passed => {
-            let at = ranking::unrank_list(cells, &table, states, 0, h, n, list, out);
+            let at = ranking::unrank_list(cells, &table, states, 0, h, f.count, list, out);
             if at < list.len() {
                 return Listed::Refused(11, at as u64);
             }
@@ -133,17 +124,16 @@ pub fn scenarios(text: &[u8], h: u64, list: &[u64], cells: &mut [u64], out: &mut
 
 // Index, once the checks up to 13 are passed.
 fn index_cells(rig: Rig, states: usize, sequence: &[u8], cells: &mut [u64]) -> Indexed
-    requires { ⌜ WellFormed rig ⌝ }
-    requires { ⌜ (states ≡ recordAutomaton rig .states) × (0 < states) × (length (now sequence) ≤ 1000) × ((length (now sequence) + 1) * states ≤ length (now cells)) ⌝ }
+    requires { ⌜ Fits rig states (length (now sequence)) (length (now cells)) ⌝ }
     requires { ⌜ EventsBelow (rig .events) (now sequence) ⌝ }
-    ensures { λ r. ⌜ indexAnswer r ≡ countRows (N (recordAutomaton rig) (length (now (sequence .entry))) 0) (unless 14 (firstViolation (recordAutomaton rig) 0 (now (sequence .entry))) (ltb (firstViolation (recordAutomaton rig) 0 (now (sequence .entry))) (length (now (sequence .entry)))) (served (rank (recordAutomaton rig) 0 (now (sequence .entry)) ∷ []))) ⌝ }
+    ensures { λ r. ⌜ indexAnswer r ≡ indexFrom (recordAutomaton rig) 0 (now (sequence .entry)) ⌝ }
     ensures { λ _. ⌜ now (cells .exit) ≡ filled (recordAutomaton rig) (length (now (sequence .entry))) (now (cells .entry)) ⌝ }
 {
     let h = sequence.len();
     let mut table = [0u16; 16384];
-    let _passes = filling::fill_cells(rig, states, h, cells, &mut table);
-    let n = cells[h * states];
-    match filling::check_count(n) {
+    let f = filling::fill_cells(rig, states, h, cells, &mut table);
+    let checked = f.checked;
+    match checked {
         Checked::Refused(number, place) => Indexed::Refused(number, place),
         Checked::Passed => {
             let ranked = ranking::rank(cells, &table, states, rig.events, 0, sequence);

@@ -4,7 +4,7 @@ use mathlib.Core.Path.{refl, _∙_}
 use lib.ListN.{length}
 use borrow.Author.Needs.{needs}
 use Rattle.promises.specs.Calls.{count, countCells}
-use Rattle.filling.proofs.Rows.{early-answer, early-cells, some-states, count-is, count-cells-are}
+use Rattle.filling.proofs.Rows.{early-answer, early-cells, count-is, count-cells-are}
 use Rattle.generator.proofs.count.Statement.{statement}
 use Rattle.generator.proofs.count.Tie as tie
 use Rattle.generator.proofs.count.Reads as reads
@@ -23,11 +23,8 @@ enum-told c = search needs
 
 count-cells-requires : tie.Need-count-cells-requires
 count-cells-requires c κs =
-    let st = c .before .before .before .before .before .before .before .args in
     let o = c .before .before .before .before .load in
-    let e = c .before .enum-told .given .1 in
-    let r = o .ensures .ready e in
-    (r .well-formed, (r .joint, some-states (st .text .now) (st .h) (length (st .cells .now)) (o .result) (o .ensures) (st .cells .now) refl e, r .horizon, r .enough))
+    o .ensures .ready (c .before .enum-told .given .1) .fits
 
 returns : tie.Need-returns
 unfolding count countCells

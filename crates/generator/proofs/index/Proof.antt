@@ -4,7 +4,7 @@ use mathlib.Core.Path.{refl, _∙_}
 use lib.ListN.{length}
 use borrow.Author.Needs.{needs}
 use Rattle.promises.specs.Calls.{index, indexCells}
-use Rattle.filling.proofs.Rows.{early-answer, early-cells, some-states}
+use Rattle.filling.proofs.Rows.{early-answer, early-cells}
 use Rattle.generator.proofs.Laws.{events-below, bad-index, bad-index-cells, index-is, index-cells-are}
 use Rattle.generator.proofs.index.Statement.{statement}
 use Rattle.generator.proofs.index.Tie as tie
@@ -38,10 +38,8 @@ index-cells-requires : tie.Need-index-cells-requires
 index-cells-requires c κs =
     let st = c .before .before .before .before .before .before .before .before .before .before .args in
     let o = c .before .before .before .before .before .before .load in
-    let e = c .before .before .before .enum-told .given .1 in
-    let r = o .ensures .ready e in
     let g = c .before .before .first-not-event in
-    (r .well-formed, ((r .joint, some-states (st .text .now) (length (st .sequence .now)) (length (st .cells .now)) (o .result) (o .ensures) (st .cells .now) refl e, r .horizon, r .enough), events-below (o .result .rig .events) (g .result) (st .sequence .now) (g .ensures) (c .before .if1 .left)))
+    (o .ensures .ready (c .before .before .before .enum-told .given .1) .fits, events-below (o .result .rig .events) (g .result) (st .sequence .now) (g .ensures) (c .before .if1 .left))
 
 returns-2 : tie.Need-returns-2
 unfolding index indexCells

@@ -5,7 +5,7 @@ use Prim.Native.Nat.{_*_}
 use lib.ListN.{length}
 use borrow.Author.Needs.{needs}
 use Rattle.promises.specs.Calls.{scenarios, scenariosCells, written}
-use Rattle.filling.proofs.Rows.{early-answer, early-cells, early-output, some-states}
+use Rattle.filling.proofs.Rows.{early-answer, early-cells, early-output}
 use Rattle.generator.proofs.Laws.{fits-true, fits-false, short-output, short-cells, short-written, scenarios-are, scenarios-cells-are, written-are}
 use Rattle.generator.proofs.scenarios.Statement.{statement}
 use Rattle.generator.proofs.scenarios.Tie as tie
@@ -31,10 +31,8 @@ list-cells-requires : tie.Need-list-cells-requires
 list-cells-requires c κs =
     let st = c .before .before .before .before .before .before .before .before .before .before .before .before .args in
     let o = c .before .before .before .before .before .before .before .load in
-    let e = c .before .before .before .before .enum-told .given .1 in
-    let r = o .ensures .ready e in
     let g = c .before .before .before .fits2 in
-    (r .well-formed, (r .joint, some-states (st .text .now) (st .h) (length (st .cells .now)) (o .result) (o .ensures) (st .cells .now) refl e, r .horizon, r .enough, fits-true (g .result) (length (st .out .now)) (length (st .list .now) * st .h) (g .ensures) (c .before .before .if1 .taken)))
+    (o .ensures .ready (c .before .before .before .before .enum-told .given .1) .fits, fits-true (g .result) (length (st .out .now)) (length (st .list .now) * st .h) (g .ensures) (c .before .before .if1 .taken))
 
 same-length : tie.Need-same-length
 same-length c = search needs
