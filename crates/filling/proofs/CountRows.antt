@@ -14,15 +14,15 @@ passed-not n p e = let z : _≡_ {A = ℕ} 0 1 = cc in omega arith
 
 pub tells-9 : (c : ℕ) → c ≡ 0 → TellsRows c (Refused 9 0)
 unfolding most
-tells-9 c z = record { answer = λ n a q. rw (eq-eqb n 0 (omega arith)); few = λ e. absurd (passed-not 9 0 e) }
+tells-9 c z = record { answer = λ n a q. rw (eq-eqb n 0 (omega arith)); some = λ e. absurd (passed-not 9 0 e); few = λ e. absurd (passed-not 9 0 e) }
 
 pub tells-10 : (c : ℕ) → c ≡ 18446744073709551615 → TellsRows c (Refused 10 0)
 unfolding most
-tells-10 c z = record { answer = λ n a q. rw (ne-eqb n 0 (omega arith), le-leb 18446744073709551615 n (omega arith)); few = λ e. absurd (passed-not 10 0 e) }
+tells-10 c z = record { answer = λ n a q. rw (ne-eqb n 0 (omega arith), le-leb 18446744073709551615 n (omega arith)); some = λ e. absurd (passed-not 10 0 e); few = λ e. absurd (passed-not 10 0 e) }
 
 pub tells-on : (c : ℕ) → c ≤ 18446744073709551615 → (c ≡ 0 → ⊥) → (c ≡ 18446744073709551615 → ⊥) → TellsRows c Passed
 unfolding most
-tells-on c le z m = record { answer = λ n a q. rw (ne-eqb n 0 (λ e. z (omega arith)), lt-leb 18446744073709551615 n (low n q)); few = λ e. ⊎-elim (λ h. absurd (m (omega arith))) (λ h. h) (split 18446744073709551615 c) }
+tells-on c le z m = record { answer = λ n a q. rw (ne-eqb n 0 (λ e. z (omega arith)), lt-leb 18446744073709551615 n (low n q)); some = λ e. ⊎-elim (λ h. h) (λ h. absurd (z (omega arith))) (split 1 c); few = λ e. ⊎-elim (λ h. absurd (m (omega arith))) (λ h. h) (split 18446744073709551615 c) }
   where
     low : (n : ℕ) → c ≡ min n 18446744073709551615 → n < 18446744073709551615
     low n q = ⊎-elim (λ h. absurd (m (omega arith))) (λ h. h) (split 18446744073709551615 n)

@@ -43,6 +43,7 @@ pub fills-told : (A : Automaton) (p h s events : ℕ) (k : Checked) (cells left 
 fills-told A p h s events k cells left table q some e t r n = record {
   answer = λ a. t .answer (N A h 0) a (start-cell A h cells left p q some e);
   counted = start-cell A h cells left p q some e;
+  some = t .some;
   few = t .few;
   passed = r;
   cells-filled = e;
@@ -75,6 +76,9 @@ module _ (A : Automaton) (p events x h : ℕ) (f : Filled) (cells left table : L
 
     pub told-few : N A h x < most
     told-few = rw (← told-exact) (fs .few e)
+
+    pub told-some : 1 ≤ N A h x
+    told-some = rw (← told-exact) (fs .some e)
 
     -- N and the passes, told
     pub told-count : served (f .count ∷ f .passes ∷ []) ≡ countRows (N A h x) (served (N A h x ∷ passes A ∷ []))

@@ -4,7 +4,7 @@
 -- Beside a refusal the count told is the cell of x, 0 or 2^64 − 1. Assumes nothing.
 use mathlib.Core.Path.{_≡_}
 use mathlib.Core.List.{List}
-use Prim.Native.Nat.{ℕ, _<_, min}
+use Prim.Native.Nat.{ℕ, _≤_, _<_, min}
 use Rattle.automaton.specs.Automaton.{Automaton}
 use Rattle.automaton.specs.Pruning.{passes}
 use Rattle.automaton.specs.Counting.{N, most}
@@ -18,11 +18,13 @@ use Rattle.filling.specs.declared.Filled.{Filled}
 
 pub record TellsRows (c : ℕ) (k : Checked) : Type 0 where
   pub answer : (n : ℕ) (a : Answer) → c ≡ min n most → countRows n a ≡ checkedOr k a
+  pub some : k ≡ Passed → 1 ≤ c
   pub few : k ≡ Passed → c < most
 
 pub record Fills (A : Automaton) (p events x h : ℕ) (f : Filled) (cells left table : List ℕ) : Type 0 where
   pub answer : (a : Answer) → countRows (N A h x) a ≡ checkedOr (f .checked) a
   pub counted : f .count ≡ min (N A h x) most
+  pub some : f .checked ≡ Passed → 1 ≤ f .count
   pub few : f .checked ≡ Passed → f .count < most
   pub passed : f .passes ≡ passes A
   pub cells-filled : left ≡ filled A h cells

@@ -1,13 +1,13 @@
 -- What a listing begins with: the answer of the whole input from what each step tells. Assumes nothing.
 use mathlib.Core.Path.{_≡_, refl, sym, ap, _∙_, subst}
 use mathlib.Core.Logic.{_⊎_, inl, inr}
-use mathlib.Core.List.{List, _++_}
+use mathlib.Core.List.{List, [], _∷_, _++_}
 use mathlib.Core.Option.{Option, none, some}
 use Prim.Native.Nat.{ℕ, _+_, _-_, _*_, _≤_, _<_, min}
 use native.Mathlib.Omega.{arith}
 use native.Mathlib.Nat.{suc-mul}
 use native.Mathlib.Numerals.{add-one}
-use lib.ListN.{length, take, drop, length-replicate, length-drop, length-append}
+use lib.ListN.{length, take, drop, length-replicate, length-drop}
 use lib.Seq.{take-all, take-at}
 use borrow.Author.Tests.{le-ltb}
 use Rattle.lists.specs.Lists.{indexOf}
@@ -17,57 +17,83 @@ use Rattle.automaton.specs.Counting.{N, most}
 use Rattle.automaton.specs.Ranking.{unrank}
 use Rattle.promises.specs.Answer.{Answer, refused}
 use Rattle.promises.specs.Rig.{rigAutomaton, start}
-use Rattle.promises.specs.Calls.{filled, cellsAfter, sized, count, countCells}
+use Rattle.promises.specs.Calls.{cellsAfter, sized, count, countCells}
 use Rattle.ranking.specs.Ranks.{Numbered, HoldsRows}
 use Rattle.ranking.proofs.Premises.{filled-holds}
 use Rattle.ranking.proofs.Walk.{length-unrank}
-use Rattle.checks.specs.declared.Checked.{Checked}
+use Rattle.rig.specs.declared.Rig.{Rig}
+use Rattle.rig.specs.Record.{recordAutomaton}
+use Rattle.pruning.proofs.Digits.{states-few}
+use Rattle.checks.specs.Loading.{Fits}
 use Rattle.checks.specs.declared.Checked.the-variants.{Passed}
-use Rattle.filling.specs.CountCheck.{Tells}
-use Rattle.filling.proofs.Rows.{early-fills}
-use Rattle.line.specs.Line.{lineOf}
-use Rattle.listing.specs.Listing.{asked, text, owned, answerTo, answer, cellsLeft, horizon, orZero, scenarioLine}
-use Rattle.listing.specs.Printing.{askedAs, WithinLimits, Begins, Lists}
+use Rattle.filling.specs.declared.Filled.{Filled}
+use Rattle.filling.specs.Filling.{Fills}
+use Rattle.filling.proofs.Rows.{early-fills, told-count, told-exact, told-few, told-some}
+use Rattle.line.specs.Line.{lineOf, numbersOf}
+use Rattle.listing.specs.Listing.{asked, text, owned, answerTo, answer, headLine, cellsLeft, horizon, orZero, scenarioLine}
+use Rattle.listing.specs.Printing.{askedAs, countTold, Leads, Begins, Serves}
 use Rattle.listing.specs.declared.Asked.{Asked}
 use Rattle.listing.specs.declared.Asked.the-variants.{Horizon, Bad}
-use Rattle.listing.specs.declared.Begun.{Begun}
+use Rattle.listing.specs.declared.Cursor.{Cursor}
 
--- ---- what is told of one answer is told of an equal one
+-- ---- the first line
 
-pub begins-as : (a a′ : Answer) (b : Begun) (d l : List ℕ) → a ≡ a′ → Begins a b d l → Begins a′ b d l
-begins-as a a′ b d l q = subst (λ (k : Answer). Begins k b d l) q
+-- what is told of one answer and automaton is told of equal ones
+pub begins-as : (a a′ : Answer) (A A′ : Automaton) (x x′ h h′ : ℕ) (c : Cursor) (d l cells table : List ℕ) → a ≡ a′ → A ≡ A′ → x ≡ x′ → h ≡ h′
+    → Begins a A x h c d l cells table → Begins a′ A′ x′ h′ c d l cells table
+begins-as a a′ A A′ x x′ h h′ c d l cells table p q r s w = rw (← p, ← q, ← r, ← s) w
 
--- the first line is within what it is written to
-pub head-within : (a : Answer) (b : Begun) (d l : List ℕ) → Begins a b d l → b .length ≤ length l
-head-within a b d l w = omega (arith, w .told, simp length-append at (ap length (w .written)))
-
-pub lists-as : (A A′ : Automaton) (x : ℕ) (b : Begun) (cells table : List ℕ) → A ≡ A′ → x ≡ 0 → Lists A 0 b cells table → Lists A′ x b cells table
-lists-as A A′ x b cells table q e l = subst (λ (K : Automaton). Lists K x b cells table) q (subst (λ (y : ℕ). Lists A y b cells table) (sym e) l)
-
-pub lists-text : (t t′ : List ℕ) (b : Begun) (cells table : List ℕ) → t ≡ t′ → Lists (rigAutomaton t) (start t) b cells table → Lists (rigAutomaton t′) (start t′) b cells table
-lists-text t t′ b cells table q = subst (λ (s : List ℕ). Lists (rigAutomaton s) (start s) b cells table) q
+pub begins-refused : (n p : ℕ) (A : Automaton) (x h m : ℕ) (d l cells table : List ℕ) → Leads (headLine (refused n p)) m d l
+    → Begins (refused n p) A x h (record { length = m; index = 0; lines = 0; horizon = 0; states = 1 }) d l cells table
+begins-refused n p A x h m d l cells table w = record {
+  limits = record { short = omega arith; some-states = omega arith; few-states = omega arith; enough = omega arith; few-lines = omega arith };
+  first = w;
+  none-yet = refl;
+  follows = refl;
+  idle = λ e. (refl, refl);
+  serves = λ lt. absurd (omega arith);
+}
 
 -- ---- the cells
 
-pub rows-room : (h p n : ℕ) → (h + 1) * p ≤ n → h * p ≤ n
+rows-room : (h p n : ℕ) → (h + 1) * p ≤ n → h * p ≤ n
 rows-room h p n le = omega (arith, suc-mul h p, ap (λ (i : ℕ). i * p) (add-one h))
 
-pub sized-counted : (b : Begun) (room : ℕ) → b .horizon ≤ 1000 → 0 < b .states → b .states ≤ 1024 → (b .horizon + 1) * b .states ≤ room → room ≡ 8192 → WithinLimits b 8192
-sized-counted b room short some-states few-states enough q =
-    record { short = short; some-states = some-states; few-states = few-states; enough = omega (arith, rows-room (b .horizon) (b .states) room enough) }
-
 -- cells that are filled, and a count that is exact, serve the lines
-pub lists-counted : (A : Automaton) (b : Begun) (events c : ℕ) (k : Checked) (cells d table : List ℕ) → Numbered A (b .states) events table → cells ≡ filled A (b .horizon) d
-    → Tells c k → c ≡ min (N A (b .horizon) 0) most → k ≡ Passed → b .lines ≡ min c 1000 → Lists A 0 b cells table
-lists-counted A b events c k cells d table m f t q e l =
-    record {
-      starts = refl;
-      events = events;
-      numbered = m;
-      rows = filled-holds A (b .horizon) cells d f;
-      exact = t .exact e (N A (b .horizon) 0) q .2;
-      below = omega (arith, t .exact e (N A (b .horizon) 0) q .0);
-    }
+pub begins-counted : (r : Rig) (states h m n : ℕ) (f : Filled) (old d l cells table : List ℕ) → Fits r states h (length old) → length old ≡ 8192
+    → Fills (recordAutomaton r) states (r .events) 0 h f old cells table → f .checked ≡ Passed → n ≡ min (f .count) 1000
+    → Leads (numbersOf (99 ∷ 111 ∷ 117 ∷ 110 ∷ 116 ∷ []) (f .count) (f .passes)) m d l
+    → Begins (countTold (recordAutomaton r) h) (recordAutomaton r) 0 h (record { length = m; index = 0; lines = n; horizon = h; states = states }) d l cells table
+begins-counted r states h m n f old d l cells table z long fs e q w = rw (← told-count A states (r .events) 0 h f old cells table fs e) (record {
+  limits = record {
+    short = z .horizon;
+    some-states = z .some-states;
+    few-states = omega (arith, states-few r (z .well-formed), z .joint);
+    enough = omega (arith, rows-room h states (length old) (z .enough));
+    few-lines = omega arith;
+  };
+  first = w;
+  none-yet = refl;
+  follows = q;
+  idle = λ i. absurd (omega (arith, some-count));
+  serves = λ lt. (refl, record {
+    starts = refl;
+    events = r .events;
+    numbered = fs .tabled;
+    rows = filled-holds A h cells old (fs .cells-filled);
+    exact = told-few A states (r .events) 0 h f old cells table fs e;
+    below = omega (arith, exact);
+  });
+})
+  where
+    A : Automaton
+    A = recordAutomaton r
+
+    exact : f .count ≡ N A h 0
+    exact = told-exact A states (r .events) 0 h f old cells table fs e
+
+    some-count : 1 ≤ f .count
+    some-count = rw exact (told-some A states (r .events) 0 h f old cells table fs e)
 
 -- ---- the input
 
@@ -149,34 +175,28 @@ module _ (input : List ℕ) (r : Asked) (a : r ≡ askedAs (asked input) (indexO
 
 -- ---- the line of an index
 
-pub events-of : (t : List ℕ) (b : Begun) (cells table : List ℕ) (i : ℕ) (es d : List ℕ) → Lists (rigAutomaton t) (start t) b cells table → i < b .lines
-    → ((A : Automaton) (events : ℕ) → Numbered A (b .states) events table → HoldsRows A (b .horizon) cells → i < N A (b .horizon) 0 → N A (b .horizon) 0 < most
-    → es ≡ unrank A (b .horizon) 0 i ++ drop (b .horizon) d)
-    → es ≡ unrank (rigAutomaton t) (b .horizon) (start t) i ++ drop (b .horizon) d
-events-of t b cells table i es d ls lt u = rw (ls .starts) (u (rigAutomaton t) (ls .events) (ls .numbered) (ls .rows) (omega (arith, ls .below)) (ls .exact))
-
-pub line-of : (t : List ℕ) (b : Begun) (cells table : List ℕ) (i : ℕ) (es d line l : List ℕ) (r : ℕ) → Lists (rigAutomaton t) (start t) b cells table → i < b .lines
-    → ((A : Automaton) (events : ℕ) → Numbered A (b .states) events table → HoldsRows A (b .horizon) cells → i < N A (b .horizon) 0 → N A (b .horizon) 0 < most
-    → es ≡ unrank A (b .horizon) 0 i ++ drop (b .horizon) d)
-    → r ≡ length (lineOf i (take (b .horizon) es)) → l ≡ lineOf i (take (b .horizon) es) ++ drop (length (lineOf i (take (b .horizon) es))) line
-    → (r ≡ length (scenarioLine t (b .horizon) i)) × (l ≡ scenarioLine t (b .horizon) i ++ drop (length (scenarioLine t (b .horizon) i)) line)
+pub leads-next : (t : List ℕ) (c : Cursor) (cells table es d line l : List ℕ) (r : ℕ) → Serves t c cells table → c .index < c .lines
+    → ((A : Automaton) (events : ℕ) → Numbered A (c .states) events table → HoldsRows A (c .horizon) cells → c .index < N A (c .horizon) 0 → N A (c .horizon) 0 < most
+    → es ≡ unrank A (c .horizon) 0 (c .index) ++ drop (c .horizon) d)
+    → r ≡ length (lineOf (c .index) (take (c .horizon) es)) → l ≡ lineOf (c .index) (take (c .horizon) es) ++ drop (length (lineOf (c .index) (take (c .horizon) es))) line
+    → Leads (scenarioLine t (c .horizon) (c .index)) r line l
 unfolding scenarioLine
-line-of t b cells table i es d line l r ls lt u e w = rw (← events-are) (e, w)
+leads-next t c cells table es d line l r ls lt u e w = rw (← events-are) (record { told = e; written = w })
   where
     A : Automaton
     A = rigAutomaton t
 
     h : ℕ
-    h = b .horizon
+    h = c .horizon
 
-    is-below : i < N A h 0
+    is-below : c .index < N A h 0
     is-below = omega (arith, ls .below)
 
-    events-are : take (b .horizon) es ≡ unrank (rigAutomaton t) (b .horizon) (start t) i
+    events-are : take (c .horizon) es ≡ unrank (rigAutomaton t) (c .horizon) (start t) (c .index)
     events-are =
         ap (take h) (u A (ls .events) (ls .numbered) (ls .rows) is-below (ls .exact))
-        ∙ take-at (unrank A h 0 i) (drop h d) h (length-unrank A h 0 i is-below)
-        ∙ ap (λ (x : ℕ). unrank A h x i) (sym (ls .starts))
+        ∙ take-at (unrank A h 0 (c .index)) (drop h d) h (length-unrank A h 0 (c .index) is-below)
+        ∙ ap (λ (x : ℕ). unrank A h x (c .index)) (sym (ls .starts))
 
 -- what unranking wrote to the part lent, seen in the whole
 pub events-front : (A : Automaton) (cells : List ℕ) (h m i : ℕ) (ys rest : List ℕ) → m ≡ h

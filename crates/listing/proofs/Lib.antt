@@ -2,4 +2,5 @@
 pub mod Asking
 pub mod Beginning
 pub mod Whole
+pub mod Lines
 pub mod Worked

@@ -1,5 +1,6 @@
--- The listing is what the functions write, one line after the other; and the first 65,546 bytes of an input decide it.
---   listing-printed    == the first line, then each line that follows it, are the whole listing
+-- The listing is its lines, one after the other; and the first 65,546 bytes of an input decide it.
+--   lines-listing      == the lines, one after the other, are the whole listing
+--   lines-end          == no line comes after them
 --   listing-cut        == what stands after the first 65,546 bytes or more changes nothing
 -- Assumes nothing.
 use mathlib.Core.Path.{_≡_, refl, sym, ap, ap₂, _∙_}
@@ -9,9 +10,9 @@ use mathlib.Core.Option.{Option, none, some}
 use Prim.Native.Nat.{ℕ, zero, suc, _+_, _≤_, _<_}
 use native.Mathlib.Omega.{arith}
 use lib.ListN.{length, take, drop, length-drop}
-use lib.Seq.{take-at, take-all, take-take, length-take-le}
+use lib.Seq.{take-all, take-take, length-take-le}
 use lib.Dec.{eqb}
-use borrow.Author.Tests.{lt-ltb}
+use borrow.Author.Tests.{lt-ltb, le-ltb}
 use Rattle.lists.specs.Lists.{indexOf, concatMap, range}
 use Rattle.lists.proofs.Tests.{case, split}
 use Rattle.promises.specs.Answer.{refused}
@@ -19,9 +20,8 @@ use Rattle.promises.specs.Text.{same}
 use Rattle.promises.specs.Reading.{reading}
 use Rattle.promises.specs.Calls.{sized, count}
 use Rattle.decoding.proofs.Numbers.{number-long}
-use Rattle.listing.specs.Listing.{firstLine, askedIn, asked, text, owned, answer, headLine, horizon, scenarioLine, listing}
-use Rattle.listing.specs.Printing.{Begins}
-use Rattle.listing.specs.declared.Begun.{Begun}
+use Rattle.listing.specs.Listing.{firstLine, askedIn, asked, text, owned, answer, headLine, follow, horizon, scenarioLine, listing}
+use Rattle.listing.specs.Printing.{lineAt}
 use Rattle.listing.proofs.Asking.{word}
 use Rattle.listing.proofs.Beginning.{asked-unended, given}
 
@@ -31,25 +31,39 @@ concatMap-one : (f : ℕ → List ℕ) (l : List ℕ) (x : ℕ) → concatMap f 
 concatMap-one f [] x = append-nil (f x)
 concatMap-one f (y ∷ l) x = rw (concatMap-one f l x) (sym (append-assoc (f y) (concatMap f l) (f x)))
 
-concatMap-same : (f g : ℕ → List ℕ) (n : ℕ) → ((i : ℕ) → i < n → f i ≡ g i) → concatMap f (range n) ≡ concatMap g (range n)
+range-one : (f : ℕ → List ℕ) (n : ℕ) → concatMap f (range (suc n)) ≡ concatMap f (range n) ++ f n
 unfolding range
-concatMap-same f g zero q = refl
-concatMap-same f g (suc n) q =
-    concatMap-one f (range n) n
-    ∙ ap₂ (λ (a b : List ℕ). a ++ b) (concatMap-same f g n (λ i lt. q i (omega arith))) (q n (omega arith))
-    ∙ sym (concatMap-one g (range n) n)
+range-one f n = concatMap-one f (range n) n
 
--- `out i` being what is written for the index i
-pub listing-printed : (input : List ℕ) (b : Begun) (d l : List ℕ) (out : ℕ → List ℕ) → Begins (answer input) b d l → (0 < b .lines → b .horizon ≡ horizon input)
-    → ((i : ℕ) → i < b .lines → out i ≡ scenarioLine (text input) (b .horizon) i) → take (b .length) l ++ concatMap out (range (b .lines)) ≡ listing input
+first-line : (input : List ℕ) → concatMap (lineAt input) (range 1) ≡ headLine (answer input) ++ concatMap (scenarioLine (text input) (horizon input)) (range 0)
+unfolding range lineAt
+first-line input = refl
+
+pub later-line : (input : List ℕ) (k : ℕ) → k < follow (answer input) → lineAt input (suc k) ≡ scenarioLine (text input) (horizon input) k
+unfolding lineAt
+later-line input k lt = rw (lt-ltb k (follow (answer input)) lt)
+
+-- the lines, one after the other, are the listing
+pub lines-listing : (input : List ℕ) → concatMap (lineAt input) (range (suc (follow (answer input)))) ≡ listing input
 unfolding listing
-listing-printed input b d l out w q lines =
-    ap₂ (λ (s t : List ℕ). s ++ t)
-    (ap (take (b .length)) (w .written) ∙ take-at (headLine (answer input)) _ (b .length) (sym (w .told)))
-    (concatMap-same out (scenarioLine (text input) (horizon input)) (b .lines) line-is ∙ ap (λ (n : ℕ). concatMap (scenarioLine (text input) (horizon input)) (range n)) (w .follows))
+lines-listing input = from (follow (answer input)) (omega arith)
   where
-    line-is : (i : ℕ) → i < b .lines → out i ≡ scenarioLine (text input) (horizon input) i
-    line-is i lt = lines i lt ∙ ap (λ (h : ℕ). scenarioLine (text input) h i) (q (omega arith))
+    line : ℕ → List ℕ
+    line = scenarioLine (text input) (horizon input)
+
+    from : (n : ℕ) → n ≤ follow (answer input) → concatMap (lineAt input) (range (suc n)) ≡ headLine (answer input) ++ concatMap line (range n)
+    from zero le = first-line input
+    from (suc n) le =
+        range-one (lineAt input) (suc n)
+        ∙ ap₂ (λ (a b : List ℕ). a ++ b) (from n (omega arith)) (later-line input n (omega arith))
+        ∙ append-assoc (headLine (answer input)) (concatMap line (range n)) (line n)
+        ∙ ap (λ (l : List ℕ). headLine (answer input) ++ l) (sym (range-one line n))
+
+-- and no line comes after them
+pub lines-end : (input : List ℕ) (k : ℕ) → follow (answer input) < k → lineAt input k ≡ []
+unfolding lineAt
+lines-end input zero lt = absurd (omega arith)
+lines-end input (suc k) lt = rw (le-ltb k (follow (answer input)) (omega arith))
 
 -- ---- a front of the input
 

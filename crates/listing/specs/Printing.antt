@@ -1,42 +1,99 @@
--- What the functions that print tell of the listing.
---   askedAs o at        == the horizon o, with the place where the rig text begins, as `ask` tells it
---   WithinLimits b room == the cells of b's horizon and joint states are among `room` cells, and within the limits of paper 01
---   Begins a b d l      == the line d is now l, with the first line for the answer a at its front, and b tells its length and how many lines follow
---   Lists A x b c t     == the cells c and the table t serve the lines that b tells, for the automaton A from its start x
+-- The listing as a cursor writes it, line by line.
+--   askedAs o at            == the horizon o, with the place where the rig text begins, as `ask` tells it
+--   lineAt i k              == line k of the listing for the input i, from 0; empty once the listing has ended
+--   Buffers c t l           == the cells, the table and the line have the lengths that the program owns
+--   WithinLimits c room     == the cells of c's horizon and joint states are among `room` cells, and within the limits of paper 01
+--   Leads s n d l           == the line d is now l, with s at its front, and n is the length of s
+--   Lists A x c cells table == the cells and the table serve the lines that c tells, for the automaton A from its start x
+--   Begins a A x h c d l .. == c tells the first line for the answer a, at the front of l; where lines follow it, they are served, for the horizon h
+--   BeginsText t h old ..   == the same for what Count answers to the text t, with the cells as they were before
+--   Serves t c cells table  == the cells and the table serve the lines that c tells, for the text t
+--   StandsAt i k c .. l     == the line k of the listing for i stands at the front of l, and c tells what comes after it
+--   Stands, Moves           == c stands at some line; r stands at the line after it
 -- Assumes nothing.
 use mathlib.Core.Path.{_≡_}
-use mathlib.Core.List.{List, _++_}
+use mathlib.Core.List.{List, [], _∷_, _++_}
 use mathlib.Core.Option.{Option, none, some}
-use Prim.Native.Nat.{ℕ, _*_, _≤_, _<_}
-use lib.ListN.{length, drop}
+use Prim.Native.Nat.{ℕ, zero, suc, _*_, _≤_, _<_, min}
+use lib.ListN.{length, take, drop}
+use lib.Dec.{ltb}
+use Rattle.lists.specs.Lists.{pick}
 use Rattle.automaton.specs.Automaton.{Automaton}
+use Rattle.automaton.specs.Pruning.{passes}
 use Rattle.automaton.specs.Counting.{N, most}
-use Rattle.promises.specs.Answer.{Answer}
+use Rattle.promises.specs.Answer.{Answer, served}
+use Rattle.promises.specs.Rig.{rigAutomaton, start}
+use Rattle.promises.specs.Calls.{countRows, count}
 use Rattle.ranking.specs.Ranks.{Numbered, HoldsRows}
-use Rattle.listing.specs.Listing.{headLine, follow}
+use Rattle.listing.specs.Listing.{text, answer, headLine, follow, horizon, scenarioLine}
 use Rattle.listing.specs.declared.Asked.{Asked}
 use Rattle.listing.specs.declared.Asked.the-variants.{Horizon, Bad}
-use Rattle.listing.specs.declared.Begun.{Begun}
+use Rattle.listing.specs.declared.Cursor.{Cursor}
 
 abbrev pub askedAs : Option ℕ → ℕ → Asked
 askedAs none at = Bad
 askedAs (some h) at = Horizon h at
 
-pub record WithinLimits (b : Begun) (room : ℕ) : Type 0 where
-  pub short : b .horizon ≤ 1000
-  pub some-states : 0 < b .states
-  pub few-states : b .states ≤ 1024
-  pub enough : b .horizon * b .states ≤ room
+unfoldable pub lineAt : List ℕ → ℕ → List ℕ
+lineAt input zero = headLine (answer input)
+lineAt input (suc k) = pick (ltb k (follow (answer input))) (scenarioLine (text input) (horizon input) k) []
 
-pub record Begins (a : Answer) (b : Begun) (line left : List ℕ) : Type 0 where
-  pub written : left ≡ headLine a ++ drop (length (headLine a)) line
-  pub told : b .length ≡ length (headLine a)
-  pub follows : b .lines ≡ follow a
+-- what Count answers from row 9 on, for the automaton A from state 0
+abbrev pub countTold : Automaton → ℕ → Answer
+countTold A h = countRows (N A h 0) (served (N A h 0 ∷ passes A ∷ []))
 
-pub record Lists (A : Automaton) (x : ℕ) (b : Begun) (cells table : List ℕ) : Type 0 where
+pub record Buffers (cells table line : List ℕ) : Type 0 where
+  pub cells-long : length cells ≡ 8192
+  pub table-long : length table ≡ 16384
+  pub line-long : 64 ≤ length line
+
+pub record WithinLimits (c : Cursor) (room : ℕ) : Type 0 where
+  pub short : c .horizon ≤ 1000
+  pub some-states : 0 < c .states
+  pub few-states : c .states ≤ 1024
+  pub enough : c .horizon * c .states ≤ room
+  pub few-lines : c .lines ≤ 1000
+
+pub record Leads (s : List ℕ) (n : ℕ) (line left : List ℕ) : Type 0 where
+  pub told : n ≡ length s
+  pub written : left ≡ s ++ drop (length s) line
+
+pub record Lists (A : Automaton) (x : ℕ) (c : Cursor) (cells table : List ℕ) : Type 0 where
   pub starts : x ≡ 0
   pub events : ℕ
-  pub numbered : Numbered A (b .states) events table
-  pub rows : HoldsRows A (b .horizon) cells
-  pub exact : N A (b .horizon) 0 < most
-  pub below : b .lines ≤ N A (b .horizon) 0
+  pub numbered : Numbered A (c .states) events table
+  pub rows : HoldsRows A (c .horizon) cells
+  pub exact : N A (c .horizon) 0 < most
+  pub below : c .lines ≤ N A (c .horizon) 0
+
+abbrev pub Serves : List ℕ → Cursor → List ℕ → List ℕ → Type 0
+Serves t c cells table = Lists (rigAutomaton t) (start t) c cells table
+
+pub record Begins (a : Answer) (A : Automaton) (x h : ℕ) (c : Cursor) (line left cells table : List ℕ) : Type 0 where
+  pub limits : WithinLimits c 8192
+  pub first : Leads (headLine a) (c .length) line left
+  pub none-yet : c .index ≡ 0
+  pub follows : c .lines ≡ follow a
+  -- beside a refusal horizon and states are fixed too
+  pub idle : c .lines ≡ 0 → (c .horizon ≡ 0) × (c .states ≡ 1)
+  pub serves : 0 < c .lines → (c .horizon ≡ h) × Lists A x c cells table
+
+abbrev pub BeginsText : List ℕ → ℕ → List ℕ → Cursor → List ℕ → List ℕ → List ℕ → List ℕ → Type 0
+BeginsText t h old c line left cells table = Begins (count t h old) (rigAutomaton t) (start t) h c line left cells table
+
+pub record StandsAt (input : List ℕ) (k : ℕ) (c : Cursor) (cells table line : List ℕ) : Type 0 where
+  pub limits : WithinLimits c (length cells)
+  pub told : c .length ≡ length (lineAt input k)
+  pub written : take (c .length) line ≡ lineAt input k
+  pub comes-next : c .index ≡ min k (c .lines)
+  pub follows : c .lines ≡ follow (answer input)
+  pub idle : c .lines ≡ 0 → (c .horizon ≡ 0) × (c .states ≡ 1)
+  pub serves : 0 < c .lines → (c .horizon ≡ horizon input) × Serves (text input) c cells table
+
+-- c stands somewhere in the listing of some input
+abbrev pub Stands : Cursor → List ℕ → List ℕ → List ℕ → Type 0
+Stands c cells table line = (input : List ℕ) × ((k : ℕ) × StandsAt input k c cells table line)
+
+-- wherever c stands, r stands one line further, with the line in `left`
+abbrev pub Moves : Cursor → Cursor → List ℕ → List ℕ → List ℕ → List ℕ → Type 0
+Moves c r cells table line left = (input : List ℕ) (k : ℕ) → StandsAt input k c cells table line → StandsAt input (suc k) r cells table left

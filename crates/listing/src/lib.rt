@@ -1,4 +1,4 @@
-// The output of the program `scenarios`, line by line: the first line with the cells filled once, then the line of any index.
+// The output of the program `scenarios`, line by line: a cursor that writes the first line with the cells filled once, then the line of each index.
 use checks::Checked;
 use decoding::Decimal;
 use rig::Rig;
@@ -7,31 +7,32 @@ ghost use mathlib.Core.List.{List, [], _∷_, _++_};
 ghost use Prim.Native.Nat.{ℕ, _+_, _*_, _<_, _≤_, min};
 ghost use lib.ListN.{length, take, drop};
 ghost use Rattle.lists.specs.Lists.{indexOf};
-ghost use Rattle.automaton.specs.Pruning.{passes};
 ghost use Rattle.automaton.specs.Automaton.{Automaton};
 ghost use Rattle.automaton.specs.Counting.{N, most};
 ghost use Rattle.automaton.specs.Ranking.{unrank};
-ghost use Rattle.rig.specs.Record.{recordAutomaton, WellFormed};
-ghost use Rattle.promises.specs.Answer.{served, refused};
+ghost use Rattle.rig.specs.Record.{recordAutomaton};
+ghost use Rattle.promises.specs.Answer.{refused};
 ghost use Rattle.promises.specs.Text.{same};
 ghost use Rattle.promises.specs.Rig.{rigAutomaton, start};
 ghost use Rattle.promises.specs.Calls.{filled};
 ghost use Rattle.promises.specs.Calls as promised;
 ghost use Rattle.decoding.specs.Forms.{valueOf};
-ghost use Rattle.filling.specs.CountCheck.{countRows};
+ghost use Rattle.checks.specs.Loading.{Fits};
 ghost use Rattle.ranking.specs.Ranks.{Numbered, HoldsRows};
-ghost use Rattle.listing.specs.Listing.{askedIn, asked, text, answer, cellsLeft, horizon, scenarioLine};
-ghost use Rattle.listing.specs.Printing.{askedAs, WithinLimits, Begins, Lists};
+ghost use Rattle.listing.specs.Listing.{askedIn, asked, cellsLeft, scenarioLine};
+ghost use Rattle.listing.specs.Printing.{askedAs, countTold, Buffers, WithinLimits, Leads, Begins, BeginsText, Serves, StandsAt, Stands, Moves};
 
 // What the first line asks for: a horizon, with the place where the rig text begins; or it is no `ask` line.
-pub enum Asked {
+enum Asked {
     Horizon(usize, usize),
     Bad,
 }
 
-// A listing that is begun: the length of its first line, how many lines follow, and what they are made from.
-pub struct Begun {
+// Where a listing stands: the length of the line written last, 0 once the listing has ended; the index whose line comes next, and how many have
+// one; and what their lines are made from.
+pub struct Cursor {
     pub length: usize,
+    pub index: u64,
     pub lines: u64,
     pub horizon: usize,
     pub states: usize,
@@ -67,7 +68,7 @@ fn asked_in(line: &[u8]) -> Decimal
 }
 
 // What the input asks for.
-pub fn ask(input: &[u8]) -> Asked
+fn ask(input: &[u8]) -> Asked
     ensures { λ r. ⌜ r ≡ askedAs (asked (now (input .entry))) (indexOf (now (input .entry)) 10 + 1) ⌝ }
 {
     let end = decoding::until(input, b'\n');
@@ -81,14 +82,13 @@ pub fn ask(input: &[u8]) -> Asked
 }
 
 // A listing that is refused: its only line, written at the front of `line`.
-fn refuse(number: u64, place: u64, line: &mut [u8]) -> Begun
+fn refuse(number: u64, place: u64, line: &mut [u8]) -> Cursor
     requires { ⌜ 64 ≤ length (now line) ⌝ }
-    ensures { λ b. ⌜ WithinLimits b 8192 ⌝ }
-    ensures { λ b. ⌜ Begins (refused number place) b (now (line .entry)) (now (line .exit)) ⌝ }
-    ensures { λ b. ⌜ b .lines ≡ 0 ⌝ }
+    ensures { λ c. ⌜ ((A : Automaton) (x h : ℕ) (cells table : List ℕ) → Begins (refused number place) A x h c (now (line .entry)) (now (line .exit)) cells table) ⌝ }
 {
-    Begun {
+    Cursor {
         length: line::write_numbers(b"no", number, place, line),
+        index: 0,
         lines: 0,
         horizon: 0,
         states: 1,
@@ -110,21 +110,20 @@ fn begin_counted(
     cells: &mut [u64],
     table: &mut [u16],
     line: &mut [u8],
-) -> Begun
-    requires { ⌜ WellFormed rig ⌝ }
-    requires { ⌜ (states ≡ recordAutomaton rig .states) × (0 < states) × (h ≤ 1000) × ((h + 1) * states ≤ length (now cells)) × (length (now cells) ≡ 8192) × (length (now table) ≡ 16384) × (64 ≤ length (now line)) ⌝ }
-    ensures { λ b. ⌜ WithinLimits b 8192 ⌝ }
-    ensures { λ b. ⌜ Begins (countRows (N (recordAutomaton rig) h 0) (served (N (recordAutomaton rig) h 0 ∷ passes (recordAutomaton rig) ∷ []))) b (now (line .entry)) (now (line .exit)) ⌝ }
-    ensures { λ b. ⌜ (0 < b .lines → (b .horizon ≡ h) × Lists (recordAutomaton rig) 0 b (now (cells .exit)) (now (table .exit))) ⌝ }
+) -> Cursor
+    requires { ⌜ Fits rig states h (length (now cells)) ⌝ }
+    requires { ⌜ Buffers (now cells) (now table) (now line) ⌝ }
+    ensures { λ c. ⌜ Begins (countTold (recordAutomaton rig) h) (recordAutomaton rig) 0 h c (now (line .entry)) (now (line .exit)) (now (cells .exit)) (now (table .exit)) ⌝ }
     ensures { λ _. ⌜ now (cells .exit) ≡ filled (recordAutomaton rig) h (now (cells .entry)) ⌝ }
 {
-    let passes = filling::fill_cells(rig, states, h, cells, table);
-    let n = cells[h * states];
-    match filling::check_count(n) {
+    let f = filling::fill_cells(rig, states, h, cells, table);
+    let checked = f.checked;
+    match checked {
         Checked::Refused(number, place) => refuse(number, place, line),
-        Checked::Passed => Begun {
-            length: line::write_numbers(b"count", n, passes as u64, line),
-            lines: first_lines(n),
+        Checked::Passed => Cursor {
+            length: line::write_numbers(b"count", f.count, f.passes, line),
+            index: 0,
+            lines: first_lines(f.count),
             horizon: h,
             states,
         },
@@ -132,11 +131,9 @@ fn begin_counted(
 }
 
 // The first line for a rig text and a horizon.
-fn begin_text(text: &[u8], h: usize, cells: &mut [u64], table: &mut [u16], line: &mut [u8]) -> Begun
-    requires { ⌜ (length (now cells) ≡ 8192) × (length (now table) ≡ 16384) × (64 ≤ length (now line)) ⌝ }
-    ensures { λ b. ⌜ WithinLimits b 8192 ⌝ }
-    ensures { λ b. ⌜ Begins (promised.count (now (text .entry)) h (now (cells .entry))) b (now (line .entry)) (now (line .exit)) ⌝ }
-    ensures { λ b. ⌜ (0 < b .lines → (b .horizon ≡ h) × Lists (rigAutomaton (now (text .entry))) (start (now (text .entry))) b (now (cells .exit)) (now (table .exit))) ⌝ }
+fn begin_text(text: &[u8], h: usize, cells: &mut [u64], table: &mut [u16], line: &mut [u8]) -> Cursor
+    requires { ⌜ Buffers (now cells) (now table) (now line) ⌝ }
+    ensures { λ c. ⌜ BeginsText (now (text .entry)) h (now (cells .entry)) c (now (line .entry)) (now (line .exit)) (now (cells .exit)) (now (table .exit)) ⌝ }
     ensures { λ _. ⌜ now (cells .exit) ≡ promised.countCells (now (text .entry)) h (now (cells .entry)) ⌝ }
 {
     let o = checks::load(text, h as u64, cells.len());
@@ -149,11 +146,9 @@ fn begin_text(text: &[u8], h: usize, cells: &mut [u64], table: &mut [u16], line:
 }
 
 // Writes the first line of the listing at the front of `line`, and fills the cells and the table for the lines that follow.
-pub fn begin(input: &[u8], cells: &mut [u64], table: &mut [u16], line: &mut [u8]) -> Begun
-    requires { ⌜ (length (now cells) ≡ 8192) × (length (now table) ≡ 16384) × (64 ≤ length (now line)) ⌝ }
-    ensures { λ b. ⌜ WithinLimits b 8192 ⌝ }
-    ensures { λ b. ⌜ Begins (answer (now (input .entry))) b (now (line .entry)) (now (line .exit)) ⌝ }
-    ensures { λ b. ⌜ (0 < b .lines → (b .horizon ≡ horizon (now (input .entry))) × Lists (rigAutomaton (text (now (input .entry)))) (start (text (now (input .entry)))) b (now (cells .exit)) (now (table .exit))) ⌝ }
+pub fn begin(input: &[u8], cells: &mut [u64], table: &mut [u16], line: &mut [u8]) -> Cursor
+    requires { ⌜ Buffers (now cells) (now table) (now line) ⌝ }
+    ensures { λ c. ⌜ StandsAt (now (input .entry)) 0 c (now (cells .exit)) (now (table .exit)) (now (line .exit)) ⌝ }
     ensures { λ _. ⌜ now (cells .exit) ≡ cellsLeft (now (input .entry)) (now (cells .entry)) ⌝ }
 {
     match ask(input) {
@@ -177,22 +172,29 @@ fn write_events(
     ranking::unrank(cells, table, states, 0, i, &mut events[..h]);
 }
 
-// Writes the line of index i at the front of `line`, and its events at the front of `events`. Gives the line's length.
-pub fn scenario_line(
-    cells: &[u64],
-    table: &[u16; 16384],
-    b: Begun,
-    i: u64,
-    events: &mut [u8],
-    line: &mut [u8],
-) -> usize
-    requires { ⌜ WithinLimits b (length (now cells)) ⌝ }
-    requires { ⌜ (b .horizon ≤ length (now events)) × (21 + 4 * b .horizon ≤ length (now line)) ⌝ }
-    ensures { λ r. ⌜ r ≤ length (now (line .exit)) ⌝ }
-    ensures { λ r. ⌜ ((t : List ℕ) → Lists (rigAutomaton t) (start t) b (now (cells .entry)) (now (table .entry)) → i < b .lines → (r ≡ length (scenarioLine t (b .horizon) i)) × (now (line .exit) ≡ scenarioLine t (b .horizon) i ++ drop (length (scenarioLine t (b .horizon) i)) (now (line .entry)))) ⌝ }
-    ensures { λ _. ⌜ ((t : List ℕ) → Lists (rigAutomaton t) (start t) b (now (cells .entry)) (now (table .entry)) → i < b .lines → now (events .exit) ≡ unrank (rigAutomaton t) (b .horizon) (start t) i ++ drop (b .horizon) (now (events .entry))) ⌝ }
+// Writes the line of the index that comes next at the front of `line`. Gives the line's length.
+fn write_next(c: Cursor, cells: &[u64], table: &[u16; 16384], line: &mut [u8]) -> usize
+    requires { ⌜ WithinLimits c (length (now cells)) × (4021 ≤ length (now line)) ⌝ }
+    ensures { λ r. ⌜ ((t : List ℕ) → Serves t c (now (cells .entry)) (now (table .entry)) → c .index < c .lines → Leads (scenarioLine t (c .horizon) (c .index)) r (now (line .entry)) (now (line .exit))) ⌝ }
 {
-    let h = b.horizon;
-    write_events(cells, table, b.states, h, i, events);
-    line::write_line(i, &events[..h], line)
+    let h = c.horizon;
+    let mut events = [0u8; 1000];
+    write_events(cells, table, c.states, h, c.index, &mut events);
+    line::write_line(c.index, &events[..h], line)
+}
+
+// Writes the next line of the listing at the front of `line`; nothing where the listing has ended.
+pub fn next(c: Cursor, cells: &[u64], table: &[u16; 16384], line: &mut [u8]) -> Cursor
+    requires { ⌜ 4021 ≤ length (now line) ⌝ }
+    requires { ⌜ Stands c (now cells) (now table) (now line) ⌝ }
+    ensures { λ r. ⌜ Moves c r (now (cells .entry)) (now (table .entry)) (now (line .entry)) (now (line .exit)) ⌝ }
+{
+    let mut moved = c;
+    if c.lines <= c.index {
+        moved.length = 0;
+        return moved;
+    }
+    moved.length = write_next(c, cells, table, line);
+    moved.index = c.index + 1;
+    moved
 }

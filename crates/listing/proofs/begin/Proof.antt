@@ -1,7 +1,8 @@
 -- A bad `ask` line is answered by itself, and else the text begins after it. Assumes nothing.
-use mathlib.Core.Path.{_∙_}
-use native.Mathlib.Omega.{arith}
-use Rattle.listing.proofs.Beginning.{begins-as, lists-text, answer-bad, answer-good, cells-bad, cells-good, text-within, text-is, horizon-is}
+use mathlib.Core.Path.{refl, ap, _∙_}
+use Rattle.promises.specs.Rig.{rigAutomaton, start}
+use Rattle.listing.proofs.Beginning.{begins-as, answer-bad, answer-good, cells-bad, cells-good, text-within, text-is, horizon-is}
+use Rattle.listing.proofs.Lines.{stands-first}
 use borrow.Author.Needs.{needs}
 use Rattle.listing.proofs.begin.Statement.{statement}
 use Rattle.listing.proofs.begin.Tie as tie
@@ -46,14 +47,12 @@ same-length c = search needs
 
 returns : tie.Need-returns
 returns c =
+    let st = c .before .before .before .before .before .before .before .before .before .before .before in
+    let s = st .args .input .now in
     let a = c .before .before .before .before .before .before .ask in
-    let r = c .before .before .refuse in (
-      r .ensures .0,
-      (
-        begins-as _ _ _ _ _ (answer-bad (c .before .before .before .before .before .before .before .before .before .before .before .args .input .now) (a .result) (a .ensures) (c .before .before .before .before .enum-told .given .1)) (r .ensures .1 .0),
-        (λ lt. absurd (omega (arith, r .ensures .1 .1)), cells-bad (c .before .before .before .before .before .before .before .before .before .before .before .args .input .now) (a .result) (a .ensures) (c .before .before .before .before .enum-told .given .1) (c .before .before .before .before .before .before .before .before .before .before .before .args .cells .now)),
-      ),
-    )
+    let e = c .before .before .before .before .enum-told .given .1 in
+    let b = begins-as _ _ _ _ _ _ _ _ _ _ _ _ _ (answer-bad s (a .result) (a .ensures) e) refl refl refl (c .before .before .refuse .ensures _ _ _ _ _) in
+    (stands-first s _ (st .args .cells .now) _ _ _ (st .pre .cells-long) b, cells-bad s (a .result) (a .ensures) e (st .args .cells .now))
 
 same-length-2 : tie.Need-same-length-2
 same-length-2 c = search needs
@@ -70,13 +69,11 @@ returns-2 c =
     let s = st .args .input .now in
     let a = c .before .before .before .before .before .before .before .before .before .before .before .before .before .before .ask in
     let k = c .before .before .before .before .before .before .before .before .before .before .before .before .h .given in
-    let n = c .before .before .before .before .before .before .begin-text in (
-      n .ensures .0,
-      (
-        begins-as _ _ _ _ _ (answer-good s (a .result) (a .ensures) (k .0 .0) (k .0 .1 .0) (k .1) (st .args .cells .now) (st .pre .0)) (n .ensures .1 .0),
-        (λ lt. (n .ensures .1 .1 .0 lt .0 ∙ horizon-is s (a .result) (a .ensures) (k .0 .0) (k .0 .1 .0) (k .1), lists-text _ _ _ _ _ (text-is s (a .result) (a .ensures) (k .0 .0) (k .0 .1 .0) (k .1)) (n .ensures .1 .1 .0 lt .1)), cells-good s (a .result) (a .ensures) (k .0 .0) (k .0 .1 .0) (k .1) (st .args .cells .now) _ (st .pre .0) (n .ensures .1 .1 .1)),
-      ),
-    )
+    let n = c .before .before .before .before .before .before .begin-text in
+    let t = text-is s (a .result) (a .ensures) (k .0 .0) (k .0 .1 .0) (k .1) in
+    let q = answer-good s (a .result) (a .ensures) (k .0 .0) (k .0 .1 .0) (k .1) (st .args .cells .now) (st .pre .cells-long) in
+    let b = begins-as _ _ _ _ _ _ _ _ _ _ _ _ _ q (ap rigAutomaton t) (ap start t) (horizon-is s (a .result) (a .ensures) (k .0 .0) (k .0 .1 .0) (k .1)) (n .ensures .0) in
+    (stands-first s _ _ _ _ _ (n .kept .1 .1 .0 ∙ st .pre .cells-long) b, cells-good s (a .result) (a .ensures) (k .0 .0) (k .0 .1 .0) (k .1) (st .args .cells .now) _ (st .pre .cells-long) (n .ensures .1))
 
 pub begin-spec : {M : Type 1} → statement M
 begin-spec =

@@ -1,18 +1,17 @@
 -- A refusal up to row 8 is the answer itself, and else the record stands for the text, so what is counted of the record is counted of the
 -- text. Assumes nothing.
-use mathlib.Core.Path.{refl}
-use native.Mathlib.Omega.{arith}
+use mathlib.Core.Path.{refl, sym}
 use lib.ListN.{length}
-use Rattle.filling.proofs.Rows.{early-count, early-count-cells, some-states, count-is, count-cells-are}
-use Rattle.listing.proofs.Beginning.{begins-as, lists-as}
+use Rattle.filling.proofs.Rows.{early-count, early-count-cells, count-is, count-cells-are}
+use Rattle.listing.proofs.Beginning.{begins-as}
 use borrow.Author.Needs.{needs}
 use Rattle.listing.proofs.begin_text.Statement.{statement}
 use Rattle.listing.proofs.begin_text.Tie as tie
 use Rattle.listing.proofs.begin_text.Reads as reads
 use Rattle.listing.proofs.begin_text.Lts as lts
+use Rattle.checks.proofs.load.Reads as load-reads
 use Rattle.listing.proofs.begin_counted.Reads as begin-counted-reads
 use Rattle.listing.proofs.refuse.Reads as refuse-reads
-use Rattle.checks.proofs.load.Reads as load-reads
 
 load-requires : tie.Need-load-requires
 load-requires c κs = search needs
@@ -28,12 +27,7 @@ enum-told c = search needs
 
 begin-counted-requires : tie.Need-begin-counted-requires
 begin-counted-requires c κs =
-    let st = c .before .before .before .before .before .before .before .before .before .before .before in
-    let o = c .before .before .before .before .before .before .load in
-    let e = c .before .before .before .enum-told .given .1 in
-    let r = o .ensures .ready e in
-    let states = some-states (st .args .text .now) (st .args .h) (length (st .args .cells .now)) (o .result) (o .ensures) (st .args .cells .now) refl e in
-    (r .well-formed, (r .joint, states, r .horizon, r .enough, st .pre .0, st .pre .1, st .pre .2))
+    (c .before .before .before .before .before .before .load .ensures .ready (c .before .before .before .enum-told .given .1) .fits, c .before .before .before .before .before .before .before .before .before .before .before .pre)
 
 same-length : tie.Need-same-length
 same-length c = search needs
@@ -43,13 +37,8 @@ returns c =
     let st = c .before .before .before .before .before .before .before .before .before .before .before .before .before .args in
     let o = c .before .before .before .before .before .before .before .before .load in
     let k = c .before .before .before .before .before .checked .given in
-    let r = c .before .before .refuse in (
-      r .ensures .0,
-      (
-        begins-as _ _ _ _ _ (early-count (st .text .now) (st .h) (length (st .cells .now)) (o .result) (o .ensures) (st .cells .now) refl (k .0 .0) (k .0 .1 .0) (k .1)) (r .ensures .1 .0),
-        (λ lt. absurd (omega (arith, r .ensures .1 .1)), early-count-cells (st .text .now) (st .h) (length (st .cells .now)) (o .result) (o .ensures) (st .cells .now) refl (k .0 .0) (k .0 .1 .0) (k .1)),
-      ),
-    )
+    let a = early-count (st .text .now) (st .h) (length (st .cells .now)) (o .result) (o .ensures) (st .cells .now) refl (k .0 .0) (k .0 .1 .0) (k .1) in
+    (begins-as _ _ _ _ _ _ _ _ _ _ _ _ _ a refl refl refl (c .before .before .refuse .ensures _ _ _ _ _), early-count-cells (st .text .now) (st .h) (length (st .cells .now)) (o .result) (o .ensures) (st .cells .now) refl (k .0 .0) (k .0 .1 .0) (k .1))
 
 same-length-2 : tie.Need-same-length-2
 same-length-2 c = search needs
@@ -66,13 +55,9 @@ returns-2 c =
     let o = c .before .before .before .before .before .before .before .before .before .before .before .before .before .load in
     let e = c .before .before .before .before .before .before .before .before .before .before .enum-told .given .1 in
     let n = c .before .before .before .before .before .before .begin-counted in
-    let r = o .ensures .ready e in (
-      n .ensures .0,
-      (
-        begins-as _ _ _ _ _ (count-is (st .text .now) (st .h) (length (st .cells .now)) (o .result) (o .ensures) (st .cells .now) refl e) (n .ensures .1 .0),
-        (λ lt. (n .ensures .1 .1 .0 lt .0, lists-as _ _ _ _ _ _ (r .automaton) (r .starts) (n .ensures .1 .1 .0 lt .1)), count-cells-are (st .text .now) (st .h) (length (st .cells .now)) (o .result) (o .ensures) (st .cells .now) refl e _ (n .ensures .1 .1 .1)),
-      ),
-    )
+    let r = o .ensures .ready e in
+    let a = count-is (st .text .now) (st .h) (length (st .cells .now)) (o .result) (o .ensures) (st .cells .now) refl e in
+    (begins-as _ _ _ _ _ _ _ _ _ _ _ _ _ a (r .automaton) (sym (r .starts)) refl (n .ensures .0), count-cells-are (st .text .now) (st .h) (length (st .cells .now)) (o .result) (o .ensures) (st .cells .now) refl e _ (n .ensures .1))
 
 pub begin-text-spec : {M : Type 1} → statement M
 begin-text-spec =
