@@ -8,19 +8,19 @@ use lib.Seq.{length-take-le}
 use Rattle.listing.specs.Printing.{StandsAt}
 use Rattle.listing.proofs.Lines.{line-within, nearer}
 use borrow.Author.Needs.{needs}
-use Rattle.printing.proofs.print.Statement.{statement}
-use Rattle.printing.proofs.print.Tie as tie
-use Rattle.printing.proofs.print.Reads as reads
-use Rattle.printing.proofs.print.Lts as lts
-use Rattle.io.proofs.write_all.Reads as write-all-reads
+use Rattle.printing.proofs.print_part.Statement.{statement}
+use Rattle.printing.proofs.print_part.Tie as tie
+use Rattle.printing.proofs.print_part.Reads as reads
+use Rattle.printing.proofs.print_part.Lts as lts
+use Rattle.printing.proofs.write_between.Reads as write-between-reads
 use Rattle.listing.proofs.begin.Reads as begin-reads
 use Rattle.listing.proofs.next.Reads as next-reads
 
 abbrev Inv-loop : tie.InvT-loop
-Inv-loop input cells table line₀ cursor₀ line cursor = (length line ≡ 4096) × ((k : ℕ) × StandsAt input k cursor cells table line)
+Inv-loop input from to cells table line₀ cursor₀ line cursor = (length line ≡ 4096) × ((k : ℕ) × StandsAt input k cursor cells table line)
 
 abbrev μ-loop : tie.MeasureT-loop
-μ-loop input cells table line₀ cursor₀ line cursor = 2 * (cursor .lines - cursor .index) + min (cursor .length) 1
+μ-loop input from to cells table line₀ cursor₀ line cursor = 2 * (cursor .lines - cursor .index) + min (cursor .length) 1
 
 slice-aggregate-begin : tie.Need-slice-aggregate-begin Inv-loop μ-loop
 slice-aggregate-begin c = search needs
@@ -45,13 +45,13 @@ array-share-prefix-line c =
     let lp = c .before .loop in
     omega (arith, lp .inv .0, line-within _ (lp .cursor) _ _ (lp .inv .1 .0) (lp .line) (lp .inv .1 .1))
 
-slice-aggregate-write-all : tie.Need-slice-aggregate-write-all Inv-loop μ-loop
-slice-aggregate-write-all c =
+slice-aggregate-write-between : tie.Need-slice-aggregate-write-between Inv-loop μ-loop
+slice-aggregate-write-between c =
     let lp = c .before .before .loop in
     sym (length-take-le (lp .cursor .length) (lp .line) (line-within _ (lp .cursor) _ _ (lp .inv .1 .0) (lp .line) (lp .inv .1 .1)))
 
-write-all-requires : tie.Need-write-all-requires Inv-loop μ-loop
-write-all-requires c κs = search needs
+write-between-requires : tie.Need-write-between-requires Inv-loop μ-loop
+write-between-requires c κs = search needs
 
 slice-aggregate-next : tie.Need-slice-aggregate-next Inv-loop μ-loop
 slice-aggregate-next c = search needs
@@ -76,8 +76,8 @@ loop-again c =
     let n = c .before .next in
     (omega (arith, lp .inv .0, n .kept .1 .1 .1 .0), (suc (lp .inv .1 .0), n .ensures _ (lp .inv .1 .0) (lp .inv .1 .1)))
 
-pub print-spec : {M : Type 1} → statement M
-print-spec =
+pub print-part-spec : {M : Type 1} → statement M
+print-part-spec =
     tie.close
     (tie.spec
     Inv-loop
@@ -89,8 +89,8 @@ print-spec =
     loop-holds
     returns
     array-share-prefix-line
-    slice-aggregate-write-all
-    write-all-requires
+    slice-aggregate-write-between
+    write-between-requires
     slice-aggregate-next
     slice-aggregate-next-2
     next-requires
