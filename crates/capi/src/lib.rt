@@ -4,7 +4,7 @@ use generator::Indexed;
 use generator::Listed;
 use shuffle::Shuffled;
 ghost use mathlib.Core.Path.{_≡_};
-ghost use Rattle.promises.specs.Calls.{ScratchKept};
+ghost use Rattle.promises.specs.Calls.{ShuffleKeeps};
 ghost use Rattle.promises.specs.Calls as promised;
 ghost use Rattle.capi.specs.Words.{numberOf, wordsOf, wordOf};
 
@@ -98,7 +98,7 @@ pub extern "C" fn wandukhai_shuffle(
     ensures { λ r. ⌜ r ≡ numberOf (promised.shuffle n (now (draws .entry)) (now (scratch .entry)) (now (out .entry))) ⌝ }
     ensures { λ _. ⌜ now (place .exit) ≡ wordOf (promised.shuffle n (now (draws .entry)) (now (scratch .entry)) (now (out .entry))) ⌝ }
     ensures { λ _. ⌜ now (out .exit) ≡ promised.shuffled n (now (draws .entry)) (now (scratch .entry)) (now (out .entry)) ⌝ }
-    ensures { λ _. ⌜ ScratchKept (promised.shuffle n (now (draws .entry)) (now (scratch .entry)) (now (out .entry))) (now (draws .entry)) (now (scratch .entry)) (now (scratch .exit)) ⌝ }
+    ensures { λ _. ⌜ ShuffleKeeps n (now (draws .entry)) (now (scratch .entry)) (now (out .entry)) (now (scratch .exit)) ⌝ }
 {
     let shuffled = generator::shuffle_indices(n, draws, scratch, out);
     match shuffled {

@@ -7,7 +7,7 @@ ghost use mathlib.Core.Path.{_≡_};
 ghost use Prim.Native.Nat.{_*_, _≤_};
 ghost use lib.ListN.{length};
 ghost use Rattle.rig.specs.Record.{recordAutomaton};
-ghost use Rattle.promises.specs.Calls.{filled, firstBad, notBelow, ScratchKept};
+ghost use Rattle.promises.specs.Calls.{filled, firstBad, notBelow, ShuffleKeeps};
 ghost use Rattle.promises.specs.Calls as promised;
 ghost use Rattle.checks.specs.Loading.{Fits};
 ghost use Rattle.ranking.specs.Ranks.{EventsBelow};
@@ -170,7 +170,7 @@ pub fn index(text: &[u8], sequence: &[u8], cells: &mut [u64]) -> Indexed
 pub fn shuffle_indices(n: u64, draws: &[u64], scratch: &mut [u64], out: &mut [u64]) -> Shuffled
     ensures { λ r. ⌜ shuffleAnswer r ≡ promised.shuffle n (now (draws .entry)) (now (scratch .entry)) (now (out .entry)) ⌝ }
     ensures { λ r. ⌜ now (out .exit) ≡ promised.shuffled n (now (draws .entry)) (now (scratch .entry)) (now (out .entry)) ⌝ }
-    ensures { λ r. ⌜ ScratchKept (promised.shuffle n (now (draws .entry)) (now (scratch .entry)) (now (out .entry))) (now (draws .entry)) (now (scratch .entry)) (now (scratch .exit)) ⌝ }
+    ensures { λ _. ⌜ ShuffleKeeps n (now (draws .entry)) (now (scratch .entry)) (now (out .entry)) (now (scratch .exit)) ⌝ }
 {
     shuffle::shuffle(n, draws, scratch, out)
 }

@@ -6,7 +6,8 @@
 --   Leads s n d l           == the line d is now l, with s at its front, and n is the length of s
 --   Lists A x c cells table == the cells and the table serve the lines that c tells, for the automaton A from its start x
 --   Begins a A x h c d l .. == c tells the first line for the answer a, at the front of l; where lines follow it, they are served, for the horizon h
---   BeginsText t h old ..   == the same for what Count answers to the text t, with the cells as they were before
+--   BeginsRefused, BeginsCounted, BeginsText == the same for a refusal, for the automaton of a record, and for a text
+--   LeadsNext c .. n d l    == the line of c's next index is at the front of l
 --   Serves t c cells table  == the cells and the table serve the lines that c tells, for the text t
 --   StandsAt i k c .. l     == the line k of the listing for i stands at the front of l, and c tells what comes after it
 --   Stands, Moves           == c stands at some line; r stands at the line after it
@@ -21,7 +22,7 @@ use Rattle.lists.specs.Lists.{pick}
 use Rattle.automaton.specs.Automaton.{Automaton}
 use Rattle.automaton.specs.Pruning.{passes}
 use Rattle.automaton.specs.Counting.{N, most}
-use Rattle.promises.specs.Answer.{Answer, served}
+use Rattle.promises.specs.Answer.{Answer, served, refused}
 use Rattle.promises.specs.Rig.{rigAutomaton, start}
 use Rattle.promises.specs.Calls.{countRows, count}
 use Rattle.ranking.specs.Ranks.{Numbered, HoldsRows}
@@ -77,6 +78,18 @@ pub record Begins (a : Answer) (A : Automaton) (x h : ℕ) (c : Cursor) (line le
   -- beside a refusal horizon and states are fixed too
   pub idle : c .lines ≡ 0 → (c .horizon ≡ 0) × (c .states ≡ 1)
   pub serves : 0 < c .lines → (c .horizon ≡ h) × Lists A x c cells table
+
+-- the line `no`, whatever the automaton, the horizon, the cells and the table are
+abbrev pub BeginsRefused : ℕ → ℕ → Cursor → List ℕ → List ℕ → Type 0
+BeginsRefused number place c line left = (A : Automaton) (x h : ℕ) (cells table : List ℕ) → Begins (refused number place) A x h c line left cells table
+
+-- what Count answers from row 9 on, from state 0
+abbrev pub BeginsCounted : Automaton → ℕ → Cursor → List ℕ → List ℕ → List ℕ → List ℕ → Type 0
+BeginsCounted A h c line left cells table = Begins (countTold A h) A 0 h c line left cells table
+
+-- the line of the index that comes next, wherever the lines are served
+abbrev pub LeadsNext : Cursor → List ℕ → List ℕ → ℕ → List ℕ → List ℕ → Type 0
+LeadsNext c cells table n line left = (t : List ℕ) → Serves t c cells table → c .index < c .lines → Leads (scenarioLine t (c .horizon) (c .index)) n line left
 
 abbrev pub BeginsText : List ℕ → ℕ → List ℕ → Cursor → List ℕ → List ℕ → List ℕ → List ℕ → Type 0
 BeginsText t h old c line left cells table = Begins (count t h old) (rigAutomaton t) (start t) h c line left cells table

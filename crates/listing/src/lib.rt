@@ -11,16 +11,14 @@ ghost use Rattle.automaton.specs.Automaton.{Automaton};
 ghost use Rattle.automaton.specs.Counting.{N, most};
 ghost use Rattle.automaton.specs.Ranking.{unrank};
 ghost use Rattle.rig.specs.Record.{recordAutomaton};
-ghost use Rattle.promises.specs.Answer.{refused};
 ghost use Rattle.promises.specs.Text.{same};
-ghost use Rattle.promises.specs.Rig.{rigAutomaton, start};
 ghost use Rattle.promises.specs.Calls.{filled};
 ghost use Rattle.promises.specs.Calls as promised;
 ghost use Rattle.decoding.specs.Forms.{valueOf};
 ghost use Rattle.checks.specs.Loading.{Fits};
 ghost use Rattle.ranking.specs.Ranks.{Numbered, HoldsRows};
-ghost use Rattle.listing.specs.Listing.{askedIn, asked, cellsLeft, scenarioLine};
-ghost use Rattle.listing.specs.Printing.{askedAs, countTold, Buffers, WithinLimits, Leads, Begins, BeginsText, Serves, StandsAt, Stands, Moves};
+ghost use Rattle.listing.specs.Listing.{askedIn, asked, cellsLeft};
+ghost use Rattle.listing.specs.Printing.{askedAs, Buffers, WithinLimits, BeginsRefused, BeginsCounted, BeginsText, LeadsNext, StandsAt, Stands, Moves};
 
 // What the first line asks for: a horizon, with the place where the rig text begins; or it is no `ask` line.
 enum Asked {
@@ -84,7 +82,7 @@ fn ask(input: &[u8]) -> Asked
 // A listing that is refused: its only line, written at the front of `line`.
 fn refuse(number: u64, place: u64, line: &mut [u8]) -> Cursor
     requires { ⌜ 64 ≤ length (now line) ⌝ }
-    ensures { λ c. ⌜ ((A : Automaton) (x h : ℕ) (cells table : List ℕ) → Begins (refused number place) A x h c (now (line .entry)) (now (line .exit)) cells table) ⌝ }
+    ensures { λ c. ⌜ BeginsRefused number place c (now (line .entry)) (now (line .exit)) ⌝ }
 {
     Cursor {
         length: line::write_numbers(b"no", number, place, line),
@@ -113,7 +111,7 @@ fn begin_counted(
 ) -> Cursor
     requires { ⌜ Fits rig states h (length (now cells)) ⌝ }
     requires { ⌜ Buffers (now cells) (now table) (now line) ⌝ }
-    ensures { λ c. ⌜ Begins (countTold (recordAutomaton rig) h) (recordAutomaton rig) 0 h c (now (line .entry)) (now (line .exit)) (now (cells .exit)) (now (table .exit)) ⌝ }
+    ensures { λ c. ⌜ BeginsCounted (recordAutomaton rig) h c (now (line .entry)) (now (line .exit)) (now (cells .exit)) (now (table .exit)) ⌝ }
     ensures { λ _. ⌜ now (cells .exit) ≡ filled (recordAutomaton rig) h (now (cells .entry)) ⌝ }
 {
     let f = filling::fill_cells(rig, states, h, cells, table);
@@ -175,7 +173,7 @@ fn write_events(
 // Writes the line of the index that comes next at the front of `line`. Gives the line's length.
 fn write_next(c: Cursor, cells: &[u64], table: &[u16; 16384], line: &mut [u8]) -> usize
     requires { ⌜ WithinLimits c (length (now cells)) × (4021 ≤ length (now line)) ⌝ }
-    ensures { λ r. ⌜ ((t : List ℕ) → Serves t c (now (cells .entry)) (now (table .entry)) → c .index < c .lines → Leads (scenarioLine t (c .horizon) (c .index)) r (now (line .entry)) (now (line .exit))) ⌝ }
+    ensures { λ r. ⌜ LeadsNext c (now (cells .entry)) (now (table .entry)) r (now (line .entry)) (now (line .exit)) ⌝ }
 {
     let h = c.horizon;
     let mut events = [0u8; 1000];

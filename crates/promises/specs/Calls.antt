@@ -7,7 +7,7 @@
 --   count, scenarios, index, shuffle           == the answers
 --   countCells, scenariosCells, indexCells     == the cells afterwards
 --   written, shuffled                          == the output afterwards
---   ScratchKept        == what is known of the scratch afterwards: the one part that is left free
+--   ScratchKept, ShuffleKeeps == what is known of the scratch afterwards: the one part that is left free
 -- Checks go in the order of the table's rows: 1 to 6 (reading), 7, 8, 12, 13, 9, 10, 11, 14, 15. Assumes nothing.
 use mathlib.Core.Path.{_≡_}
 use mathlib.Core.Bool.{Bool, true, _||_}
@@ -151,3 +151,6 @@ shuffled n ds scratch out = outputAfter (shuffle n ds scratch out) (swapping.shu
 unfoldable pub ScratchKept : Answer → List ℕ → List ℕ → List ℕ → Type 0
 ScratchKept (served vs) ds scratch left = (length left ≡ length scratch) × (drop (2 * length ds) left ≡ drop (2 * length ds) scratch)
 ScratchKept (refused n p) ds scratch left = left ≡ scratch
+
+abbrev pub ShuffleKeeps : ℕ → List ℕ → List ℕ → List ℕ → List ℕ → Type 0
+ShuffleKeeps n ds scratch out left = ScratchKept (shuffle n ds scratch out) ds scratch left

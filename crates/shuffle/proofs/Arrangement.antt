@@ -6,6 +6,7 @@ use mathlib.Core.Bool.{Bool, true, false}
 use mathlib.Core.List.{List, _∷_, _++_, append-nil}
 use Prim.Native.Nat.{ℕ, zero, suc, _+_, _<_, _≤_, min}
 use native.Mathlib.Decide.{ℕ-discrete}
+use native.Mathlib.Nat.{mul-one}
 use native.Mathlib.Omega.{arith}
 use lib.ListN.{length, getD, drop, length-set, List·getD-append}
 use lib.Seq.{drop-cons, drop-length, append-snoc, getD-set-same, getD-set-other, drop-set-lt}
@@ -16,7 +17,7 @@ use Rattle.lists.proofs.Tests.{case, split}
 use Rattle.lists.proofs.Tables.{length-tabulate, getD-tabulate}
 use Rattle.automaton.specs.Shuffle.{swap, shuffleFrom, shuffle}
 use Rattle.automaton.proofs.Shuffle.{swap-first, swap-second, swap-other}
-use Rattle.shuffle.specs.Places.{arranged, drawn, latestStep, itself, moved, Held}
+use Rattle.shuffle.specs.Places.{arranged, drawn, latestStep, multiple, moved, Held}
 
 -- ---- the output
 
@@ -64,11 +65,11 @@ drawn-again ds i s h q = by-last ds (getD ds i 0) i h ∙ ap (numberBy ds (getD 
 
 -- ---- the places that the scratch holds
 
-pub held-first : (m : ℕ) (ds s : List ℕ) → Held m ds 0 (tabulate itself m ++ drop m s)
+pub held-first : (m : ℕ) (ds s : List ℕ) → Held m ds 0 (tabulate (multiple 1) m ++ drop m s)
 unfolding arranged
 held-first m ds s k h =
     let e : min 0 k ≡ 0 = omega arith in
-    rw e (List·getD-append (tabulate itself m) (drop m s) 0 k (rw length-tabulate h) ∙ getD-tabulate itself m k 0 h)
+    rw e (List·getD-append (tabulate (multiple 1) m) (drop m s) 0 k (rw length-tabulate h) ∙ getD-tabulate (multiple 1) m k 0 h ∙ mul-one k)
 
 -- a place from i on has the number now
 pub held-ahead : (m : ℕ) (ds s : List ℕ) (i k : ℕ) → Held m ds i s → k < m → i ≤ k → getD s k 0 ≡ arranged ds i k

@@ -5,7 +5,7 @@ use mathlib.Core.Logic.{_≢_, _⊎_, inl, inr}
 use mathlib.Core.Bool.{Bool, true, false}
 use mathlib.Core.List.{List, _++_}
 use Prim.Native.Nat.{ℕ, zero, suc, _+_, _*_, _-_, _<_, _≤_}
-use native.Mathlib.Nat.{not-suc-le-zero, eq-or-lt-of-le, le-of-suc-le-suc}
+use native.Mathlib.Nat.{not-suc-le-zero, eq-or-lt-of-le, le-of-suc-le-suc, mul-zero}
 use native.Mathlib.Numerals.{add-one}
 use native.Mathlib.Omega.{arith}
 use lib.ListN.{length, getD, set, drop, length-set, length-append, length-drop, List·getD-append}
@@ -17,7 +17,7 @@ use Rattle.lists.proofs.Tests.{case, contra, and-left, and-right, and-intro}
 use Rattle.lists.proofs.Tables.{length-tabulate, getD-tabulate}
 use Rattle.automaton.specs.Shuffle.{Valid}
 use Rattle.shuffle.specs.Buckets.{bucketOf}
-use Rattle.shuffle.specs.Places.{latestStep, inBucket, nought, itself, chained, moved, Linked, Ready, Kept}
+use Rattle.shuffle.specs.Places.{latestStep, inBucket, multiple, chained, moved, Linked, Ready, Kept}
 use Rattle.shuffle.proofs.Mixing.{bucket-below}
 use Rattle.shuffle.proofs.Draws.{valid-at, valid-few}
 use Rattle.shuffle.proofs.Arrangement.{moved-other, length-moved, drop-moved}
@@ -119,11 +119,11 @@ pub record Chains (ds : List ℕ) (i : ℕ) (s : List ℕ) : Type 0 where
   pub heads : (b : ℕ) → b < length ds → getD s b 0 ≡ latestStep (inBucket (length ds) b) ds i
   pub links : (j : ℕ) → j < i → length ds ≤ getD ds j 0 → getD s (length ds + j) 0 ≡ latestStep (inBucket (length ds) (bucketOf (length ds) (getD ds j 0))) ds j
 
-pub chains-first : (ds s : List ℕ) → Chains ds 0 (tabulate nought (length ds) ++ drop (length ds) s)
+pub chains-first : (ds s : List ℕ) → Chains ds 0 (tabulate (multiple 0) (length ds) ++ drop (length ds) s)
 unfolding latestStep
 chains-first ds s =
     record {
-      heads = λ b h. List·getD-append (tabulate nought (length ds)) (drop (length ds) s) 0 b (rw length-tabulate h) ∙ getD-tabulate nought (length ds) b 0 h;
+      heads = λ b h. List·getD-append (tabulate (multiple 0) (length ds)) (drop (length ds) s) 0 b (rw length-tabulate h) ∙ getD-tabulate (multiple 0) (length ds) b 0 h ∙ mul-zero b;
       links = λ j h k. absurd (not-suc-le-zero h);
     }
 
@@ -209,17 +209,17 @@ chains-linked ds s l c = record { room = λ i h f. omega arith; link = λ i h f.
 -- ---- links are kept
 
 -- the places below m are overwritten
-linked-counted : (m : ℕ) (ds s : List ℕ) → m ≤ length s → Linked m ds s → Linked m ds (tabulate itself m ++ drop m s)
+linked-counted : (m : ℕ) (ds s : List ℕ) → m ≤ length s → Linked m ds s → Linked m ds (tabulate (multiple 1) m ++ drop m s)
 linked-counted m ds s l k =
     record {
       room = λ i h f. rw (length-append, length-tabulate, length-drop) (let r = k .room i h f in omega arith);
       link = λ i h f. past i ∙ k .link i h f;
     }
   where
-    past : (i : ℕ) → getD (tabulate itself m ++ drop m s) (m + i) 0 ≡ getD s (m + i) 0
+    past : (i : ℕ) → getD (tabulate (multiple 1) m ++ drop m s) (m + i) 0 ≡ getD s (m + i) 0
     past i =
-        ap (λ (n : ℕ). getD (tabulate itself m ++ drop m s) (n + i) 0) (sym (length-tabulate itself m))
-        ∙ getD-append-add (tabulate itself m) (drop m s) i 0
+        ap (λ (n : ℕ). getD (tabulate (multiple 1) m ++ drop m s) (n + i) 0) (sym (length-tabulate (multiple 1) m))
+        ∙ getD-append-add (tabulate (multiple 1) m) (drop m s) i 0
         ∙ getD-drop m s i 0
 
 pub linked-moved : (m i d : ℕ) (ds s : List ℕ) → Linked m ds s → Linked m ds (moved m i d s)
@@ -264,11 +264,11 @@ ready-all n ds s a b v =
     none : (i : ℕ) → i < length ds → n ≤ getD ds i 0 → ⊥
     none i h f = let r = valid-at n 0 ds v i h .1 in omega arith
 
-pub ready-counted : (m : ℕ) (ds s : List ℕ) → Ready m ds s → Ready m ds (tabulate itself m ++ drop m s)
+pub ready-counted : (m : ℕ) (ds s : List ℕ) → Ready m ds s → Ready m ds (tabulate (multiple 1) m ++ drop m s)
 ready-counted m ds s r =
     let wide = r .wide in
     let small = r .small in
-    let k = kept-filled itself m ds s (r .small) (omega arith) .long in
+    let k = kept-filled (multiple 1) m ds s (r .small) (omega arith) .long in
     record { near = r .near; small = r .small; wide = omega arith; linked = linked-counted m ds s (omega arith) (r .linked) }
 
 pub kept-same : (ds s : List ℕ) → Kept ds s s

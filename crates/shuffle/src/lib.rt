@@ -11,10 +11,10 @@ ghost use lib.ListN.{getD, length, drop};
 ghost use lib.Dec.{eqb};
 ghost use Rattle.lists.specs.Lists.{tabulate};
 ghost use Rattle.automaton.specs.Shuffle.{Valid, shuffle as swapped};
-ghost use Rattle.promises.specs.Calls.{firstBad, badDraw, shuffle as promised, shuffled as promisedOutput, ScratchKept};
+ghost use Rattle.promises.specs.Calls.{firstBad, badDraw, shuffle as promised, shuffled as promisedOutput, ShuffleKeeps};
 ghost use Rattle.shuffle.specs.Outcome.{answerOf};
 ghost use Rattle.shuffle.specs.Buckets.{spread, bucketOf};
-ghost use Rattle.shuffle.specs.Places.{drawn, latestStep, nought, itself, chained, moved, Linked, Held, Ready, Kept};
+ghost use Rattle.shuffle.specs.Places.{drawn, latestStep, multiple, chained, moved, Linked, Walkable, Held, Ready, Kept};
 
 // Served, or refused with a number and a place.
 pub enum Shuffled {
@@ -27,7 +27,7 @@ pub enum Shuffled {
 pub fn shuffle(n: u64, draws: &[u64], scratch: &mut [u64], out: &mut [u64]) -> Shuffled
     ensures { λ r. ⌜ answerOf r ≡ promised n (now (draws .entry)) (now (scratch .entry)) (now (out .entry)) ⌝ }
     ensures { λ r. ⌜ now (out .exit) ≡ promisedOutput n (now (draws .entry)) (now (scratch .entry)) (now (out .entry)) ⌝ }
-    ensures { λ r. ⌜ ScratchKept (promised n (now (draws .entry)) (now (scratch .entry)) (now (out .entry))) (now (draws .entry)) (now (scratch .entry)) (now (scratch .exit)) ⌝ }
+    ensures { λ _. ⌜ ShuffleKeeps n (now (draws .entry)) (now (scratch .entry)) (now (out .entry)) (now (scratch .exit)) ⌝ }
 {
     let z = draws.len();
     if scratch.len() / 2 < z {
@@ -67,7 +67,7 @@ fn serve(n: u64, draws: &[u64], scratch: &mut [u64], out: &mut [u64])
     ensures { λ _. ⌜ Kept (now (draws .entry)) (now (scratch .entry)) (now (scratch .exit)) ⌝ }
 {
     let reach = prepare(n, draws, scratch);
-    count_up(scratch, reach);
+    put_multiples(scratch, reach, 1);
     swap_all(draws, scratch, reach, out);
 }
 
@@ -92,7 +92,7 @@ fn chain_all(draws: &[u64], scratch: &mut [u64])
     ensures { λ _. ⌜ Kept (now (draws .entry)) (now (scratch .entry)) (now (scratch .exit)) ⌝ }
 {
     let z = draws.len();
-    clear(scratch, z);
+    put_multiples(scratch, z, 0);
     for i in 0..z {
         chain(scratch, z, i, draws[i]);
     }
@@ -136,23 +136,13 @@ fn at_most_word(x: u64) -> u64
     if x < 4294967296 { x } else { 4294967296 }
 }
 
-// 0 at each of the first m places.
-fn clear(scratch: &mut [u64], m: usize)
-    requires { ⌜ m ≤ length (now scratch) ⌝ }
-    ensures { λ _. ⌜ now (scratch .exit) ≡ tabulate nought m ++ drop m (now (scratch .entry)) ⌝ }
+// 0, step, 2 × step and so on at the first m places: all 0, or each place its own number.
+fn put_multiples(scratch: &mut [u64], m: usize, step: u64)
+    requires { ⌜ (m ≤ length (now scratch)) × (step ≤ 1) ⌝ }
+    ensures { λ _. ⌜ now (scratch .exit) ≡ tabulate (multiple step) m ++ drop m (now (scratch .entry)) ⌝ }
 {
     for k in 0..m {
-        scratch[k] = 0;
-    }
-}
-
-// Its own number at each of the first m places.
-fn count_up(scratch: &mut [u64], m: usize)
-    requires { ⌜ m ≤ length (now scratch) ⌝ }
-    ensures { λ _. ⌜ now (scratch .exit) ≡ tabulate itself m ++ drop m (now (scratch .entry)) ⌝ }
-{
-    for k in 0..m {
-        scratch[k] = k as u64;
+        scratch[k] = k as u64 * step;
     }
 }
 
@@ -189,7 +179,7 @@ fn number_at(draws: &[u64], scratch: &[u64], reach: usize, i: usize) -> u64
 
 // One more than the last step before step i that has the same draw, or 0 where there is none.
 fn last_step(draws: &[u64], scratch: &[u64], reach: usize, i: usize) -> usize
-    requires { ⌜ (i < length (now draws)) × (reach ≤ getD (now draws) i 0) × (reach + length (now draws) ≤ length (now scratch)) × Linked reach (now draws) (now scratch) ⌝ }
+    requires { ⌜ Walkable reach (now draws) i (now scratch) ⌝ }
     ensures { λ r. ⌜ r ≡ latestStep (eqb (getD (now (draws .entry)) i 0)) (now (draws .entry)) i ⌝ }
 {
     let d = draws[i];

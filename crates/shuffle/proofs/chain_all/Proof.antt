@@ -5,7 +5,7 @@ use Prim.Native.Nat.{_-_, _*_, _≤_}
 use native.Mathlib.Omega.{arith}
 use lib.ListN.{length, getD}
 use borrow.Author.Needs.{needs}
-use Rattle.shuffle.specs.Places.{nought, chained, Kept}
+use Rattle.shuffle.specs.Places.{multiple, chained, Kept}
 use Rattle.shuffle.proofs.Chains.{Chains, chains-first, chains-more, chains-linked, kept-trans, kept-filled, kept-chained}
 use Rattle.shuffle.proofs.chain_all.Statement.{statement}
 use Rattle.shuffle.proofs.chain_all.Tie as tie
@@ -17,13 +17,13 @@ Inv-loop draws scratch₀ z i₀ scratch i =
 abbrev μ-loop : tie.MeasureT-loop
 μ-loop draws scratch₀ z i₀ scratch i = length draws - i
 
-clear-requires : tie.Need-clear-requires Inv-loop μ-loop
-clear-requires c κs = search needs
+put-multiples-requires : tie.Need-put-multiples-requires Inv-loop μ-loop
+put-multiples-requires c κs = search needs
 
 loop-holds : tie.Need-loop-holds Inv-loop μ-loop
 loop-holds c =
     let st = c .before .before .before .before .before .before in
-    let k = c .before .before .clear in
+    let k = c .before .before .put-multiples in
     (omega arith, omega (arith, k .kept .0), record { long = refl; rest = refl }, rw (k .ensures) (chains-first (st .args .draws .now) (st .args .scratch .now)))
 
 mul-chain : tie.Need-mul-chain Inv-loop μ-loop
@@ -53,7 +53,7 @@ loop-again c =
     let d = getD ds (lp .i) 0 in (
       omega arith,
       omega (arith, k .kept .0),
-      rw (k .ensures) (kept-trans ds (c .before .before .before .before .before .before .before .before .before .clear .last .0) (lp .scratch) (chained (length ds) (lp .i) d (lp .scratch)) (lp .inv .2) (kept-chained ds (lp .scratch) (lp .i) d h)),
+      rw (k .ensures) (kept-trans ds (c .before .before .before .before .before .before .before .before .before .put-multiples .last .0) (lp .scratch) (chained (length ds) (lp .i) d (lp .scratch)) (lp .inv .2) (kept-chained ds (lp .scratch) (lp .i) d h)),
       rw (k .ensures) (chains-more ds (lp .scratch) (lp .i) h (lp .inv .1) (lp .inv .3)),
     )
 
@@ -64,12 +64,12 @@ returns : tie.Need-returns Inv-loop μ-loop
 returns c =
     let st = c .before .before .before .before .before .before .before .before in
     let lp = c .before .loop in
-    let k = c .before .before .before .before .clear in
+    let k = c .before .before .before .before .put-multiples in
     let ds = st .args .draws .now in
     let s = st .args .scratch .now in
     let e : lp .i ≡ length ds = omega arith in
     let chains : Chains ds (length ds) (lp .scratch) = rw e at (lp .inv .3) in
-    let first : Kept ds s (k .last .0) = rw (k .ensures) (kept-filled nought (length ds) ds s (omega arith) (omega arith)) in
+    let first : Kept ds s (k .last .0) = rw (k .ensures) (kept-filled (multiple 0) (length ds) ds s (omega arith) (omega arith)) in
     (chains-linked ds (lp .scratch) (lp .inv .1) chains, kept-trans ds s (k .last .0) (lp .scratch) first (lp .inv .2))
 
 pub chain-all-spec : {M : Type 1} → statement M
@@ -78,7 +78,7 @@ chain-all-spec =
     (tie.spec
     Inv-loop
     μ-loop
-    clear-requires
+    put-multiples-requires
     loop-holds
     mul-chain
     shared-slice-read-chain
