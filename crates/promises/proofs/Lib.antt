@@ -10,3 +10,5 @@ pub mod Examples
 pub mod Starred
 pub mod Refusals
 pub mod Buffers
+pub mod Known
+pub mod Wrong

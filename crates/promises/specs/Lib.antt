@@ -12,3 +12,4 @@ pub mod Buffers
 pub mod Generator
 pub mod Examples
 pub mod Starred
+pub mod Wrong
