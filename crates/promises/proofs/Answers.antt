@@ -18,8 +18,6 @@ use Rattle.lists.proofs.Members.{getD-in}
 use Rattle.lists.proofs.Ordered.{range-in}
 use Rattle.lists.proofs.Distinct.{in-place, same-length, once-distinct}
 use Rattle.lists.proofs.Blocks.{block-at}
-use Rattle.automaton.specs.Automaton as automaton
-use Rattle.automaton.specs.Automaton.{Automaton}
 use Rattle.automaton.specs.Pruning.{passes, live}
 use Rattle.automaton.specs.Counting as counting
 use Rattle.automaton.specs.Counting.{Stays, most}

@@ -221,7 +221,7 @@ scratch-left (served vs) ds scratch left = (
   λ (long, rest). record { long = long; past = λ k le. same rest k le; untouched = λ u. absurd (u (vs, refl)) },
   λ l. (
     l .long,
-    ext-getD 0 (drop (2 * length ds) left) (drop (2 * length ds) scratch) (rw (length-drop, length-drop, l .long)) (λ i lt. getD-drop (2 * length ds) left i 0 ∙ l .past (2 * length ds + i) (omega arith) ∙ sym (getD-drop (2 * length ds) scratch i 0)),
+    ext-getD 0 (drop (2 * length ds) left) (drop (2 * length ds) scratch) (rw (length-drop (2 * length ds) left, length-drop (2 * length ds) scratch, l .long)) (λ i lt. getD-drop (2 * length ds) left i 0 ∙ l .past (2 * length ds + i) (omega arith) ∙ sym (getD-drop (2 * length ds) scratch i 0)),
   ),
 )
   where

@@ -2,6 +2,7 @@
 pub mod Lines
 pub mod Reading
 pub mod Meaning
+pub mod Order
 pub mod Checks
 pub mod Answers
 pub mod Demand3

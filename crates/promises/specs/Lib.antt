@@ -2,6 +2,7 @@
 pub mod Answer
 pub mod Text
 pub mod Meaning
+pub mod Order
 pub mod Reading
 pub mod Rig
 pub mod Calls
