@@ -11,5 +11,6 @@ pub mod Examples
 pub mod Starred
 pub mod Refusals
 pub mod Buffers
+pub mod Shapes
 pub mod Known
 pub mod Wrong

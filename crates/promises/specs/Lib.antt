@@ -11,6 +11,7 @@ pub mod Demand2
 pub mod Refusals
 pub mod Buffers
 pub mod Generator
+pub mod Shapes
 pub mod Examples
 pub mod Starred
 pub mod Wrong
