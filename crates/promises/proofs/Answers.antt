@@ -34,7 +34,7 @@ use Rattle.promises.specs.Rig.{rigAutomaton, start}
 use Rattle.promises.specs.Calls.{unlessAt, outputAfter, total, counted, count, scenarios, written, index, badDraw, shuffle, shuffled}
 use Rattle.promises.specs.Demand3.{Once, ValidDraws, block}
 use Rattle.promises.proofs.Meaning.{rig-events, events-distinct, text-belongs}
-use Rattle.promises.proofs.Checks.{checked-list, sized-on, counted-none, counted-most, counted-on, says-none}
+use Rattle.promises.proofs.Checks.{checked-list, check-passed, sized-on, counted-none, counted-most, counted-on, says-none}
 
 pub served-none : (vs : List ℕ) → SaysNone (served vs) → ⊥
 unfolding SaysNone
@@ -66,7 +66,7 @@ module _ (t : List ℕ) (h : ℕ) (r : Readable t) (c7 : Case7 h → ⊥) where
   pub scenarios-is : (is cells out : List ℕ) → (Case8 t h cells → ⊥) → (Case12 h is out → ⊥)
       → scenarios t h is cells out ≡ counted t h (unlessAt 11 (λ p i. leb (total t h) i) is (served []))
   unfolding scenarios Case12
-  scenarios-is is cells out c8 c12 = sized-on t h cells _ r c7 c8 ∙ rw (tells-false (tells-lt (length out) (length is * h)) c12)
+  scenarios-is is cells out c8 c12 = sized-on t h cells _ r c7 c8 ∙ check-passed 12 0 (ltb (length out) (length is * h)) _ (tells-false (tells-lt (length out) (length is * h)) c12)
 
   pub list-none : (is : List ℕ) → SaysNone (unlessAt 11 (λ p i. leb (total t h) i) is (served [])) → ⊥
   list-none is s = ⊎-elim (λ (q, g). served-none [] (rw q at s)) (λ (k, lt, q, b, g). refused-none 11 k (omega arith) (rw q at s)) (checked-list 11 (λ p i. leb (total t h) i) is (served []))
