@@ -1,11 +1,10 @@
 -- A C caller reads the answer.
 -- Why: no refusal has the number 0, and a served call tells as many values as it has words for. Assumes nothing.
 use mathlib.Core.Path.{_≡_, refl}
-use mathlib.Core.Logic.{_↔_, _≢_}
-use mathlib.Core.List.{List, [], _∷_}
+use mathlib.Core.Logic.{_↔_}
+use mathlib.Core.List.{[], _∷_}
 use Prim.Native.Nat.{ℕ, zero, suc}
 use native.Mathlib.Omega.{arith}
-use lib.ListN.{length}
 use Rattle.promises.specs.Answer.{Answer, served, refused, Served, Refuses}
 use Rattle.promises.specs.Generator.{generator}
 use Rattle.promises.specs.Shapes.{Shaped}

@@ -33,7 +33,7 @@ use Rattle.promises.specs.Examples.{A, B, one-state, full-cell}
 use Rattle.promises.specs.Starred.{lent}
 use Rattle.promises.specs.Wrong.{copiesIndex0, untouchedOutput, fillsFirstOnly, refusesAll, admitted, noneBeforePruning, eightOfCells, eightOfScratch, twelveOfBytes, twelveOfNumbers, tenOfAnyCell, countsAdmitted, withPasses, lastPassMissing, passesWithin, prunesWithin, forgetsSwaps, PassesTold, Rejected}
 use Rattle.promises.proofs.Meaning.{rig-states, rig-start}
-use Rattle.promises.proofs.Checks.{sized-on, counted-on}
+use Rattle.promises.proofs.Checks.{check-failed, sized-on, counted-on}
 use Rattle.promises.proofs.Answers.{served-none, refused-none, scenarioOf, block-written, shuffle-served, count-told}
 use Rattle.promises.proofs.Buffers.{refused-serves}
 use Rattle.promises.proofs.Demand3.{demand-3}
@@ -134,33 +134,36 @@ none-rejected d = says (d .none one-state 0 (s .readable) (s .horizon) .by-count
         let m = rw (sized-on one-state 0 (lent 1) _ (s .readable) (s .horizon) (s .room), one-admitted) at n in
         case (leb most (total one-state 0)) (λ q. refused-none 10 0 (omega arith) (rw q at m)) (λ q. served-none _ (rw q at m))
 
-cells-rejected : Demand eightOfCells → ⊥
-unfolding eightOfCells Cells Case8
-cells-rejected d = go (whole A 3 5 (lent 8) known-A eightOfCells d)
-  where
-    enough : List ℕ
-    enough = lent ((3 + 1) * jointStates A)
+module _ (more : ℕ) where
+  cells-rejected : Demand (eightOfCells more) → ⊥
+  unfolding eightOfCells Cells Case8
+  cells-rejected d = go (whole A 3 5 (lent 8) known-A (eightOfCells more) d)
+    where
+      enough : List ℕ
+      enough = lent ((3 + 1) * jointStates A)
 
-    long : length enough ≡ (3 + 1) * jointStates A
-    long = length-replicate {A = ℕ} ((3 + 1) * jointStates A) 7
+      long : length enough ≡ (3 + 1) * jointStates A
+      long = length-replicate {A = ℕ} ((3 + 1) * jointStates A) 7
 
-    go : (L : List (List ℕ)) × (length L ≡ 5) × Whole eightOfCells A 3 L → ⊥
-    go (L, e, w) =
-        let (k, q) = w .counted enough (λ c. omega (arith, long)) in
-        let r : refused 8 0 ≡ served (length L ∷ k ∷ []) = rw (tells-true (tells-le (length enough) ((3 + 1) * jointStates A)) (omega (arith, long))) at q in
-        let z : _≡_ {A = ℕ} 0 1 = cc in
-        omega arith
+      go : (L : List (List ℕ)) × (length L ≡ 5) × Whole (eightOfCells more) A 3 L → ⊥
+      go (L, e, w) =
+          let (k, q) = w .counted enough (λ c. omega (arith, long)) in
+          let r : refused 8 0 ≡ served (length L ∷ k ∷ []) = sym (check-failed 8 0 _ _ (tells-true (tells-le (length enough) ((3 + 1) * jointStates A + more)) (omega (arith, long)))) ∙ q in
+          let z : _≡_ {A = ℕ} 0 1 = cc in
+          omega arith
 
-bytes-rejected : Demand twelveOfBytes → ⊥
-unfolding twelveOfBytes Cells Room Case12
-bytes-rejected d = go (whole A 3 5 (lent 8) known-A twelveOfBytes d)
-  where
-    go : (L : List (List ℕ)) × (length L ≡ 5) × Whole twelveOfBytes A 3 L → ⊥
-    go (L, e, w) = refused-serves 12 0 (w .listed (0 ∷ []) (lent 8) (lent 3) (known-A .fits .room) (λ c. omega arith) below)
-      where
-        below : (i : ℕ) → In i (0 ∷ []) → i < length L
-        below i (here q) = omega arith
-        below i (there m) = absurd (List·Memᴰ·not-nil m)
+  bytes-rejected : Demand (twelveOfBytes more) → ⊥
+  unfolding twelveOfBytes Cells Room Case12
+  bytes-rejected d = go (whole A 3 5 (lent 8) known-A (twelveOfBytes more) d)
+    where
+      go : (L : List (List ℕ)) × (length L ≡ 5) × Whole (twelveOfBytes more) A 3 L → ⊥
+      go (L, e, w) =
+          let s = w .listed (0 ∷ []) (lent 8) (lent 3) (known-A .fits .room) (λ c. omega arith) below in
+          refused-serves 12 0 (rw (tells-true (tells-le 3 (1 * 3 + more)) (omega arith)) at s)
+        where
+          below : (i : ℕ) → In i (0 ∷ []) → i < length L
+          below i (here q) = omega arith
+          below i (there m) = absurd (List·Memᴰ·not-nil m)
 
 -- ---- the shuffle
 
@@ -193,13 +196,13 @@ full C d = go (whole A 3 5 (lent 8) known-A C d)
           differ = λ is q. let (l, r, a, b, c) = f is (rw e q) in (r, λ same. let z : _≡_ {A = ℕ} 0 1 = c 0 1 (omega arith) (omega arith) same in omega arith);
         }
 
-scratch-rejected : Demand eightOfScratch → ⊥
+scratch-rejected : (more : ℕ) → Demand (eightOfScratch more) → ⊥
 unfolding eightOfScratch
-scratch-rejected d = refused-serves 8 0 (full eightOfScratch d .serves)
+scratch-rejected more d = refused-serves 8 0 (rw (tells-true (tells-le 10 (2 * 5 + more)) (omega arith)) at (full (eightOfScratch more) d .serves))
 
-numbers-rejected : Demand twelveOfNumbers → ⊥
+numbers-rejected : (more : ℕ) → Demand (twelveOfNumbers more) → ⊥
 unfolding twelveOfNumbers
-numbers-rejected d = refused-serves 12 0 (full twelveOfNumbers d .serves)
+numbers-rejected more d = refused-serves 12 0 (rw (tells-true (tells-le 5 (5 + more)) (omega arith)) at (full (twelveOfNumbers more) d .serves))
 
 -- where swaps are forgotten draws 4 4 .. put out 4 4 ..
 forgotten : (m : ℕ) → m ≤ 5 → (scratch o : List ℕ) → (Case8·scratch (fours m) scratch → ⊥) → (Case12·draws (fours m) o → ⊥) → take m (forgetsSwaps .shuffled 5 (fours m) scratch o) ≡ fours m
@@ -226,14 +229,20 @@ swaps-rejected-3 d =
 
 -- ---- counts
 
+admitted-told : countsAdmitted .count B 1 (lent 8) ≡ served (2 ∷ 3 ∷ [])
+unfolding countsAdmitted most
+admitted-told =
+    sized-on B 1 (lent 8) _ (known-B .fits .readable) (known-B .fits .horizon) (known-B .fits .room)
+    ∙ rw (values .B-admitted, told B 1 (lent 8) 1 3 (starred .b-1) .passes-is)
+
 admitted-rejected : Demand countsAdmitted → ⊥
-unfolding countsAdmitted Cells most
+unfolding Cells
 admitted-rejected d = go (whole B 1 1 (lent 8) known-B countsAdmitted d)
   where
     go : (L : List (List ℕ)) × (length L ≡ 1) × Whole countsAdmitted B 1 L → ⊥
     go (L, e, w) =
         let (k, q) = w .counted (lent 8) (known-B .fits .room) in
-        let r : served (2 ∷ passes (rigAutomaton B) ∷ []) ≡ served (length L ∷ k ∷ []) = rw (sized-on B 1 (lent 8) _ (known-B .fits .readable) (known-B .fits .horizon) (known-B .fits .room), values .B-admitted) at q in
+        let r : served (2 ∷ 3 ∷ []) ≡ served (length L ∷ k ∷ []) = sym admitted-told ∙ q in
         let z : _≡_ {A = ℕ} 2 (length L) = cc in
         omega arith
 
@@ -294,6 +303,7 @@ rejected = record {
   last-pass-missing = λ d.
       let q : passes (rigAutomaton A) - 1 ≡ 1 = passes-rejected (λ M. passes M - 1) d A 3 (lent 8) 5 1 (starred .a-3) in
       omega (arith, told A 3 (lent 8) 5 1 (starred .a-3) .passes-is);
+  would-give-2 = admitted-told;
   counts-admitted = admitted-rejected;
   ten-of-any-cell = ten-rejected;
   forgets-swaps-2 = swaps-rejected-2;

@@ -25,6 +25,8 @@ use Rattle.promises.specs.Demand3.{Calls, Demand}
 use Rattle.promises.specs.Demand2.{Demand2}
 use Rattle.promises.specs.Refusals.{Sized}
 use Rattle.promises.specs.Generator.{generator}
+use Rattle.promises.specs.Examples.{B}
+use Rattle.promises.specs.Starred.{lent}
 
 -- ---- one change
 
@@ -118,18 +120,19 @@ noneBeforePruning = withCount (λ t h cells.
     (unless 10 0 (leb most (total t h))
     (served (total t h ∷ passes (rigAutomaton t) ∷ [])))))
 
--- 'refusal 8 or 12 said of buffers long enough': of buffers that have just the length asked for
-unfoldable pub eightOfCells : Calls
-eightOfCells = withCount (λ t h cells. unless 8 0 (leb (length cells) ((h + 1) * jointStates t)) (calls.count t h cells))
+-- 'refusal 8 or 12 said of buffers long enough': `more` elements, and one, are asked for beyond what 01 asks
+module _ (more : ℕ) where
+  unfoldable pub eightOfCells : Calls
+  eightOfCells = withCount (λ t h cells. unless 8 0 (leb (length cells) ((h + 1) * jointStates t + more)) (calls.count t h cells))
 
-unfoldable pub eightOfScratch : Calls
-eightOfScratch = withShuffle (λ n ds scratch out. unless 8 0 (leb (length scratch) (2 * length ds)) (calls.shuffle n ds scratch out))
+  unfoldable pub eightOfScratch : Calls
+  eightOfScratch = withShuffle (λ n ds scratch out. unless 8 0 (leb (length scratch) (2 * length ds + more)) (calls.shuffle n ds scratch out))
 
-unfoldable pub twelveOfBytes : Calls
-twelveOfBytes = withScenarios (λ t h is cells out. unless 12 0 (leb (length out) (length is * h)) (calls.scenarios t h is cells out))
+  unfoldable pub twelveOfBytes : Calls
+  twelveOfBytes = withScenarios (λ t h is cells out. unless 12 0 (leb (length out) (length is * h + more)) (calls.scenarios t h is cells out))
 
-unfoldable pub twelveOfNumbers : Calls
-twelveOfNumbers = withShuffle (λ n ds scratch out. unless 12 0 (leb (length out) (length ds)) (calls.shuffle n ds scratch out))
+  unfoldable pub twelveOfNumbers : Calls
+  twelveOfNumbers = withShuffle (λ n ds scratch out. unless 12 0 (leb (length out) (length ds + more)) (calls.shuffle n ds scratch out))
 
 -- 'Refusing 10 because a cell is full that no scenario passes': because any cell is full
 unfoldable pub tenOfAnyCell : Calls
@@ -203,15 +206,16 @@ pub record Rejected : Type 0 where
   -- ''none' said before pruning (3)'
   pub none-before-pruning : Demand noneBeforePruning → ⊥
   -- 'refusal 8 or 12 said of buffers long enough (3)'
-  pub eight-of-cells : Demand eightOfCells → ⊥
-  pub eight-of-scratch : Demand eightOfScratch → ⊥
-  pub twelve-of-bytes : Demand twelveOfBytes → ⊥
-  pub twelve-of-numbers : Demand twelveOfNumbers → ⊥
+  pub eight-of-cells : (more : ℕ) → Demand (eightOfCells more) → ⊥
+  pub eight-of-scratch : (more : ℕ) → Demand (eightOfScratch more) → ⊥
+  pub twelve-of-bytes : (more : ℕ) → Demand (twelveOfBytes more) → ⊥
+  pub twelve-of-numbers : (more : ℕ) → Demand (twelveOfNumbers more) → ⊥
   -- 'passes not those of the sets (a)': one number has the sentence's property, and the generator tells it
   pub passes-unique : (A : Automaton) (n : ℕ) → LastPass A n → n ≡ passes A
   pub passes-told : PassesTold generator
   pub last-pass-missing : PassesTold lastPassMissing → ⊥
   -- 'Mistakes this bench has a use for knowing': 'Counting whatever is admitted up to h: B at h 1 would give 2.'
+  pub would-give-2 : countsAdmitted .count B 1 (lent 8) ≡ served (2 ∷ 3 ∷ [])
   pub counts-admitted : Demand countsAdmitted → ⊥
   -- 'Refusing 10 because a cell is full that no scenario passes.'
   pub ten-of-any-cell : Demand tenOfAnyCell → ⊥
