@@ -1,9 +1,17 @@
 -- The wrong generators that paper 01 names, each the generator with one answer or output changed, and the demand that rejects each.
---   with… f              == the generator, but one call answers or leaves what f says
---   admitted A r x       == how many sequences of r events are admitted from x, nothing pruned
---   passesWithin A       == the passes, where a pass prunes by its own removals
---   PassesTold C         == the passes that Count tells are those of the sets
---   Rejected             == each wrong generator is rejected
+--   withCount f, withScenarios f, withWritten f, withShuffle f, withShuffled f == the generator, but one call answers or leaves what f says
+--   copiesIndex0, untouchedOutput, fillsFirstOnly == Scenarios writes something else
+--   refusesAll n p                                == every call refuses, with n and p
+--   noneBeforePruning                             == 9 is said by what is admitted, nothing pruned
+--   eightOfCells, eightOfScratch m                == 8 is said of buffers long enough, up to m beyond what is asked
+--   twelveOfBytes, twelveOfNumbers m              == 12 is
+--   tenOfAnyCell                                  == 10 is said where any cell is full
+--   admitted A r x, countsAdmitted                == how many sequences of r events are admitted from x, nothing pruned; Count tells that
+--   withPasses f, lastPassMissing                 == Count tells other passes; one fewer
+--   passesWithin A, prunesWithin                  == the passes, where a pass prunes by its own removals; Count tells them
+--   forgetsSwaps                                  == Shuffle puts out the draws
+--   PassesTold C                                  == the passes that Count tells are those of the sets
+--   Rejected                                      == each wrong generator is rejected
 -- Assumes nothing.
 use mathlib.Core.Path.{_≡_}
 use mathlib.Core.Bool.{Bool}
