@@ -1,7 +1,7 @@
 /* Wandukhai: counts the scenarios of a rig, turns indices into scenarios and back, and shuffles indices.
  *
  * Link with libcapi.a (`rt staticlib capi` writes target/staticlib/libcapi.a, for x86-64). The functions keep no state, allocate nothing,
- * and end on any input. Of the stack wandukhai_scenarios uses up to about 90 KB, the others less.
+ * and end on any input. How much stack each uses is stated below, as WANDUKHAI_..._STACK.
  *
  * What each asks of its caller, and nothing more:
  *   - a pointer and the length after it are a buffer of that many elements, aligned as its type, and valid for the whole call;
@@ -42,6 +42,13 @@
 #ifdef __cplusplus
 extern "C" {
 #endif
+
+/* Bytes of stack that each function uses at most: measured at the horizon 1,000 with the largest rig (tests/stack.c), and an eighth or more
+ * added. A thread needs some more for itself. */
+#define WANDUKHAI_COUNT_STACK 53248
+#define WANDUKHAI_SCENARIOS_STACK 98304
+#define WANDUKHAI_INDEX_STACK 53248
+#define WANDUKHAI_SHUFFLE_STACK 4096
 
 /* Counts the scenarios of h events.
  * cells: at least (h + 1) * P numbers. Served or refused with 9 or 10, the cell at r * P + x holds the number of admitted sequences of r

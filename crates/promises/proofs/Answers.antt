@@ -18,15 +18,12 @@ use Rattle.lists.proofs.Members.{getD-in}
 use Rattle.lists.proofs.Ordered.{range-in}
 use Rattle.lists.proofs.Distinct.{in-place, same-length, once-distinct}
 use Rattle.lists.proofs.Blocks.{block-at}
-use Rattle.automaton.specs.Automaton as automaton
-use Rattle.automaton.specs.Automaton.{Automaton}
-use Rattle.automaton.specs.Pruning.{passes, live, LastPass}
+use Rattle.automaton.specs.Pruning.{passes, live}
 use Rattle.automaton.specs.Counting as counting
 use Rattle.automaton.specs.Counting.{Stays, most}
 use Rattle.automaton.specs.Ranking.{unrank, rank, firstViolation}
 use Rattle.automaton.specs.Shuffle as swapping
 use Rattle.automaton.specs.Shuffle.{Valid}
-use Rattle.automaton.proofs.Pruning.{last-pass}
 use Rattle.automaton.proofs.Counting.{scenarios-length, scenarios-distinct, belongs-iff, stays-events, N-live}
 use Rattle.automaton.proofs.Ranking.{rank-unrank, none-iff, firstViolation-none, firstViolation-le}
 use Rattle.automaton.proofs.Shuffle.{length-shuffle}
@@ -37,7 +34,7 @@ use Rattle.promises.specs.Rig.{rigAutomaton, start}
 use Rattle.promises.specs.Calls.{unlessAt, outputAfter, total, counted, count, scenarios, written, index, badDraw, shuffle, shuffled}
 use Rattle.promises.specs.Demand3.{Once, ValidDraws, block}
 use Rattle.promises.proofs.Meaning.{rig-events, events-distinct, text-belongs}
-use Rattle.promises.proofs.Checks.{checked-list, sized-on, counted-none, counted-most, counted-on, says-none}
+use Rattle.promises.proofs.Checks.{checked-list, check-passed, sized-on, counted-none, counted-most, counted-on, says-none}
 
 pub served-none : (vs : List ℕ) → SaysNone (served vs) → ⊥
 unfolding SaysNone
@@ -69,7 +66,7 @@ module _ (t : List ℕ) (h : ℕ) (r : Readable t) (c7 : Case7 h → ⊥) where
   pub scenarios-is : (is cells out : List ℕ) → (Case8 t h cells → ⊥) → (Case12 h is out → ⊥)
       → scenarios t h is cells out ≡ counted t h (unlessAt 11 (λ p i. leb (total t h) i) is (served []))
   unfolding scenarios Case12
-  scenarios-is is cells out c8 c12 = sized-on t h cells _ r c7 c8 ∙ rw (tells-false (tells-lt (length out) (length is * h)) c12)
+  scenarios-is is cells out c8 c12 = sized-on t h cells _ r c7 c8 ∙ check-passed 12 0 (ltb (length out) (length is * h)) _ (tells-false (tells-lt (length out) (length is * h)) c12)
 
   pub list-none : (is : List ℕ) → SaysNone (unlessAt 11 (λ p i. leb (total t h) i) is (served [])) → ⊥
   list-none is s = ⊎-elim (λ (q, g). served-none [] (rw q at s)) (λ (k, lt, q, b, g). refused-none 11 k (omega arith) (rw q at s)) (checked-list 11 (λ p i. leb (total t h) i) is (served []))
@@ -195,19 +192,25 @@ pub shuffled-is : (n : ℕ) (ds scratch o : List ℕ) → ValidDraws n ds → (C
 unfolding shuffled outputAfter
 shuffled-is n ds scratch o v c8 c12 = rw (shuffle-served n ds scratch o v c8 c12) (take-at (swapping.shuffle ds) _ (length ds) (length-shuffle ds))
 
--- ---- the passes
+-- ---- Count, where it serves
 
--- the passes that Count tells end with the first pass that removes nothing, and that pass is counted
-pub told-passes : (t : List ℕ) (h : ℕ) (cells : List ℕ) (n p : ℕ) → Readable t → (Case7 h → ⊥) → (Case8 t h cells → ⊥) → count t h cells ≡ served (n ∷ p ∷ []) → LastPass (rigAutomaton t) p
-told-passes t h cells n p r c7 c8 q = go (split 1 (total t h)) (split most (total t h))
+-- what a served count tells is N and the passes, and N is a number that can be told
+pub record Told (t : List ℕ) (h n p : ℕ) : Type 0 where
+  pub some : 1 ≤ n
+  pub few : n < most
+  pub total-is : total t h ≡ n
+  pub passes-is : passes (rigAutomaton t) ≡ p
+
+pub count-told : (t : List ℕ) (h : ℕ) (cells : List ℕ) (n p : ℕ) → Readable t → (Case7 h → ⊥) → (Case8 t h cells → ⊥) → count t h cells ≡ served (n ∷ p ∷ []) → Told t h n p
+count-told t h cells n p r c7 c8 q = go (split 1 (total t h)) (split most (total t h))
   where
     is : count t h cells ≡ counted t h (served (total t h ∷ passes (rigAutomaton t) ∷ []))
     is = count-is t h r c7 cells c8
 
-    go : (1 ≤ total t h) ⊎ (total t h < 1) → (most ≤ total t h) ⊎ (total t h < most) → LastPass (rigAutomaton t) p
+    go : (1 ≤ total t h) ⊎ (total t h < 1) → (most ≤ total t h) ⊎ (total t h < most) → Told t h n p
     go (inr z) m = let e : refused 9 0 ≡ served (n ∷ p ∷ []) = sym (counted-none t h _ (omega arith)) ∙ sym is ∙ q in let w : _≡_ {A = ℕ} 0 1 = cc in absurd (omega arith)
     go (inl o) (inl m) = let e : refused 10 0 ≡ served (n ∷ p ∷ []) = sym (counted-most t h _ m) ∙ sym is ∙ q in let w : _≡_ {A = ℕ} 0 1 = cc in absurd (omega arith)
     go (inl o) (inr m) =
         let e : served (total t h ∷ passes (rigAutomaton t) ∷ []) ≡ served (n ∷ p ∷ []) = sym (counted-on t h _ o m) ∙ sym is ∙ q in
-        let w : passes (rigAutomaton t) ≡ p = cc in
-        subst (LastPass (rigAutomaton t)) w (last-pass (rigAutomaton t))
+        let a : total t h ≡ n = cc in
+        record { some = rw a at o; few = rw a at m; total-is = a; passes-is = cc }

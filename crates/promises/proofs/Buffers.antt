@@ -9,7 +9,7 @@ use Prim.Native.Nat.{ℕ, suc, _+_, _-_, _*_, _≤_, _<_}
 use native.Mathlib.Omega.{arith}
 use native.Mathlib.Nat.{suc-mul, mul-le-mul-right}
 use lib.ListN.{length, getD, take, drop, length-append, length-drop, List·getD-append}
-use lib.Seq.{getD-append-add, getD-drop, take-at}
+use lib.Seq.{getD-append-add, getD-drop, ext-getD, take-at}
 use lib.Dec.{ltb, leb, eqb}
 use borrow.Author.Tests.{ltb-false}
 use Rattle.lists.specs.Lists.{any, concatMap}
@@ -26,9 +26,9 @@ use Rattle.automaton.proofs.Shuffle.{length-shuffle}
 use Rattle.promises.specs.Answer.{Answer, served, refused, Served, unless}
 use Rattle.promises.specs.Text.{Readable, Fault, Case7, Case8, Case12, jointStates}
 use Rattle.promises.specs.Rig.{rigAutomaton, start}
-use Rattle.promises.specs.Calls.{row, rows, filled, fills, cellsAfter, outputAfter, unlessAt, sized, total, counted, count, countCells, scenarios, scenariosCells, written, index, indexCells, shuffle, shuffled}
+use Rattle.promises.specs.Calls.{row, rows, filled, fills, cellsAfter, outputAfter, unlessAt, sized, total, counted, count, countCells, scenarios, scenariosCells, written, index, indexCells, shuffle, shuffled, ScratchKept}
 use Rattle.promises.specs.Refusals.{Sized}
-use Rattle.promises.specs.Buffers.{Fills, CellsLeft, OutputLeft, Buffers}
+use Rattle.promises.specs.Buffers.{Fills, CellsLeft, OutputLeft, ScratchLeft, Buffers}
 use Rattle.promises.proofs.Reading.{readable-said, fault-said, fault-number, readable-or-fault}
 use Rattle.promises.proofs.Meaning.{rig-states}
 use Rattle.promises.proofs.Checks.{sized-on, counted-none, counted-most}
@@ -101,7 +101,7 @@ text-fills-not n p le q =
     far e k (there (there (there (there i)))) = List·Memᴰ·not-nil i
 
 -- whoever fills the cells has passed rows 1 to 8
-sized-passed : (t : List ℕ) (h : ℕ) (cells : List ℕ) (a : Answer) → fills (sized t h cells a) ≡ true → Sized t h cells
+pub sized-passed : (t : List ℕ) (h : ℕ) (cells : List ℕ) (a : Answer) → fills (sized t h cells a) ≡ true → Sized t h cells
 unfolding sized fills Case7 Case8
 sized-passed t h cells a f = go (readable-or-fault t)
   where
@@ -138,7 +138,7 @@ cells-left t h cells a =
 
 -- ---- the outputs
 
-refused-serves : (n p : ℕ) → Served (refused n p) → ⊥
+pub refused-serves : (n p : ℕ) → Served (refused n p) → ⊥
 unfolding Served
 refused-serves n p (vs, q) = let z : _≡_ {A = ℕ} 0 1 = cc in omega arith
 
@@ -147,7 +147,7 @@ unfolding Served
 served-or (served vs) = inl (vs, refl)
 served-or (refused n p) = inr (refused-serves n p)
 
-served-fills : (a : Answer) → Served a → fills a ≡ true
+pub served-fills : (a : Answer) → Served a → fills a ≡ true
 unfolding Fills
 served-fills a s = fills-told a .1 (inl s)
 
@@ -213,6 +213,29 @@ enough : (h : ℕ) (is out : List ℕ) → (Case12 h is out → ⊥) → length 
 unfolding Case12
 enough h is out c = ⊎-elim (λ k. k) (λ k. absurd (c k)) (split (length is * h) (length out))
 
+-- ---- the scratch
+
+scratch-left : (a : Answer) (ds scratch left : List ℕ) → ScratchKept a ds scratch left ↔ ScratchLeft (length ds) a scratch left
+unfolding ScratchKept Served
+scratch-left (served vs) ds scratch left = (
+  λ (long, rest). record { long = long; past = λ k le. same rest k le; untouched = λ u. absurd (u (vs, refl)) },
+  λ l. (
+    l .long,
+    ext-getD 0 (drop (2 * length ds) left) (drop (2 * length ds) scratch) (rw (length-drop (2 * length ds) left, length-drop (2 * length ds) scratch, l .long)) (λ i lt. getD-drop (2 * length ds) left i 0 ∙ l .past (2 * length ds + i) (omega arith) ∙ sym (getD-drop (2 * length ds) scratch i 0)),
+  ),
+)
+  where
+    same : drop (2 * length ds) left ≡ drop (2 * length ds) scratch → (k : ℕ) → 2 * length ds ≤ k → getD left k 0 ≡ getD scratch k 0
+    same rest k le =
+        let e : 2 * length ds + (k - 2 * length ds) ≡ k = omega arith in
+        ap (λ i. getD left i 0) (sym e) ∙ sym (getD-drop (2 * length ds) left (k - 2 * length ds) 0)
+        ∙ ap (λ l. getD l (k - 2 * length ds) 0) rest
+        ∙ getD-drop (2 * length ds) scratch (k - 2 * length ds) 0 ∙ ap (λ i. getD scratch i 0) e
+scratch-left (refused n p) ds scratch left = (
+  λ q. record { long = ap length q; past = λ k le. ap (λ l. getD l k 0) q; untouched = λ u. q },
+  λ l. l .untouched (refused-serves n p),
+)
+
 pub buffers : Buffers
 unfolding Served
 buffers = record {
@@ -223,6 +246,7 @@ buffers = record {
   scenarios-written = λ t h is cells out s. let l = listed t h is cells out s in block-written t h (l .passed .readable) (l .passed .horizon) (l .some) (l .few) is cells out (l .passed .room) (l .room) s;
   shuffle-output = λ n ds scratch out. unfold shuffled in output-left (length ds) (shuffle n ds scratch out) (swapping.shuffle ds) out (λ s. (length-shuffle ds, shuffle-room n ds scratch out s));
   shuffle-written = λ n ds scratch out s. written-shuffle n ds scratch out s;
+  shuffle-scratch = λ n ds scratch out left. scratch-left (shuffle n ds scratch out) ds scratch left;
 }
   where
     fresh : (t : List ℕ) (h : ℕ) (is cells out : List ℕ) → Served (scenarios t h is cells out) → (length (concatMap (unrank (rigAutomaton t) h (start t)) is) ≡ length is * h) × (length is * h ≤ length out)

@@ -7,7 +7,7 @@ use Prim.Native.Nat.{ℕ, zero, suc, _+_, _*_, _≤_, _<_}
 use native.Mathlib.Omega.{arith}
 use native.Mathlib.Nat.{zero-add, add-zero}
 use lib.ListN.{length, getD}
-use lib.Dec.{ltb}
+use lib.Dec.{ltb, leb, eqb}
 use Rattle.lists.proofs.Tests.{case, split}
 use Rattle.lists.proofs.Tells.{tells-true, tells-false, tells-lt, tells-le, tells-eq}
 use Rattle.automaton.specs.Counting.{most}
@@ -58,24 +58,39 @@ checked-list n bad l a = go (first-from bad 0 l)
     go (inl (e, g)) = inl (rw (e, tells-false (tells-lt (0 + length l) (length l)) (λ h. omega arith)), λ k h. rw zero-add at (g k h))
     go (inr (k, lt, e, b, g)) = inr (k, lt, rw (e, zero-add k, tells-true (tells-lt k (length l)) lt), rw zero-add at b, λ j h. rw zero-add at (g j h))
 
+-- ---- a check that passes, and one that does not
+
+pub check-passed : (n p : ℕ) (bad : Bool) (a : Answer) → bad ≡ false → unless n p bad a ≡ a
+check-passed n p bad a q = rw q
+
+pub check-failed : (n p : ℕ) (bad : Bool) (a : Answer) → bad ≡ true → unless n p bad a ≡ refused n p
+check-failed n p bad a q = rw q
+
 -- ---- the rows of the table up to 8, and 9 and 10
 
 pub sized-on : (t : List ℕ) (h : ℕ) (cells : List ℕ) (a : Answer) → Readable t → (Case7 h → ⊥) → (Case8 t h cells → ⊥) → sized t h cells a ≡ a
 unfolding sized Case7 Case8
-sized-on t h cells a r c7 c8 = rw (readable-said t r, tells-false (tells-lt 1000 h) c7, tells-false (tells-lt (length cells) ((h + 1) * jointStates t)) c8)
+sized-on t h cells a r c7 c8 =
+    rw (readable-said t r)
+    (check-passed 7 0 (ltb 1000 h) _ (tells-false (tells-lt 1000 h) c7)
+    ∙ check-passed 8 0 (ltb (length cells) ((h + 1) * jointStates t)) a (tells-false (tells-lt (length cells) ((h + 1) * jointStates t)) c8))
 
 module _ (t : List ℕ) (h : ℕ) where
   pub counted-none : (a : Answer) → total t h ≡ 0 → counted t h a ≡ refused 9 0
   unfolding counted
-  counted-none a q = rw q
+  counted-none a q = check-failed 9 0 (eqb (total t h) 0) _ (tells-true (tells-eq (total t h) 0) q)
 
   pub counted-most : (a : Answer) → most ≤ total t h → counted t h a ≡ refused 10 0
   unfolding counted most
-  counted-most a le = rw (tells-false (tells-eq (total t h) 0) (λ q. omega arith), tells-true (tells-le most (total t h)) le)
+  counted-most a le =
+      check-passed 9 0 (eqb (total t h) 0) _ (tells-false (tells-eq (total t h) 0) (λ q. omega arith))
+      ∙ check-failed 10 0 (leb most (total t h)) a (tells-true (tells-le most (total t h)) le)
 
   pub counted-on : (a : Answer) → 1 ≤ total t h → total t h < most → counted t h a ≡ a
   unfolding counted
-  counted-on a le lt = rw (tells-false (tells-eq (total t h) 0) (λ q. omega arith), tells-false (tells-le most (total t h)) (λ q. omega arith))
+  counted-on a le lt =
+      check-passed 9 0 (eqb (total t h) 0) _ (tells-false (tells-eq (total t h) 0) (λ q. omega arith))
+      ∙ check-passed 10 0 (leb most (total t h)) a (tells-false (tells-le most (total t h)) (λ q. omega arith))
 
   -- 9 is said exactly where N is 0, whatever comes after, if that does not say 9
   pub says-none : (a : Answer) → (SaysNone a → ⊥) → SaysNone (counted t h a) ↔ (total t h ≡ 0)

@@ -37,7 +37,7 @@ module _ (t : List ℕ) (h : ℕ) (r : Readable t) (c7 : Case7 h → ⊥) (Φ : 
   start-safe = safe-live (rigAutomaton t) Φ (rig-never-stops t r) safe (start t) (rig-start t r)
 
   -- there is no scenario exactly where the start is not safe
-  total-unsafe : (total t h ≡ 0) ↔ (Φ (start t) ≡ false)
+  pub total-unsafe : (total t h ≡ 0) ↔ (Φ (start t) ≡ false)
   unfolding total
   total-unsafe = (
     λ z. case (Φ (start t)) (λ p. absurd (let l : 0 < N (rigAutomaton t) h (start t) = live-count (rigAutomaton t) (rig-never-stops t r) h (start t) (sym start-safe ∙ p) in omega arith)) (λ p. p),
@@ -48,7 +48,7 @@ module _ (t : List ℕ) (h : ℕ) (r : Readable t) (c7 : Case7 h → ⊥) (Φ : 
   unsafe a e = (λ s. total-unsafe .0 (e .0 s), λ p. e .1 (total-unsafe .1 p))
 
   module _ (p : Φ (start t) ≡ true) where
-    total-traces : nb-traces (rigAutomaton t) Φ (start t) h ≡ total t h
+    pub total-traces : nb-traces (rigAutomaton t) Φ (start t) h ≡ total t h
     unfolding total
     total-traces = nb-traces-is (rigAutomaton t) Φ (rig-never-stops t r) safe (start t) h p (rig-start t r)
 

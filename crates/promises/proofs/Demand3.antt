@@ -2,7 +2,7 @@
 -- Why: what belongs by the lines is the list of scenarios of the joint automaton; Count tells its length, Scenarios writes its elements by their
 -- places, Index tells the places, and a full shuffle puts out every place once. Assumes nothing.
 use mathlib.Core.Path.{_≡_, refl, sym, ap, _∙_, subst}
-use mathlib.Core.Logic.{inl, inr, _↔_}
+use mathlib.Core.Logic.{_↔_}
 use mathlib.Core.List.{List, [], _∷_, List·Memᴰ as In, List·Memᴰ·eq-of-singleton}
 use Prim.Native.Nat.{ℕ, _+_, _*_, _≤_, _<_}
 use native.Mathlib.Omega.{arith}
@@ -10,11 +10,9 @@ use native.Mathlib.Nat.{one-mul}
 use lib.ListN.{length, getD, take, replicate, length-replicate}
 use Rattle.lists.proofs.Members.{getD-in}
 use Rattle.lists.proofs.Distinct.{in-place, distinct-once}
-use Rattle.automaton.specs.Automaton as automaton
-use Rattle.automaton.specs.Automaton.{Automaton}
 use Rattle.automaton.specs.Pruning.{passes}
 use Rattle.automaton.specs.Counting as counting
-use Rattle.automaton.specs.Counting.{Lex, Stays, most}
+use Rattle.automaton.specs.Counting.{Stays, most}
 use Rattle.automaton.specs.Ranking.{unrank, rank}
 use Rattle.automaton.specs.Shuffle as swapping
 use Rattle.automaton.specs.Shuffle.{Valid}
@@ -29,16 +27,9 @@ use Rattle.promises.specs.Calls.{total, counted, count, scenarios, writt
 use Rattle.promises.specs.Demand3.{Once, ValidDraws, block, Cells, Room, Gives, None, Whole, Demand}
 use Rattle.promises.specs.Generator.{generator}
 use Rattle.promises.proofs.Meaning.{events-ordered, events-distinct, text-belongs}
+use Rattle.promises.proofs.Order.{comes-lex}
 use Rattle.promises.proofs.Checks.{counted-on, says-none}
 use Rattle.promises.proofs.Answers.{belongs-listed, listed-length, none-belongs, count-is, scenarios-is, list-none, served-none, index-none, index-of-scenario, index-of-others, scenarioOf, scenarios-served, block-written, valid-draws, shuffle-served, shuffled-is}
-
--- the order by the first differing event, lower first
-lex-comes : (v w : List ℕ) → Lex _<_ v w → Comes v w
-unfolding Lex Comes
-lex-comes [] w l = l
-lex-comes (a ∷ v) [] l = l
-lex-comes (a ∷ v) (b ∷ w) (inl h) = inl h
-lex-comes (a ∷ v) (b ∷ w) (inr (q, l)) = inr (q, lex-comes v w l)
 
 -- ---- what an index gives
 
@@ -106,7 +97,7 @@ module _ (t : List ℕ) (h : ℕ) (r : Readable t) (c7 : Case7 h → ⊥) (ge : 
 
   in-order : (i j : ℕ) → i < j → j < total t h → Comes (unrank (rigAutomaton t) h (start t) i) (unrank (rigAutomaton t) h (start t) j)
   unfolding total
-  in-order i j l k = lex-comes _ _ (index-order (rigAutomaton t) _<_ (events-ordered t r) h (start t) i j l k)
+  in-order i j l k = rw comes-lex (index-order (rigAutomaton t) _<_ (events-ordered t r) h (start t) i j l k)
 
   complete-at : Complete t h (total t h)
   unfolding Served Case12

@@ -2,6 +2,7 @@
 pub mod Lines
 pub mod Reading
 pub mod Meaning
+pub mod Order
 pub mod Checks
 pub mod Answers
 pub mod Demand3
@@ -10,3 +11,6 @@ pub mod Examples
 pub mod Starred
 pub mod Refusals
 pub mod Buffers
+pub mod Shapes
+pub mod Known
+pub mod Wrong

@@ -2,10 +2,11 @@
 --   Fills a            == the answer is one after which the cells are filled
 --   CellsLeft          == what the cells hold after a call on a text
 --   OutputLeft         == what an output holds: the first numbers fresh where served, else as before
+--   ScratchLeft        == what the scratch holds after a shuffle
 --   Buffers            == each buffer of the four calls
 -- Assumes nothing.
 use mathlib.Core.Path.{_≡_}
-use mathlib.Core.Logic.{_⊎_}
+use mathlib.Core.Logic.{_⊎_, _↔_}
 use mathlib.Core.List.{List, [], _∷_, List·Memᴰ as In}
 use Prim.Native.Nat.{ℕ, _+_, _*_, _≤_, _<_, min}
 use lib.ListN.{length, getD, take}
@@ -16,7 +17,7 @@ use Rattle.promises.specs.Answer.{Answer, refused, Served}
 use Rattle.promises.specs.Text.{jointStates}
 use Rattle.promises.specs.Rig.{rigAutomaton, start}
 use Rattle.promises.specs.Demand3.{block}
-use Rattle.promises.specs.Calls.{count, countCells, scenarios, scenariosCells, written, index, indexCells, shuffle, shuffled}
+use Rattle.promises.specs.Calls.{count, countCells, scenarios, scenariosCells, written, index, indexCells, shuffle, shuffled, ScratchKept}
 
 -- 'After 9, 10, 11 and 14 the cells are filled'
 unfoldable pub Fills : Answer → Type 0
@@ -39,6 +40,14 @@ pub record OutputLeft (n : ℕ) (a : Answer) (out left : List ℕ) : Type 0 wher
   -- 'Output is untouched after each.'
   pub untouched : (Served a → ⊥) → left ≡ out
 
+-- z draws
+pub record ScratchLeft (z : ℕ) (a : Answer) (scratch left : List ℕ) : Type 0 where
+  pub long : length left ≡ length scratch
+  -- 'The first 2 × z scratch numbers after a shuffle are left free; the rest keep theirs.'
+  pub past : (k : ℕ) → 2 * z ≤ k → getD left k 0 ≡ getD scratch k 0
+  -- 'after every other refusal they and the scratch are untouched'
+  pub untouched : (Served a → ⊥) → left ≡ scratch
+
 pub record Buffers : Type 0 where
   pub count-cells : (t : List ℕ) (h : ℕ) (cells : List ℕ) → CellsLeft t h (count t h cells) cells (countCells t h cells)
   pub scenarios-cells : (t : List ℕ) (h : ℕ) (is cells out : List ℕ) → CellsLeft t h (scenarios t h is cells out) cells (scenariosCells t h is cells out)
@@ -49,3 +58,6 @@ pub record Buffers : Type 0 where
       → block h n (written t h is cells out) ≡ unrank (rigAutomaton t) h (start t) (getD is n 0)
   pub shuffle-output : (n : ℕ) (ds scratch out : List ℕ) → OutputLeft (length ds) (shuffle n ds scratch out) out (shuffled n ds scratch out)
   pub shuffle-written : (n : ℕ) (ds scratch out : List ℕ) → Served (shuffle n ds scratch out) → take (length ds) (shuffled n ds scratch out) ≡ swapping.shuffle ds
+  -- what the contract of Shuffle says of the scratch is just this
+  pub shuffle-scratch : (n : ℕ) (ds scratch out left : List ℕ)
+      → ScratchKept (shuffle n ds scratch out) ds scratch left ↔ ScratchLeft (length ds) (shuffle n ds scratch out) scratch left

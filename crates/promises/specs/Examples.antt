@@ -21,6 +21,16 @@ B = 114 ∷ 105 ∷ 103 ∷ 9 ∷ 50 ∷ 10 ∷ 109 ∷ 111 ∷ 110 ∷ 9 ∷ 50
 abbrev pub most-joint-states : List ℕ
 most-joint-states = 114 ∷ 105 ∷ 103 ∷ 9 ∷ 49 ∷ 10 ∷ 109 ∷ 111 ∷ 110 ∷ 9 ∷ 51 ∷ 50 ∷ 10 ∷ 109 ∷ 111 ∷ 110 ∷ 9 ∷ 51 ∷ 50 ∷ 10 ∷ []
 
+-- ---- rigs on which a wrong generator shows
+
+-- 9: 'one state, no `go`': rig 1 / mon 1
+abbrev pub one-state : List ℕ
+one-state = 114 ∷ 105 ∷ 103 ∷ 9 ∷ 49 ∷ 10 ∷ 109 ∷ 111 ∷ 110 ∷ 9 ∷ 49 ∷ 10 ∷ []
+
+-- 'a cell is full that no scenario passes': rig 2 / mon 2 / go 0 0 0 / go 1 0 1 / go 1 1 1, where state 1 is never reached
+abbrev pub full-cell : List ℕ
+full-cell = 114 ∷ 105 ∷ 103 ∷ 9 ∷ 50 ∷ 10 ∷ 109 ∷ 111 ∷ 110 ∷ 9 ∷ 50 ∷ 10 ∷ 103 ∷ 111 ∷ 9 ∷ 48 ∷ 9 ∷ 48 ∷ 9 ∷ 48 ∷ 10 ∷ 103 ∷ 111 ∷ 9 ∷ 49 ∷ 9 ∷ 48 ∷ 9 ∷ 49 ∷ 10 ∷ 103 ∷ 111 ∷ 9 ∷ 49 ∷ 9 ∷ 49 ∷ 9 ∷ 49 ∷ 10 ∷ []
+
 -- ---- a text for each number of refusal, with its place
 
 -- 2, place 2: '`mon` with no S'

@@ -2,6 +2,7 @@
 pub mod Answer
 pub mod Text
 pub mod Meaning
+pub mod Order
 pub mod Reading
 pub mod Rig
 pub mod Calls
@@ -10,5 +11,7 @@ pub mod Demand2
 pub mod Refusals
 pub mod Buffers
 pub mod Generator
+pub mod Shapes
 pub mod Examples
 pub mod Starred
+pub mod Wrong

@@ -1,0 +1,51 @@
+-- What a C caller reads in the numbers that it is told, by the words of include/wandukhai.h, and that it reads the call's answer.
+--   readCount n ws   == the answer of Count that was told by the number n and the words ws
+--   readIndex n w    == the answer of Index that was told by the number n and the word w
+--   readPlace n w    == the answer of Scenarios or Shuffle that was told by the number n and the place w
+--   Told             == 0 is returned exactly where a call is served, and what is told is the answer
+-- Assumes nothing.
+use mathlib.Core.Path.{_≡_}
+use mathlib.Core.Logic.{_↔_}
+use mathlib.Core.List.{List, [], _∷_}
+use Prim.Native.Nat.{ℕ, zero, suc}
+use lib.ListN.{length, getD}
+use Rattle.promises.specs.Answer.{Answer, served, refused, Served, Refuses}
+use Rattle.promises.specs.Calls.{count, scenarios, index, shuffle}
+use Rattle.capi.specs.Words.{numberOf, wordsOf, wordOf}
+
+-- 'Returned: 0 where the call is served, else the number of refusal, with a place'
+-- 'answer: served, N and the passes of pruning; refused, the place and 0'
+abbrev pub readCount : ℕ → List ℕ → Answer
+readCount zero ws = served ws
+readCount (suc n) ws = refused (suc n) (getD ws 0 0)
+
+-- 'answer: served, the index; refused, the place'
+abbrev pub readIndex : ℕ → ℕ → Answer
+readIndex zero w = served (w ∷ [])
+readIndex (suc n) w = refused (suc n) w
+
+-- 'place: 0 where served, else the place'
+abbrev pub readPlace : ℕ → ℕ → Answer
+readPlace zero w = served []
+readPlace (suc n) w = refused (suc n) w
+
+pub record CountTold (a : Answer) : Type 0 where
+  pub zero-served : (numberOf a ≡ 0) ↔ Served a
+  pub told : readCount (numberOf a) (wordsOf a) ≡ a
+  pub two : length (wordsOf a) ≡ 2
+  pub second : Refuses a → getD (wordsOf a) 1 0 ≡ 0
+
+pub record IndexTold (a : Answer) : Type 0 where
+  pub zero-served : (numberOf a ≡ 0) ↔ Served a
+  pub told : readIndex (numberOf a) (wordOf a) ≡ a
+
+pub record PlaceTold (a : Answer) : Type 0 where
+  pub zero-served : (numberOf a ≡ 0) ↔ Served a
+  pub told : readPlace (numberOf a) (wordOf a) ≡ a
+  pub no-place : Served a → wordOf a ≡ 0
+
+pub record Told : Type 0 where
+  pub of-count : (t : List ℕ) (h : ℕ) (cells : List ℕ) → CountTold (count t h cells)
+  pub of-scenarios : (t : List ℕ) (h : ℕ) (is cells out : List ℕ) → PlaceTold (scenarios t h is cells out)
+  pub of-index : (t s cells : List ℕ) → IndexTold (index t s cells)
+  pub of-shuffle : (n : ℕ) (ds scratch out : List ℕ) → PlaceTold (shuffle n ds scratch out)

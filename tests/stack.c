@@ -1,0 +1,122 @@
+/* Measures how many bytes of stack each function uses, prints them, and fails where they are more than the header states.
+ * Each call runs on a thread of its own, on a stack filled with a pattern, above a page that may not be touched. The rig is as large as one can
+ * be: 16 events, 1,024 joint states, and the horizon 1,000. */
+#define _GNU_SOURCE
+#include <pthread.h>
+#include <stdio.h>
+#include <string.h>
+#include <sys/mman.h>
+#include "wandukhai.h"
+
+enum { EVENTS = 16, S = 32, HORIZON = 1000, CELLS = (HORIZON + 1) * S * S, INDICES = 3, DRAWS = 100000 };
+enum { GUARD = 1 << 16, STACK = 1 << 20, PATTERN = 0xA5 };
+
+static char text[65535];
+static uint64_t cells[CELLS], answer[2], draws[DRAWS], scratch[2 * DRAWS], out[DRAWS], number;
+static uint8_t events[INDICES * HORIZON];
+static const uint64_t indices[INDICES] = {0, HORIZON / 2, HORIZON};
+static uint64_t n;
+
+/* Two monitors of 32 states that admit every event in every state. In the first only events 14 and 15 lead on for ever, 14 once: N is h + 1;
+ * or, where `many`, all of them do: N is 16 ^ h. */
+static void write_rig(int many)
+{
+    char *end = text + sprintf(text, "rig\t%d\n", EVENTS);
+    int s, e, to;
+
+    end += sprintf(end, "mon\t%d\n", S);
+    for (s = 0; s < S - 1; s++)
+        for (e = 0; e < EVENTS; e++) {
+            to = many || e == 15 ? s : s == 0 && e == 14 ? 1 : S - 1;
+            end += sprintf(end, "go\t%d\t%d\t%d\n", s, e, to);
+        }
+    end += sprintf(end, "mon\t%d\n", S);
+    for (s = 0; s < S; s++)
+        for (e = 0; e < EVENTS; e++)
+            end += sprintf(end, "go\t%d\t%d\t%d\n", s, e, (s + 1) % S);
+}
+
+static void count(void)
+{
+    number = wandukhai_count((const uint8_t *)text, strlen(text), HORIZON, cells, CELLS, answer);
+}
+
+static void scenarios(void)
+{
+    number = wandukhai_scenarios((const uint8_t *)text, strlen(text), HORIZON, indices, INDICES, cells, CELLS, events, sizeof events, answer);
+}
+
+static void index_of(void)
+{
+    number = wandukhai_index((const uint8_t *)text, strlen(text), events, HORIZON, cells, CELLS, answer);
+}
+
+static void shuffle(void)
+{
+    number = wandukhai_shuffle(n, draws, DRAWS, scratch, 2 * DRAWS, out, DRAWS, answer);
+}
+
+/* Where the stack begins for the call. */
+static unsigned char *top;
+
+static void *run(void *call)
+{
+    top = __builtin_frame_address(0);
+    (*(void (**)(void))call)();
+    return NULL;
+}
+
+/* The bytes of stack that the call uses; it must return `expected`. */
+static long used(void (*call)(void), uint64_t expected)
+{
+    unsigned char *base = mmap(NULL, GUARD + STACK, PROT_READ | PROT_WRITE, MAP_PRIVATE | MAP_ANONYMOUS, -1, 0), *low = base + GUARD;
+    pthread_attr_t attributes;
+    pthread_t thread;
+    long bytes;
+
+    if (base == MAP_FAILED || mprotect(base, GUARD, PROT_NONE) != 0)
+        return -1;
+    memset(low, PATTERN, STACK);
+    if (pthread_attr_init(&attributes) != 0 || pthread_attr_setstack(&attributes, low, STACK) != 0
+        || pthread_create(&thread, &attributes, run, &call) != 0 || pthread_join(thread, NULL) != 0 || number != expected)
+        return -1;
+    while (*low == PATTERN)
+        low++;
+    bytes = (long)(top - low);
+    munmap(base, GUARD + STACK);
+    return bytes;
+}
+
+/* Whether two calls of one function keep to what the header states; -1 bytes where a call did not do what was expected. */
+static int keeps(const char *name, long a, long b, long stated)
+{
+    long most = a > b ? a : b;
+
+    printf("%s\t%ld of %ld bytes\n", name, most, stated);
+    return a >= 0 && b >= 0 && most <= stated;
+}
+
+int main(void)
+{
+    long counted, listed, found, shuffled;
+    int good = 1;
+    size_t i;
+
+    write_rig(0);
+    counted = used(count, 0);
+    listed = used(scenarios, 0);
+    found = used(index_of, 0);
+    for (i = 0; i < DRAWS; i++)
+        draws[i] = i + (i * 7919) % (DRAWS - i);
+    n = DRAWS;
+    shuffled = used(shuffle, 0);
+    write_rig(1);
+    good &= keeps("wandukhai_count", counted, used(count, 10), WANDUKHAI_COUNT_STACK);
+    good &= keeps("wandukhai_scenarios", listed, used(scenarios, 10), WANDUKHAI_SCENARIOS_STACK);
+    good &= keeps("wandukhai_index", found, used(index_of, 10), WANDUKHAI_INDEX_STACK);
+    n = UINT64_MAX;
+    for (i = 0; i < DRAWS; i++)
+        draws[i] = UINT64_MAX - 1 - (i * 7919) % 1000;
+    good &= keeps("wandukhai_shuffle", shuffled, used(shuffle, 0), WANDUKHAI_SHUFFLE_STACK);
+    return good ? 0 : 1;
+}
