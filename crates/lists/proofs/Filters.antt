@@ -2,7 +2,9 @@
 use mathlib.Core.Path.{_≡_, refl, ap, _∙_}
 use mathlib.Core.Bool.{Bool, true, false}
 use mathlib.Core.List.{List, [], _∷_, _++_, List·Memᴰ as In, List·Memᴰ·head as here, List·Memᴰ·tail as there}
-use Prim.Native.Nat.{ℕ}
+use Prim.Native.Nat.{ℕ, _≤_}
+use native.Mathlib.Omega.{arith}
+use lib.ListN.{length}
 use Rattle.lists.specs.Lists.{pick, filter, Pairwise, none, more}
 use Rattle.lists.proofs.Tests.{case, contra}
 
@@ -39,3 +41,7 @@ module _ (f : ℕ → Bool) where
   pub filter-append : (l m : List ℕ) → filter f (l ++ m) ≡ filter f l ++ filter f m
   filter-append [] m = refl
   filter-append (x ∷ l) m = case (f x) (λ q. rw q (ap (λ (k : List ℕ). x ∷ k) (filter-append l m))) (λ q. rw q (filter-append l m))
+
+  pub length-filter : (l : List ℕ) → length (filter f l) ≤ length l
+  length-filter [] = omega arith
+  length-filter (x ∷ l) = let ih = length-filter l in case (f x) (λ q. rw q (omega arith)) (λ q. rw q (omega arith))
