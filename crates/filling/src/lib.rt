@@ -2,13 +2,12 @@
 use checks::Checked;
 use rig::Rig;
 ghost use mathlib.Core.Path.{_≡_};
-ghost use mathlib.Core.List.{_++_};
 ghost use Prim.Native.Nat.{_+_, _*_, _≤_};
-ghost use lib.ListN.{length, drop};
+ghost use lib.ListN.{length};
 ghost use Rattle.automaton.specs.Pruning.{passes};
-ghost use Rattle.automaton.specs.Table.{tableOf};
 ghost use Rattle.rig.specs.Record.{recordAutomaton, WellFormed};
 ghost use Rattle.promises.specs.Calls.{filled};
+ghost use Rattle.counting.specs.Tabled.{Tabled};
 ghost use Rattle.filling.specs.CountCheck.{Tells};
 
 // Prunes the rig, and fills the table and the cells of rows 0 to h. Gives the number of passes.
@@ -17,12 +16,11 @@ pub fn fill_cells(rig: Rig, states: usize, h: usize, cells: &mut [u64], table: &
     requires { ⌜ (states ≡ recordAutomaton rig .states) × (h ≤ 1000) × ((h + 1) * states ≤ length (now cells)) × (length (now table) ≡ 16384) ⌝ }
     ensures { λ r. ⌜ r ≡ passes (recordAutomaton rig) ⌝ }
     ensures { λ _. ⌜ now (cells .exit) ≡ filled (recordAutomaton rig) h (now (cells .entry)) ⌝ }
-    ensures { λ _. ⌜ now (table .exit) ≡ tableOf (recordAutomaton rig) (recordAutomaton rig .states) ++ drop (recordAutomaton rig .states * 16) (now (table .entry)) ⌝ }
+    ensures { λ _. ⌜ Tabled (recordAutomaton rig) states (now (table .exit)) ⌝ }
 {
     let mut live = [0u8; 1024];
-    let passes = pruning::prune(rig, &mut live);
-    pruning::fill_table(rig, &live, table);
-    counting::fill(cells, table, &live, states, rig.events, h);
+    let passes = pruning::prune(rig, &mut live, table);
+    counting::fill(cells, table, &live, states, h);
     passes
 }
 
