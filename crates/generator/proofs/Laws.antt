@@ -17,7 +17,7 @@ use Rattle.promises.specs.Answer.{Answer, served, refused, unless}
 use Rattle.promises.specs.Text.{decoded, eventsOf}
 use Rattle.promises.specs.Rig.{rigAutomaton, start}
 use Rattle.promises.specs.Calls.{filled, fills, cellsAfter, outputAfter, unlessAt, firstBad, total, counted, scenarios, scenariosCells, written, index, indexCells}
-use Rattle.ranking.specs.Ranks.{IndicesBelow, EventsBelow, notBelow, rankedAs, withScenarios}
+use Rattle.ranking.specs.Ranks.{IndicesBelow, notBelow, rankedAs, withScenarios}
 use Rattle.ranking.proofs.Premises.{served-fresh}
 use Rattle.ranking.proofs.Walk.{good-all}
 use Rattle.ranking.specs.declared.Ranked.{Ranked}
@@ -90,10 +90,6 @@ told-index c n j A s r i t q e f g = located-index A s i (sym f ∙ g) ∙ told-
 pub told-violation : (c n : ℕ) (j : Checked) (A : Automaton) (s : List ℕ) (r : Ranked) (k : ℕ) → Tells c j → c ≡ min n most → j ≡ Passed → r ≡ rankedAs A 0 s → r ≡ Violation k
     → refused 14 k ≡ countRows n (unless 14 (firstViolation A 0 s) (ltb (firstViolation A 0 s) (length s)) (served (rank A 0 s ∷ [])))
 told-violation c n j A s r k t q e f g = located-violation A s k (sym f ∙ g) ∙ told-passed c n j (located A s) t q e
-
-pub events-below : (E k : ℕ) (s : List ℕ) → k ≡ firstBad (notEvent E) s → length s ≤ k → EventsBelow E s
-unfolding EventsBelow IndicesBelow
-events-below E k s q le = good-all E s (rw q at le)
 
 -- ---- Scenarios and Index as the text sees them
 
@@ -171,6 +167,3 @@ module _ (t s : List ℕ) (room : ℕ) (o : Loaded) (op : Loads t (length s) roo
     unfolding indexCells index counted countRows
     index-cells-are after f =
         passed-cells t (length s) room o op cells l e _ after (rw (good-events) (countRows-fills (total t (length s)) _ (at-14 (rigAutomaton t) (start t) s))) f
-
-pub exact-few : (c n : ℕ) → c ≡ n → n < most → c < most
-exact-few c n q lt = omega arith

@@ -16,7 +16,7 @@ ghost use Rattle.rig.specs.Record.{recordAutomaton, WellFormed};
 ghost use Rattle.promises.specs.Answer.{served, unless};
 ghost use Rattle.promises.specs.Calls.{filled, firstBad, unlessAt, outputAfter, ScratchKept};
 ghost use Rattle.promises.specs.Calls as promised;
-ghost use Rattle.ranking.specs.Ranks.{EventsBelow, notBelow};
+ghost use Rattle.ranking.specs.Ranks.{notBelow};
 ghost use Rattle.shuffle.specs.Outcome.{answerOf as shuffleAnswer};
 ghost use Rattle.filling.specs.CountCheck.{countRows};
 ghost use Rattle.generator.specs.Outcomes.{countAnswer, listAnswer, indexAnswer, notEvent};
@@ -44,7 +44,7 @@ fn first_not_event(sequence: &[u8], events: usize) -> usize
     ensures { λ k. ⌜ k ≡ firstBad (notEvent events) (now (sequence .entry)) ⌝ }
 {
     for k in 0..sequence.len() {
-        if events <= ranking::wide(sequence[k]) {
+        if events <= rig::wide(sequence[k]) {
             return k;
         }
     }
@@ -135,7 +135,6 @@ pub fn scenarios(text: &[u8], h: u64, list: &[u64], cells: &mut [u64], out: &mut
 fn index_cells(rig: Rig, states: usize, sequence: &[u8], cells: &mut [u64]) -> Indexed
     requires { ⌜ WellFormed rig ⌝ }
     requires { ⌜ (states ≡ recordAutomaton rig .states) × (0 < states) × (length (now sequence) ≤ 1000) × ((length (now sequence) + 1) * states ≤ length (now cells)) ⌝ }
-    requires { ⌜ EventsBelow (rig .events) (now sequence) ⌝ }
     ensures { λ r. ⌜ indexAnswer r ≡ countRows (N (recordAutomaton rig) (length (now (sequence .entry))) 0) (unless 14 (firstViolation (recordAutomaton rig) 0 (now (sequence .entry))) (ltb (firstViolation (recordAutomaton rig) 0 (now (sequence .entry))) (length (now (sequence .entry)))) (served (rank (recordAutomaton rig) 0 (now (sequence .entry)) ∷ []))) ⌝ }
     ensures { λ _. ⌜ now (cells .exit) ≡ filled (recordAutomaton rig) (length (now (sequence .entry))) (now (cells .entry)) ⌝ }
 {
@@ -146,7 +145,7 @@ fn index_cells(rig: Rig, states: usize, sequence: &[u8], cells: &mut [u64]) -> I
     match filling::check_count(n) {
         Checked::Refused(number, place) => Indexed::Refused(number, place),
         Checked::Passed => {
-            let ranked = ranking::rank(cells, &table, states, rig.events, 0, sequence);
+            let ranked = ranking::rank(cells, &table, states, 0, sequence);
             match ranked {
                 Ranked::Index(i) => Indexed::Served(i),
                 Ranked::Violation(k) => Indexed::Refused(14, k as u64),

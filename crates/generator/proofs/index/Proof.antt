@@ -5,7 +5,7 @@ use lib.ListN.{length}
 use borrow.Author.Needs.{needs}
 use Rattle.promises.specs.Calls.{index, indexCells}
 use Rattle.filling.proofs.Rows.{early-answer, early-cells, some-states}
-use Rattle.generator.proofs.Laws.{events-below, bad-index, bad-index-cells, index-is, index-cells-are}
+use Rattle.generator.proofs.Laws.{bad-index, bad-index-cells, index-is, index-cells-are}
 use Rattle.generator.proofs.index.Statement.{statement}
 use Rattle.generator.proofs.index.Tie as tie
 use Rattle.generator.proofs.index.Reads as reads
@@ -40,8 +40,7 @@ index-cells-requires c κs =
     let o = c .before .before .before .before .before .before .load in
     let e = c .before .before .before .enum-told .given .1 in
     let r = o .ensures .ready e in
-    let g = c .before .before .first-not-event in
-    (r .well-formed, ((r .joint, some-states (st .text .now) (length (st .sequence .now)) (length (st .cells .now)) (o .result) (o .ensures) (st .cells .now) refl e, r .horizon, r .enough), events-below (o .result .rig .events) (g .result) (st .sequence .now) (g .ensures) (c .before .if1 .left)))
+    (r .well-formed, (r .joint, some-states (st .text .now) (length (st .sequence .now)) (length (st .cells .now)) (o .result) (o .ensures) (st .cells .now) refl e, r .horizon, r .enough))
 
 returns-2 : tie.Need-returns-2
 unfolding index indexCells

@@ -8,7 +8,6 @@ use Rattle.rig.specs.Record.{recordAutomaton}
 use Rattle.pruning.proofs.Digits.{states-few}
 use Rattle.filling.proofs.CountCheck.{told-refused}
 use Rattle.ranking.proofs.Premises.{filled-holds}
-use Rattle.filling.proofs.Laws.{numbered}
 use Rattle.filling.proofs.Rows.{start-cell, cell-room}
 use Rattle.generator.proofs.Laws.{told-index, told-violation}
 use Rattle.generator.proofs.index_cells.Statement.{statement}
@@ -35,7 +34,7 @@ slice-read-n : tie.Need-slice-read-n
 slice-read-n c =
     let st = c .before .before .before .before .before .before .before .before .before in
     let f = c .before .before .before .before .fill-cells in
-    omega (arith, f .kept .1 .1 .1 .0, cell-room (length (st .args .sequence .now)) (st .args .states) (length (st .args .cells .now)) (st .pre .1 .0 .1) (st .pre .1 .0 .3))
+    omega (arith, f .kept .1 .1 .1 .0, cell-room (length (st .args .sequence .now)) (st .args .states) (length (st .args .cells .now)) (st .pre .1 .1) (st .pre .1 .3))
 
 check-count-requires : tie.Need-check-count-requires
 check-count-requires c κs = search needs
@@ -50,13 +49,9 @@ rank-requires : tie.Need-rank-requires
 rank-requires c κs =
     let st = c .before .before .before .before .before .before .before .before .before .before .before .before .before .before in
     let f = c .before .before .before .before .before .before .before .before .before .fill-cells in (
-      (
-        omega (arith, states-few (st .args .rig) (st .pre .0), st .pre .1 .0 .0),
-        st .pre .0 .few-events,
-        st .pre .1 .0 .1,
-        omega (arith, f .kept .1 .1 .1 .0, cell-room (length (st .args .sequence .now)) (st .args .states) (length (st .args .cells .now)) (st .pre .1 .0 .1) (st .pre .1 .0 .3)),
-      ),
+      omega (arith, states-few (st .args .rig) (st .pre .0), st .pre .1 .0),
       st .pre .1 .1,
+      omega (arith, f .kept .1 .1 .1 .0, cell-room (length (st .args .sequence .now)) (st .args .states) (length (st .args .cells .now)) (st .pre .1 .1) (st .pre .1 .3)),
     )
 
 enum-known-ranked : tie.Need-enum-known-ranked
@@ -75,7 +70,7 @@ returns c =
     let w = c .before .before .before .check-count in
     let k = c .before .number .given in
     let A = recordAutomaton (st .args .rig) in
-    let q = start-cell A (length (st .args .sequence .now)) (st .args .cells .now) (f .last .1 .1 .1 .0) (st .args .states) (st .pre .1 .0 .0) (st .pre .1 .0 .1) (f .ensures .1 .0) in
+    let q = start-cell A (length (st .args .sequence .now)) (st .args .cells .now) (f .last .1 .1 .1 .0) (st .args .states) (st .pre .1 .0) (st .pre .1 .1) (f .ensures .1 .0) in
     (told-refused _ (N A (length (st .args .sequence .now)) 0) (w .result) _ (k .0 .0) (k .0 .1 .0) (w .ensures) q (k .1), f .ensures .1 .0)
 
 same-length-2 : tie.Need-same-length-2
@@ -90,10 +85,10 @@ returns-2 c =
     let k = c .before .ranked .given in
     let e = c .before .before .before .before .before .before .enum-told .given .1 in
     let A = recordAutomaton (st .args .rig) in
-    let q = start-cell A (length (st .args .sequence .now)) (st .args .cells .now) (f .last .1 .1 .1 .0) (st .args .states) (st .pre .1 .0 .0) (st .pre .1 .0 .1) (f .ensures .1 .0) in
+    let q = start-cell A (length (st .args .sequence .now)) (st .args .cells .now) (f .last .1 .1 .1 .0) (st .args .states) (st .pre .1 .0) (st .pre .1 .1) (f .ensures .1 .0) in
     let x = w .ensures .exact e (N A (length (st .args .sequence .now)) 0) q in
     let rows = filled-holds A (length (st .args .sequence .now)) (f .last .1 .1 .1 .0) (st .args .cells .now) (f .ensures .1 .0) in
-    (told-index _ (N A (length (st .args .sequence .now)) 0) (w .result) A (st .args .sequence .now) (r .result) (k .0 .0) (w .ensures) q e (r .ensures A (numbered (st .args .rig) (st .args .states) (f .last .1 .1 .1 .1 .0) _ (st .pre .0) (st .pre .1 .0 .0) (f .ensures .1 .1)) rows (x .2)) (k .1), f .ensures .1 .0)
+    (told-index _ (N A (length (st .args .sequence .now)) 0) (w .result) A (st .args .sequence .now) (r .result) (k .0 .0) (w .ensures) q e (r .ensures A (record { tabled = f .ensures .1 .1; holds = rows; not-cut-off = x .2 })) (k .1), f .ensures .1 .0)
 
 same-length-3 : tie.Need-same-length-3
 same-length-3 c = search needs
@@ -107,10 +102,10 @@ returns-3 c =
     let k = c .before .ranked2 .given in
     let e = c .before .before .before .before .before .before .enum-told .given .1 in
     let A = recordAutomaton (st .args .rig) in
-    let q = start-cell A (length (st .args .sequence .now)) (st .args .cells .now) (f .last .1 .1 .1 .0) (st .args .states) (st .pre .1 .0 .0) (st .pre .1 .0 .1) (f .ensures .1 .0) in
+    let q = start-cell A (length (st .args .sequence .now)) (st .args .cells .now) (f .last .1 .1 .1 .0) (st .args .states) (st .pre .1 .0) (st .pre .1 .1) (f .ensures .1 .0) in
     let x = w .ensures .exact e (N A (length (st .args .sequence .now)) 0) q in
     let rows = filled-holds A (length (st .args .sequence .now)) (f .last .1 .1 .1 .0) (st .args .cells .now) (f .ensures .1 .0) in
-    (told-violation _ (N A (length (st .args .sequence .now)) 0) (w .result) A (st .args .sequence .now) (r .result) (k .0 .0) (w .ensures) q e (r .ensures A (numbered (st .args .rig) (st .args .states) (f .last .1 .1 .1 .1 .0) _ (st .pre .0) (st .pre .1 .0 .0) (f .ensures .1 .1)) rows (x .2)) (k .1), f .ensures .1 .0)
+    (told-violation _ (N A (length (st .args .sequence .now)) 0) (w .result) A (st .args .sequence .now) (r .result) (k .0 .0) (w .ensures) q e (r .ensures A (record { tabled = f .ensures .1 .1; holds = rows; not-cut-off = x .2 })) (k .1), f .ensures .1 .0)
 
 pub index-cells-spec : {M : Type 1} → statement M
 index-cells-spec =

@@ -10,9 +10,8 @@ use Rattle.rig.specs.Record.{recordAutomaton}
 use Rattle.pruning.proofs.Digits.{states-few}
 use Rattle.filling.proofs.CountCheck.{told-refused}
 use Rattle.ranking.proofs.Premises.{filled-holds}
-use Rattle.filling.proofs.Laws.{numbered}
 use Rattle.filling.proofs.Rows.{start-cell, cell-room}
-use Rattle.generator.proofs.Laws.{exact-few, listed-told-bad, listed-told-good, listed-kept, listed-output}
+use Rattle.generator.proofs.Laws.{listed-told-bad, listed-told-good, listed-kept, listed-output}
 use Rattle.generator.proofs.list_cells.Statement.{statement}
 use Rattle.generator.proofs.list_cells.Tie as tie
 use Rattle.generator.proofs.list_cells.Reads as reads
@@ -75,9 +74,8 @@ returns c =
     let A = recordAutomaton (st .args .rig) in
     let q = start-cell A (st .args .h) (st .args .cells .now) (f .last .1 .1 .1 .0) (st .args .states) (st .pre .1 .0) (st .pre .1 .1) (f .ensures .1 .0) in
     let x = w .ensures .exact e (N A (st .args .h) 0) q in
-    let few = exact-few _ (N A (st .args .h) 0) (x .0) (x .2) in
     let rows = filled-holds A (st .args .h) (f .last .1 .1 .1 .0) (st .args .cells .now) (f .ensures .1 .0) in
-    (listed-told-bad _ (N A (st .args .h) 0) (u .result) (w .result) (st .args .list .now) (w .ensures) q e (u .ensures .0) (c .if1 .taken), (f .ensures .1 .0, listed-kept A (st .args .h) (u .result) (st .args .list .now) (st .args .out .now) (u .last .1 .1 .1 .1 .1 .1 .1 .0) (c .if1 .taken) (u .ensures .1 A (st .args .rig .events) (numbered (st .args .rig) (st .args .states) (f .last .1 .1 .1 .1 .0) _ (st .pre .0) (st .pre .1 .0) (f .ensures .1 .1)) rows (x .0) few)))
+    (listed-told-bad _ (N A (st .args .h) 0) (u .result) (w .result) (st .args .list .now) (w .ensures) q e (u .ensures .0) (c .if1 .taken), (f .ensures .1 .0, listed-kept A (st .args .h) (u .result) (st .args .list .now) (st .args .out .now) (u .last .1 .1 .1 .1 .1 .1 .1 .0) (c .if1 .taken) (u .ensures .1 A (record { tabled = f .ensures .1 .1; holds = rows; not-cut-off = x .2 }) (x .0))))
 
 same-length-3 : tie.Need-same-length-3
 same-length-3 c = search needs
@@ -110,9 +108,8 @@ returns-3 c =
     let A = recordAutomaton (st .args .rig) in
     let q = start-cell A (st .args .h) (st .args .cells .now) (f .last .1 .1 .1 .0) (st .args .states) (st .pre .1 .0) (st .pre .1 .1) (f .ensures .1 .0) in
     let x = w .ensures .exact e (N A (st .args .h) 0) q in
-    let few = exact-few _ (N A (st .args .h) 0) (x .0) (x .2) in
     let rows = filled-holds A (st .args .h) (f .last .1 .1 .1 .0) (st .args .cells .now) (f .ensures .1 .0) in
-    (listed-told-good _ (N A (st .args .h) 0) (u .result) (w .result) (st .args .list .now) (w .ensures) q e (u .ensures .0) (c .if1 .left), (f .ensures .1 .0, listed-output A (st .args .h) _ (u .result) (st .args .list .now) (st .args .out .now) (u .last .1 .1 .1 .1 .1 .1 .1 .0) (x .0) (u .ensures .0) (c .if1 .left) (u .ensures .1 A (st .args .rig .events) (numbered (st .args .rig) (st .args .states) (f .last .1 .1 .1 .1 .0) _ (st .pre .0) (st .pre .1 .0) (f .ensures .1 .1)) rows (x .0) few)))
+    (listed-told-good _ (N A (st .args .h) 0) (u .result) (w .result) (st .args .list .now) (w .ensures) q e (u .ensures .0) (c .if1 .left), (f .ensures .1 .0, listed-output A (st .args .h) _ (u .result) (st .args .list .now) (st .args .out .now) (u .last .1 .1 .1 .1 .1 .1 .1 .0) (x .0) (u .ensures .0) (c .if1 .left) (u .ensures .1 A (record { tabled = f .ensures .1 .1; holds = rows; not-cut-off = x .2 }) (x .0))))
 
 pub list-cells-spec : {M : Type 1} → statement M
 list-cells-spec =
