@@ -18,7 +18,8 @@ use Rattle.automaton.specs.Ranking.{unrank}
 use Rattle.promises.specs.Answer.{Answer, refused}
 use Rattle.promises.specs.Rig.{rigAutomaton, start}
 use Rattle.promises.specs.Calls.{filled, cellsAfter, sized, count, countCells}
-use Rattle.ranking.specs.Ranks.{Numbered, HoldsRows}
+use Rattle.ranking.specs.Ranks.{Exact}
+use Rattle.counting.specs.Tabled.{Tabled}
 use Rattle.ranking.proofs.Premises.{filled-holds}
 use Rattle.ranking.proofs.Walk.{length-unrank}
 use Rattle.checks.specs.declared.Checked.{Checked}
@@ -27,7 +28,7 @@ use Rattle.filling.specs.CountCheck.{Tells}
 use Rattle.filling.proofs.Rows.{early-fills}
 use Rattle.line.specs.Line.{lineOf}
 use Rattle.listing.specs.Listing.{asked, text, owned, answerTo, answer, cellsLeft, horizon, orZero, scenarioLine}
-use Rattle.listing.specs.Printing.{askedAs, WithinLimits, Begins, Lists}
+use Rattle.listing.specs.Printing.{askedAs, WithinLimits, Begins, Lists, WritesEvents}
 use Rattle.listing.specs.declared.Asked.{Asked}
 use Rattle.listing.specs.declared.Asked.the-variants.{Horizon, Bad}
 use Rattle.listing.specs.declared.Begun.{Begun}
@@ -57,15 +58,12 @@ sized-counted b room short some-states few-states enough q =
     record { short = short; some-states = some-states; few-states = few-states; enough = omega (arith, rows-room (b .horizon) (b .states) room enough) }
 
 -- cells that are filled, and a count that is exact, serve the lines
-pub lists-counted : (A : Automaton) (b : Begun) (events c : ℕ) (k : Checked) (cells d table : List ℕ) → Numbered A (b .states) events table → cells ≡ filled A (b .horizon) d
+pub lists-counted : (A : Automaton) (b : Begun) (c : ℕ) (k : Checked) (cells d table : List ℕ) → Tabled A (b .states) table → cells ≡ filled A (b .horizon) d
     → Tells c k → c ≡ min (N A (b .horizon) 0) most → k ≡ Passed → b .lines ≡ min c 1000 → Lists A 0 b cells table
-lists-counted A b events c k cells d table m f t q e l =
+lists-counted A b c k cells d table m f t q e l =
     record {
       starts = refl;
-      events = events;
-      numbered = m;
-      rows = filled-holds A (b .horizon) cells d f;
-      exact = t .exact e (N A (b .horizon) 0) q .2;
+      exact = record { tabled = m; holds = filled-holds A (b .horizon) cells d f; not-cut-off = t .exact e (N A (b .horizon) 0) q .2 };
       below = omega (arith, t .exact e (N A (b .horizon) 0) q .0);
     }
 
@@ -150,14 +148,12 @@ module _ (input : List ℕ) (r : Asked) (a : r ≡ askedAs (asked input) (indexO
 -- ---- the line of an index
 
 pub events-of : (t : List ℕ) (b : Begun) (cells table : List ℕ) (i : ℕ) (es d : List ℕ) → Lists (rigAutomaton t) (start t) b cells table → i < b .lines
-    → ((A : Automaton) (events : ℕ) → Numbered A (b .states) events table → HoldsRows A (b .horizon) cells → i < N A (b .horizon) 0 → N A (b .horizon) 0 < most
-    → es ≡ unrank A (b .horizon) 0 i ++ drop (b .horizon) d)
+    → WritesEvents table cells (b .states) (b .horizon) i d es
     → es ≡ unrank (rigAutomaton t) (b .horizon) (start t) i ++ drop (b .horizon) d
-events-of t b cells table i es d ls lt u = rw (ls .starts) (u (rigAutomaton t) (ls .events) (ls .numbered) (ls .rows) (omega (arith, ls .below)) (ls .exact))
+events-of t b cells table i es d ls lt u = rw (ls .starts) (u (rigAutomaton t) (ls .exact) (omega (arith, ls .below)))
 
 pub line-of : (t : List ℕ) (b : Begun) (cells table : List ℕ) (i : ℕ) (es d line l : List ℕ) (r : ℕ) → Lists (rigAutomaton t) (start t) b cells table → i < b .lines
-    → ((A : Automaton) (events : ℕ) → Numbered A (b .states) events table → HoldsRows A (b .horizon) cells → i < N A (b .horizon) 0 → N A (b .horizon) 0 < most
-    → es ≡ unrank A (b .horizon) 0 i ++ drop (b .horizon) d)
+    → WritesEvents table cells (b .states) (b .horizon) i d es
     → r ≡ length (lineOf i (take (b .horizon) es)) → l ≡ lineOf i (take (b .horizon) es) ++ drop (length (lineOf i (take (b .horizon) es))) line
     → (r ≡ length (scenarioLine t (b .horizon) i)) × (l ≡ scenarioLine t (b .horizon) i ++ drop (length (scenarioLine t (b .horizon) i)) line)
 unfolding scenarioLine
@@ -174,13 +170,12 @@ line-of t b cells table i es d line l r ls lt u e w = rw (← events-are) (e, w)
 
     events-are : take (b .horizon) es ≡ unrank (rigAutomaton t) (b .horizon) (start t) i
     events-are =
-        ap (take h) (u A (ls .events) (ls .numbered) (ls .rows) is-below (ls .exact))
+        ap (take h) (u A (ls .exact) is-below)
         ∙ take-at (unrank A h 0 i) (drop h d) h (length-unrank A h 0 i is-below)
         ∙ ap (λ (x : ℕ). unrank A h x i) (sym (ls .starts))
 
 -- what unranking wrote to the part lent, seen in the whole
-pub events-front : (A : Automaton) (cells : List ℕ) (h m i : ℕ) (ys rest : List ℕ) → m ≡ h
-    → (HoldsRows A m cells → i < N A m 0 → N A m 0 < most → ys ≡ unrank A m 0 i)
-    → HoldsRows A h cells → i < N A h 0 → N A h 0 < most → ys ++ rest ≡ unrank A h 0 i ++ rest
-events-front A cells h m i ys rest q u r b x =
-    ap (λ (l : List ℕ). l ++ rest) (subst (λ (n : ℕ). HoldsRows A n cells → i < N A n 0 → N A n 0 < most → ys ≡ unrank A n 0 i) q u r b x)
+pub events-front : (A : Automaton) (table cells : List ℕ) (p h m i : ℕ) (ys rest : List ℕ) → m ≡ h
+    → (Exact A p m 0 table cells → i < N A m 0 → ys ≡ unrank A m 0 i) → Exact A p h 0 table cells → i < N A h 0 → ys ++ rest ≡ unrank A h 0 i ++ rest
+events-front A table cells p h m i ys rest q u x b =
+    ap (λ (l : List ℕ). l ++ rest) (subst (λ (n : ℕ). Exact A p n 0 table cells → i < N A n 0 → ys ≡ unrank A n 0 i) q u x b)

@@ -3,6 +3,7 @@
 --   WithinLimits b room == the cells of b's horizon and joint states are among `room` cells, and within the limits of paper 01
 --   Begins a b d l      == the line d is now l, with the first line for the answer a at its front, and b tells its length and how many lines follow
 --   Lists A x b c t     == the cells c and the table t serve the lines that b tells, for the automaton A from its start x
+--   WritesEvents t c p h i d e == e is the list d with the scenario of index i from 0, of h events, at its front
 -- Assumes nothing.
 use mathlib.Core.Path.{_≡_}
 use mathlib.Core.List.{List, _++_}
@@ -10,9 +11,10 @@ use mathlib.Core.Option.{Option, none, some}
 use Prim.Native.Nat.{ℕ, _*_, _≤_, _<_}
 use lib.ListN.{length, drop}
 use Rattle.automaton.specs.Automaton.{Automaton}
-use Rattle.automaton.specs.Counting.{N, most}
+use Rattle.automaton.specs.Counting.{N}
+use Rattle.automaton.specs.Ranking.{unrank}
 use Rattle.promises.specs.Answer.{Answer}
-use Rattle.ranking.specs.Ranks.{Numbered, HoldsRows}
+use Rattle.ranking.specs.Ranks.{Exact}
 use Rattle.listing.specs.Listing.{headLine, follow}
 use Rattle.listing.specs.declared.Asked.{Asked}
 use Rattle.listing.specs.declared.Asked.the-variants.{Horizon, Bad}
@@ -35,8 +37,9 @@ pub record Begins (a : Answer) (b : Begun) (line left : List ℕ) : Type 0 where
 
 pub record Lists (A : Automaton) (x : ℕ) (b : Begun) (cells table : List ℕ) : Type 0 where
   pub starts : x ≡ 0
-  pub events : ℕ
-  pub numbered : Numbered A (b .states) events table
-  pub rows : HoldsRows A (b .horizon) cells
-  pub exact : N A (b .horizon) 0 < most
+  pub exact : Exact A (b .states) (b .horizon) 0 table cells
   pub below : b .lines ≤ N A (b .horizon) 0
+
+abbrev pub WritesEvents : List ℕ → List ℕ → ℕ → ℕ → ℕ → List ℕ → List ℕ → Type 0
+WritesEvents table cells p h i d events =
+    (A : Automaton) → Exact A p h 0 table cells → i < N A h 0 → events ≡ unrank A h 0 i ++ drop h d

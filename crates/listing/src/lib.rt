@@ -8,8 +8,7 @@ ghost use Prim.Native.Nat.{ℕ, _+_, _*_, _<_, _≤_, min};
 ghost use lib.ListN.{length, take, drop};
 ghost use Rattle.lists.specs.Lists.{indexOf};
 ghost use Rattle.automaton.specs.Pruning.{passes};
-ghost use Rattle.automaton.specs.Automaton.{Automaton};
-ghost use Rattle.automaton.specs.Counting.{N, most};
+ghost use Rattle.automaton.specs.Counting.{N};
 ghost use Rattle.automaton.specs.Ranking.{unrank};
 ghost use Rattle.rig.specs.Record.{recordAutomaton, WellFormed};
 ghost use Rattle.promises.specs.Answer.{served, refused};
@@ -19,9 +18,8 @@ ghost use Rattle.promises.specs.Calls.{filled};
 ghost use Rattle.promises.specs.Calls as promised;
 ghost use Rattle.decoding.specs.Forms.{valueOf};
 ghost use Rattle.filling.specs.CountCheck.{countRows};
-ghost use Rattle.ranking.specs.Ranks.{Numbered, HoldsRows};
 ghost use Rattle.listing.specs.Listing.{askedIn, asked, text, answer, cellsLeft, horizon, scenarioLine};
-ghost use Rattle.listing.specs.Printing.{askedAs, WithinLimits, Begins, Lists};
+ghost use Rattle.listing.specs.Printing.{askedAs, WithinLimits, Begins, Lists, WritesEvents};
 
 // What the first line asks for: a horizon, with the place where the rig text begins; or it is no `ask` line.
 pub enum Asked {
@@ -172,7 +170,7 @@ fn write_events(
     events: &mut [u8],
 )
     requires { ⌜ (states ≤ 1024) × (0 < states) × (h * states ≤ length (now cells)) × (h ≤ length (now events)) ⌝ }
-    ensures { λ _. ⌜ ((A : Automaton) (e : ℕ) → Numbered A states e (now (table .entry)) → HoldsRows A h (now (cells .entry)) → i < N A h 0 → N A h 0 < most → now (events .exit) ≡ unrank A h 0 i ++ drop h (now (events .entry))) ⌝ }
+    ensures { λ _. ⌜ WritesEvents (now (table .entry)) (now (cells .entry)) states h i (now (events .entry)) (now (events .exit)) ⌝ }
 {
     ranking::unrank(cells, table, states, 0, i, &mut events[..h]);
 }

@@ -10,7 +10,6 @@ use Rattle.promises.specs.Answer.{served}
 use Rattle.rig.specs.Record.{recordAutomaton}
 use Rattle.pruning.proofs.Digits.{states-few}
 use Rattle.filling.proofs.CountCheck.{told-refused}
-use Rattle.filling.proofs.Laws.{numbered}
 use Rattle.filling.proofs.Rows.{start-cell, told-count}
 use Rattle.listing.proofs.Beginning.{begins-as, sized-counted, lists-counted}
 use borrow.Author.Needs.{needs}
@@ -103,7 +102,7 @@ returns-2 c =
       sized-counted _ (length (st .args .cells .now)) (st .pre .1 .2) (st .pre .1 .1) (omega (arith, states-few (st .args .rig) (st .pre .0), st .pre .1 .0)) (st .pre .1 .3) (st .pre .1 .4),
       (
         begins-as _ _ _ _ _ (told-count _ (N A (st .args .h) 0) (f .result) (passes A) (w .result) (w .ensures) q e (f .ensures .0)) (record { written = l .ensures .1; told = l .ensures .0; follows = c .first-lines .ensures }),
-        (λ lt. (refl, lists-counted A _ _ _ (w .result) (f .last .1 .1 .1 .0) (st .args .cells .now) _ (numbered (st .args .rig) (st .args .states) (f .last .1 .1 .1 .1 .0) _ (st .pre .0) (st .pre .1 .0) (f .ensures .1 .1)) (f .ensures .1 .0) (w .ensures) q e (c .first-lines .ensures)), f .ensures .1 .0),
+        (λ lt. (refl, lists-counted A _ _ (w .result) (f .last .1 .1 .1 .0) (st .args .cells .now) _ (f .ensures .1 .1) (f .ensures .1 .0) (w .ensures) q e (c .first-lines .ensures)), f .ensures .1 .0),
       ),
     )
 

@@ -25,7 +25,7 @@ same-length c = search needs
 returns : tie.Need-returns
 returns c =
     let st = c .before .before .before .before .before .before in
-    λ A e n r b x. events-front A (st .args .cells .now) (st .args .h) _ (st .args .i) _ _ (length-take-le (st .args .h) (st .args .events .now) (st .pre .3)) (c .before .before .unrank .ensures A e n) r b x
+    λ A x b. events-front A (st .args .table .now) (st .args .cells .now) (st .args .states) (st .args .h) _ (st .args .i) _ _ (length-take-le (st .args .h) (st .args .events .now) (st .pre .3)) (c .before .before .unrank .ensures A) x b
 
 pub write-events-spec : {M : Type 1} → statement M
 write-events-spec =
