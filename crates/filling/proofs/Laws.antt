@@ -1,10 +1,10 @@
 -- What a pruned rig's flags and table are to those who count. Assumes nothing.
 use mathlib.Core.Path.{_≡_, sym, ap, _∙_}
-use mathlib.Core.List.{List, _++_}
+use mathlib.Core.List.{List}
 use Prim.Native.Nat.{ℕ, _+_, _*_}
 use native.Mathlib.Omega.{arith}
 use native.Mathlib.Nat.{mul-le-mul-right}
-use lib.ListN.{length, getD, List·getD-append}
+use lib.ListN.{getD, List·getD-append}
 use Rattle.lists.proofs.Tables.{length-tabulate, getD-tabulate, getD-stack}
 use Rattle.automaton.specs.Automaton.{Automaton}
 use Rattle.automaton.specs.Table.{entry, stateRow, tableOf, withTable, Pruned, liveFlags, withFlags}

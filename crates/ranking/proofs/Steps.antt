@@ -13,7 +13,7 @@ use lib.ListN.{length, getD, take}
 use lib.Dec.{ltb}
 use borrow.Author.Tests.{ltb-true, lt-ltb, eq-eqb, ne-eqb}
 use Rattle.lists.specs.Lists.{pick, sum, Pairwise, more}
-use Rattle.lists.proofs.Tests.{case, contra, split}
+use Rattle.lists.proofs.Tests.{case}
 use Rattle.lists.proofs.Members.{getD-in}
 use Rattle.lists.proofs.Distinct.{in-place}
 use Rattle.automaton.specs.Automaton.{Automaton}
@@ -27,8 +27,7 @@ use Rattle.automaton.proofs.Table.{EntryAt, before-live, live-in, live-at, live
 use Rattle.counting.specs.Tabled.{Tabled, HoldsRow}
 use Rattle.counting.proofs.Sums.{upTo, upTo-suc, upTo-total, upTo-least, tabled-few, tabled-some, tabled-none, entry-state, beside}
 use Rattle.ranking.specs.declared.Choice.{Choice}
-use Rattle.ranking.specs.declared.Found.{Found}
-use Rattle.ranking.specs.Ranks.{Chosen, ChosenOrNone, noChoice, FoundEvent, FoundOrNot}
+use Rattle.ranking.specs.Ranks.{Chosen, ChosenOrNone, noChoice, FoundOrNot}
 
 -- a count that is above some number is that of a state
 pub counted-state : (y p v k : ℕ) → k < pick (ltb y p) v 0 → y < p

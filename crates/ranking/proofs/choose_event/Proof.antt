@@ -1,7 +1,7 @@
 -- The invariant: what is left of the index, with the counts of the live events passed, is the index. The first count above what is left is that of the
 -- event it falls in (`choose-here`); where no live event is left there is none (`choose-none`).
 use mathlib.Core.Path.{_≡_, subst}
-use Prim.Native.Nat.{ℕ, _+_, _-_, _*_, _%_, _≤_, _<_}
+use Prim.Native.Nat.{ℕ, _+_, _-_, _%_, _≤_, _<_}
 use native.Mathlib.Omega.{arith}
 use Rattle.automaton.specs.Automaton.{Automaton}
 use Rattle.automaton.specs.Counting.{N, most}
@@ -53,8 +53,7 @@ returns c =
     let a = st .args in
     let lp = c .before .before .before .before .before .before .loop in
     let wd = c .before .before .before .wide in
-    let hc = c .before .before .before .before .before .loop-test .taken in
-    (
+    let hc = c .before .before .before .before .before .loop-test .taken in (
       counted-state (wd .result % 1024) (a .p) _ (lp .left) (subst (λ (n : ℕ). lp .left < n) (c .before .count-at .ensures) (c .if2 .taken)),
       λ A r tabled holds.
           choose-here A (a .p) (a .table .now) tabled (st .pre .0) (a .x) (st .pre .1) (lp .c) (wd .result) hc (wd .ensures .0) (c .before .before .if1 .left)
@@ -73,8 +72,7 @@ loop-again c =
     let a = st .args in
     let lp = c .before .before .before .before .before .before .loop in
     let wd = c .before .before .before .wide in
-    let hc = c .before .before .before .before .before .loop-test .taken in
-    (
+    let hc = c .before .before .before .before .before .loop-test .taken in (
       omega arith,
       λ A r tabled holds le.
           step-over A (a .p) (a .table .now) tabled (st .pre .0) (a .x) (st .pre .1) (lp .c) (wd .result) hc (wd .ensures .0) (c .before .before .if1 .left)

@@ -1,7 +1,7 @@
 -- The invariant: the events passed lead to the state reached by live states, and the index so far is their part of the rank (`Along`). Each event goes on
 -- so (`along-step`) or is the violation (`along-off`); at the end nothing is left to rank (`along-end`).
 use mathlib.Core.Path.{_≡_}
-use Prim.Native.Nat.{ℕ, _+_, _-_, _*_, _≤_, _<_}
+use Prim.Native.Nat.{_+_, _-_, _*_, _≤_, _<_}
 use native.Mathlib.Omega.{arith}
 use lib.ListN.{length, getD, length-take, length-drop}
 use Rattle.automaton.specs.Automaton.{Automaton}
@@ -105,8 +105,7 @@ loop-again c =
     let told : (A : Automaton) → Exact A (a .p) (length s) (a .x) (a .table .now) (a .cells .now) → FoundOrNot A (a .p) r (lp .at) (getD s (lp .k) 0) (f .result) =
     λ A exact.
     f .ensures A r (exact .tabled) (row-lent A (a .cells .now) (a .p) r (length s) (exact .tabled .states) (exact .holds) (omega arith))
-    (along-least A (a .x) s (lp .k) (lp .at) (lp .index) lt (exact .not-cut-off) (lp .inv .2 A exact)) in
-    (
+    (along-least A (a .x) s (lp .k) (lp .at) (lp .index) lt (exact .not-cut-off) (lp .inv .2 A exact)) in (
       omega arith,
       omega arith,
       λ A exact.
