@@ -1,5 +1,5 @@
-//! How long the calls take beside plain Rust on the same input, in the same run: the best of some rounds, taken in turn. Buffers are lent as
-//! the round before left them. Every answer is compared.
+//! How long the calls take beside plain Rust and plain C on the same input, in the same run: the best of some rounds, taken in turn. Buffers are
+//! lent as the round before left them. Every answer is compared.
 mod plain;
 
 use outside::{calls, random::Random};
@@ -12,14 +12,17 @@ fn timed(f: &mut dyn FnMut()) -> f64 {
     start.elapsed().as_secs_f64() * 1e3
 }
 
-/// Prints the best times of both in milliseconds, and their ratio.
-fn row(name: &str, rounds: usize, ours: &mut dyn FnMut(), plain: &mut dyn FnMut()) {
-    let (mut a, mut b) = (f64::MAX, f64::MAX);
+/// Prints the best times of ours, plain Rust and plain C in milliseconds, and the ratios of ours to the others.
+fn row(name: &str, rounds: usize, runs: &mut [&mut dyn FnMut()]) {
+    let mut best = vec![f64::MAX; runs.len()];
     for _ in 0..rounds {
-        a = a.min(timed(ours));
-        b = b.min(timed(plain));
+        for (b, run) in best.iter_mut().zip(runs.iter_mut()) {
+            *b = b.min(timed(run));
+        }
     }
-    println!("{name:58} {a:10.3} {b:10.3} {:7.2}", a / b);
+    let times: String = best.iter().map(|b| format!(" {b:10.3}")).collect();
+    let ratios: String = best[1..].iter().map(|b| format!(" {:7.2}", best[0] / b)).collect();
+    println!("{name:62}{times:33}{ratios}");
 }
 
 /// Every monitor has every move, to random states.
@@ -70,50 +73,84 @@ fn slow_growth(levels: u64, others: &[u64]) -> Vec<u8> {
 
 fn count(name: &str, rounds: usize, t: &[u8], h: usize) {
     let p = read(t).map(|r| prune(&r).states).unwrap();
-    let (mut a, mut b) = (vec![0; (h + 1) * p], vec![0; (h + 1) * p]);
+    let [mut a, mut b, mut c] = [(); 3].map(|_| vec![0; (h + 1) * p]);
     let (mut told, mut passes) = (None, 0);
-    row(name, rounds, &mut || told = Some(calls::count(t, h as u64, &mut a)), &mut || {
-        let pruned = prune(&read(t).unwrap());
-        pruned.fill(h, &mut b);
-        passes = pruned.passes;
-    });
+    row(
+        name,
+        rounds,
+        &mut [
+            &mut || told = Some(calls::count(t, h as u64, &mut a)),
+            &mut || {
+                let pruned = prune(&read(t).unwrap());
+                pruned.fill(h, &mut b);
+                passes = pruned.passes;
+            },
+            &mut || prune(&read(t).unwrap()).c_fill(h, &mut c),
+        ],
+    );
     let told = told.unwrap();
-    assert!(a == b && (told.number != 0 || told.words == [b[h * p], passes]));
+    assert!(a == b && a == c && (told.number != 0 || told.words == [b[h * p], passes]));
 }
 
 fn scenarios(name: &str, t: &[u8], h: usize, list: usize, rng: &mut Random) {
     let p = read(t).map(|r| prune(&r).states).unwrap();
-    let (mut cells, mut other) = (vec![0; (h + 1) * p], vec![0; (h + 1) * p]);
+    let [mut cells, mut other, mut third] = [(); 3].map(|_| vec![0; (h + 1) * p]);
     let n = calls::count(t, h as u64, &mut cells).words[0];
     let indices: Vec<u64> = (0..list).map(|_| rng.below(n)).collect();
-    let (mut a, mut b) = (vec![0; list * h], vec![0; list * h]);
-    row(name, 5, &mut || assert!(calls::scenarios(t, h as u64, &indices, &mut cells, &mut a).number == 0), &mut || {
-        let pruned = prune(&read(t).unwrap());
-        pruned.fill(h, &mut other);
-        for (i, part) in indices.iter().zip(b.chunks_mut(h)) {
-            pruned.unrank(&other, *i, part);
-        }
-    });
-    assert!(a == b);
-    let (mut i, mut j) = (None, None);
-    row(&format!("index of one of these, {h} events"), 20, &mut || i = Some(calls::index(t, &a[..h], &mut cells).words[0]), &mut || {
-        let pruned = prune(&read(t).unwrap());
-        pruned.fill(h, &mut other);
-        j = pruned.rank(&other, &b[..h]);
-    });
-    assert!(i == j);
+    let [mut a, mut b, mut c] = [(); 3].map(|_| vec![0; list * h]);
+    row(
+        name,
+        5,
+        &mut [
+            &mut || assert!(calls::scenarios(t, h as u64, &indices, &mut cells, &mut a).number == 0),
+            &mut || {
+                let pruned = prune(&read(t).unwrap());
+                pruned.fill(h, &mut other);
+                indices.iter().zip(b.chunks_mut(h)).for_each(|(i, part)| pruned.unrank(&other, *i, part));
+            },
+            &mut || {
+                let pruned = prune(&read(t).unwrap());
+                pruned.c_fill(h, &mut third);
+                indices.iter().zip(c.chunks_mut(h)).for_each(|(i, part)| pruned.c_unrank(&third, *i, part));
+            },
+        ],
+    );
+    assert!(a == b && a == c);
+    let [mut i, mut j, mut k] = [None; 3];
+    row(
+        &format!("index of one of these, {h} events"),
+        20,
+        &mut [
+            &mut || i = Some(calls::index(t, &a[..h], &mut cells).words[0]),
+            &mut || {
+                let pruned = prune(&read(t).unwrap());
+                pruned.fill(h, &mut other);
+                j = pruned.rank(&other, &b[..h]);
+            },
+            &mut || {
+                let pruned = prune(&read(t).unwrap());
+                pruned.c_fill(h, &mut third);
+                k = pruned.c_rank(&third, &c[..h]);
+            },
+        ],
+    );
+    assert!(i == j && i == k);
 }
 
 fn shuffle(name: &str, n: u64, draws: Vec<u64>, array: bool) {
     let z = draws.len();
     let (mut scratch, mut a, mut b) = (vec![0; 2 * z], vec![0; z], vec![0; z]);
-    row(name, 5, &mut || assert!(calls::shuffle(n, &draws, &mut scratch, &mut a).number == 0), &mut || {
-        if array {
-            plain::shuffle_array(n, &draws, &mut b)
-        } else {
-            plain::shuffle_map(&draws, &mut b)
-        }
-    });
+    row(
+        name,
+        5,
+        &mut [&mut || assert!(calls::shuffle(n, &draws, &mut scratch, &mut a).number == 0), &mut || {
+            if array {
+                plain::shuffle_array(n, &draws, &mut b)
+            } else {
+                plain::shuffle_map(&draws, &mut b)
+            }
+        }],
+    );
     assert!(a == b);
 }
 
@@ -157,16 +194,17 @@ fn growths() {
 
 fn main() {
     let rng = &mut Random::seeded(1);
-    println!("{:58} {:>10} {:>10} {:>7}", "", "ours ms", "plain ms", "ratio");
+    println!("{:62} {:>10} {:>10} {:>10} {:>7} {:>7}", "", "ours ms", "Rust ms", "C ms", "/ Rust", "/ C");
     let two = full_rig(&[32, 32], rng);
-    count("count, P 1,024 of 2 monitors, E 16, h 1,000", 5, &two, 1000);
-    count("count, P 1,024 of 4 monitors, E 16, h 1,000", 5, &full_rig(&[8, 4, 8, 4], rng), 1000);
-    count("count, P 1,024 of 3 monitors, no full cell, E 16, h 1,000", 5, &slow_growth(4, &[32, 8]), 1000);
+    count("count, dense: 16 ways a state, P 1,024 of 2 monitors, h 1,000", 5, &two, 1000);
+    count("count, dense: 16 ways a state, P 1,024 of 4 monitors, h 1,000", 5, &full_rig(&[8, 4, 8, 4], rng), 1000);
+    count("count, dense: 16 ways a state, P 1,024, no full cell, h 15", 200, &two, 15);
+    count("count, sparse: 1 or 2 ways, P 1,024, no full cell, h 1,000", 5, &slow_growth(4, &[32, 8]), 1000);
     count("count, a dead path of 1,024 joint states, h 0", 20, &dead_path(), 0);
     count(&format!("count, the largest readable text ({} bytes), h 0", two.len()), 50, &two, 0);
     let slow = slow_growth(6, &[32]);
-    scenarios("20,000 scenarios of 1,000 events, P 192, E 16", &slow, 1000, 20_000, rng);
-    scenarios("200,000 scenarios of 30 events, P 192, E 16", &slow, 30, 200_000, rng);
+    scenarios("20,000 scenarios of 1,000 events, sparse, P 192", &slow, 1000, 20_000, rng);
+    scenarios("200,000 scenarios of 30 events, sparse, P 192", &slow, 30, 200_000, rng);
     let full = 1_000_000;
     shuffle("shuffle, all of 10^6, against an array", full, (0..full).map(|i| rng.from_to(i, full - 1)).collect(), true);
     shuffle("shuffle, all of 10^6, against a map", full, (0..full).map(|i| rng.from_to(i, full - 1)).collect(), false);

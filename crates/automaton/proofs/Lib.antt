@@ -4,5 +4,6 @@ pub mod Pruning
 pub mod Counting
 pub mod Ranking
 pub mod Cells
+pub mod Table
 pub mod Shuffle
 pub mod Source000

@@ -85,6 +85,14 @@ choose-back c rest {e} (there {x = d} {xs = l} k) j h =
     shift : c d + before c l e + j - c d ≡ before c l e + j
     shift = omega arith
 
+-- e's part ends within the whole
+pub before-room : (c : ℕ → ℕ) {e : ℕ} {l : List ℕ} → In e l → before c l e + c e ≤ sum c l
+unfolding before
+before-room c {e} (here {x = d} {xs = l} q) = rw (q, eq-eqb d d refl) (omega arith)
+before-room c {e} (there {x = d} {xs = l} k) =
+    let ih = before-room c k in
+    case (eqb d e) (λ t. rw (t, eqb-true d e t) (omega arith)) (λ t. rw t (omega arith))
+
 module _ (A : Automaton) where
   open Automaton A using (states, events, next, stop)
 

@@ -1,6 +1,6 @@
 -- What filling the cells tells and leaves.
 --   TellsRows c k                   == k tells rows 9 and 10 of every count that the cell c holds
---   Fills A p n x h f cells left t  == f tells N from x with the passes, or row 9 or 10; the cells are filled, and t is the table of A with p states and n events
+--   Fills A p x h f cells left t    == f tells N from x with the passes, or row 9 or 10; the cells are filled, and t is the table of A with p states
 -- Beside a refusal the count told is the cell of x, 0 or 2^64 − 1. Assumes nothing.
 use mathlib.Core.Path.{_≡_}
 use mathlib.Core.List.{List}
@@ -13,7 +13,7 @@ use Rattle.promises.specs.Calls.{countRows, filled}
 use Rattle.checks.specs.Loading.{checkedOr}
 use Rattle.checks.specs.declared.Checked.{Checked}
 use Rattle.checks.specs.declared.Checked.the-variants.{Passed}
-use Rattle.ranking.specs.Ranks.{Numbered}
+use Rattle.counting.specs.Tabled.{Tabled}
 use Rattle.filling.specs.declared.Filled.{Filled}
 
 pub record TellsRows (c : ℕ) (k : Checked) : Type 0 where
@@ -21,11 +21,11 @@ pub record TellsRows (c : ℕ) (k : Checked) : Type 0 where
   pub some : k ≡ Passed → 1 ≤ c
   pub few : k ≡ Passed → c < most
 
-pub record Fills (A : Automaton) (p events x h : ℕ) (f : Filled) (cells left table : List ℕ) : Type 0 where
+pub record Fills (A : Automaton) (p x h : ℕ) (f : Filled) (cells left table : List ℕ) : Type 0 where
   pub answer : (a : Answer) → countRows (N A h x) a ≡ checkedOr (f .checked) a
   pub counted : f .count ≡ min (N A h x) most
   pub some : f .checked ≡ Passed → 1 ≤ f .count
   pub few : f .checked ≡ Passed → f .count < most
   pub passed : f .passes ≡ passes A
   pub cells-filled : left ≡ filled A h cells
-  pub tabled : Numbered A p events table
+  pub tabled : Tabled A p table

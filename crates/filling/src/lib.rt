@@ -7,7 +7,7 @@ ghost use Rattle.automaton.specs.Pruning.{passes};
 ghost use Rattle.rig.specs.Record.{recordAutomaton};
 ghost use Rattle.promises.specs.Calls.{filled};
 ghost use Rattle.checks.specs.Loading.{Fits};
-ghost use Rattle.ranking.specs.Ranks.{Numbered};
+ghost use Rattle.counting.specs.Tabled.{Tabled};
 ghost use Rattle.filling.specs.Filling.{TellsRows, Fills};
 
 // Whether row 9 or 10 applied, with the cell of the start, which is N where none did, and the number of passes.
@@ -20,7 +20,7 @@ pub struct Filled {
 // Prunes the rig, fills the table and the cells of rows 0 to h, and tells rows 9 and 10 by the cell of the start.
 pub fn fill_cells(rig: Rig, states: usize, h: usize, cells: &mut [u64], table: &mut [u16]) -> Filled
     requires { ⌜ Fits rig states h (length (now cells)) × (length (now table) ≡ 16384) ⌝ }
-    ensures { λ f. ⌜ Fills (recordAutomaton rig) states (rig .events) 0 h f (now (cells .entry)) (now (cells .exit)) (now (table .exit)) ⌝ }
+    ensures { λ f. ⌜ Fills (recordAutomaton rig) states 0 h f (now (cells .entry)) (now (cells .exit)) (now (table .exit)) ⌝ }
 {
     let passes = prune_and_fill(rig, states, h, cells, table);
     let count = cells[h * states];
@@ -36,12 +36,11 @@ fn prune_and_fill(rig: Rig, states: usize, h: usize, cells: &mut [u64], table: &
     requires { ⌜ Fits rig states h (length (now cells)) × (length (now table) ≡ 16384) ⌝ }
     ensures { λ r. ⌜ r ≡ passes (recordAutomaton rig) ⌝ }
     ensures { λ _. ⌜ now (cells .exit) ≡ filled (recordAutomaton rig) h (now (cells .entry)) ⌝ }
-    ensures { λ _. ⌜ Numbered (recordAutomaton rig) states (rig .events) (now (table .exit)) ⌝ }
+    ensures { λ _. ⌜ Tabled (recordAutomaton rig) states (now (table .exit)) ⌝ }
 {
     let mut live = [0u8; 1024];
-    let passes = pruning::prune(rig, &mut live);
-    pruning::fill_table(rig, &live, table);
-    counting::fill(cells, table, &live, states, rig.events, h);
+    let passes = pruning::prune(rig, &mut live, table);
+    counting::fill(cells, table, &live, states, h);
     passes
 }
 

@@ -17,7 +17,7 @@ use Rattle.promises.specs.Answer.{Answer, served, refused, unless}
 use Rattle.promises.specs.Text.{decoded, eventsOf}
 use Rattle.promises.specs.Rig.{rigAutomaton, start}
 use Rattle.promises.specs.Calls.{notBelow, indicesRow, sequenceRow, filled, fills, cellsAfter, outputAfter, unlessAt, firstBad, total, counted, scenarios, scenariosCells, written, index, indexCells}
-use Rattle.ranking.specs.Ranks.{IndicesBelow, EventsBelow, rankedAs, withScenarios}
+use Rattle.ranking.specs.Ranks.{rankedAs, withScenarios}
 use Rattle.ranking.proofs.Premises.{served-fresh}
 use Rattle.ranking.proofs.Walk.{good-all}
 use Rattle.ranking.specs.declared.Ranked.{Ranked}
@@ -67,10 +67,6 @@ module _ (A : Automaton) (s : List ℕ) (r : Ranked) (f : r ≡ rankedAs A 0 s) 
       case (ltb (firstViolation A 0 s) (length s))
       (λ b. rw b (let w : Violation (firstViolation A 0 s) ≡ Violation k = rw b at q in cc))
       (λ b. let w : Index (rank A 0 s) ≡ Violation k = rw b at q in let z : _≡_ {A = ℕ} 0 1 = cc in absurd (omega arith))
-
-pub events-below : (E k : ℕ) (s : List ℕ) → k ≡ firstBad (notBelow E) s → length s ≤ k → EventsBelow E s
-unfolding EventsBelow IndicesBelow
-events-below E k s q le = good-all E s (rw q at le)
 
 -- ---- Scenarios and Index as the text sees them
 

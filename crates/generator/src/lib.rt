@@ -10,7 +10,6 @@ ghost use Rattle.rig.specs.Record.{recordAutomaton};
 ghost use Rattle.promises.specs.Calls.{filled, firstBad, notBelow, ShuffleKeeps};
 ghost use Rattle.promises.specs.Calls as promised;
 ghost use Rattle.checks.specs.Loading.{Fits};
-ghost use Rattle.ranking.specs.Ranks.{EventsBelow};
 ghost use Rattle.shuffle.specs.Outcome.{answerOf as shuffleAnswer};
 ghost use Rattle.generator.specs.Outcomes.{countAnswer, listAnswer, indexAnswer, countFrom, listFrom, outputFrom, indexFrom};
 
@@ -37,7 +36,7 @@ fn first_not_event(sequence: &[u8], events: usize) -> usize
     ensures { λ k. ⌜ k ≡ firstBad (notBelow events) (now (sequence .entry)) ⌝ }
 {
     for k in 0..sequence.len() {
-        if events <= ranking::wide(sequence[k]) {
+        if events <= rig::wide(sequence[k]) {
             return k;
         }
     }
@@ -125,7 +124,6 @@ pub fn scenarios(text: &[u8], h: u64, list: &[u64], cells: &mut [u64], out: &mut
 // Index, once the checks up to 13 are passed.
 fn index_cells(rig: Rig, states: usize, sequence: &[u8], cells: &mut [u64]) -> Indexed
     requires { ⌜ Fits rig states (length (now sequence)) (length (now cells)) ⌝ }
-    requires { ⌜ EventsBelow (rig .events) (now sequence) ⌝ }
     ensures { λ r. ⌜ indexAnswer r ≡ indexFrom (recordAutomaton rig) 0 (now (sequence .entry)) ⌝ }
     ensures { λ _. ⌜ now (cells .exit) ≡ filled (recordAutomaton rig) (length (now (sequence .entry))) (now (cells .entry)) ⌝ }
 {
@@ -136,7 +134,7 @@ fn index_cells(rig: Rig, states: usize, sequence: &[u8], cells: &mut [u64]) -> I
     match checked {
         Checked::Refused(number, place) => Indexed::Refused(number, place),
         Checked::Passed => {
-            let ranked = ranking::rank(cells, &table, states, rig.events, 0, sequence);
+            let ranked = ranking::rank(cells, &table, states, 0, sequence);
             match ranked {
                 Ranked::Index(i) => Indexed::Served(i),
                 Ranked::Violation(k) => Indexed::Refused(14, k as u64),

@@ -13,13 +13,13 @@ use borrow.Author.Tests.{le-ltb}
 use Rattle.lists.specs.Lists.{indexOf}
 use Rattle.lists.proofs.Tests.{split}
 use Rattle.automaton.specs.Automaton.{Automaton}
-use Rattle.automaton.specs.Counting.{N, most}
+use Rattle.automaton.specs.Counting.{N}
 use Rattle.automaton.specs.Ranking.{unrank}
 use Rattle.promises.specs.Answer.{Answer, refused}
 use Rattle.promises.specs.Rig.{rigAutomaton, start}
 use Rattle.promises.specs.Calls.{cellsAfter, sized, count, countCells}
-use Rattle.ranking.specs.Ranks.{Numbered, HoldsRows}
-use Rattle.ranking.proofs.Premises.{filled-holds}
+use Rattle.ranking.specs.Ranks.{Exact, UnrankedBy}
+use Rattle.ranking.proofs.Premises.{filled-exact}
 use Rattle.ranking.proofs.Walk.{length-unrank}
 use Rattle.rig.specs.declared.Rig.{Rig}
 use Rattle.rig.specs.Record.{recordAutomaton}
@@ -31,7 +31,7 @@ use Rattle.filling.specs.Filling.{Fills}
 use Rattle.filling.proofs.Rows.{early-fills, told-count, told-exact, told-few, told-some}
 use Rattle.line.specs.Line.{lineOf, numbersOf}
 use Rattle.listing.specs.Listing.{asked, text, owned, answerTo, answer, headLine, cellsLeft, horizon, orZero, scenarioLine}
-use Rattle.listing.specs.Printing.{askedAs, countTold, Leads, Begins, Serves}
+use Rattle.listing.specs.Printing.{askedAs, countTold, Leads, EventsBy, Begins, Serves}
 use Rattle.listing.specs.declared.Asked.{Asked}
 use Rattle.listing.specs.declared.Asked.the-variants.{Horizon, Bad}
 use Rattle.listing.specs.declared.Cursor.{Cursor}
@@ -61,10 +61,10 @@ rows-room h p n le = omega (arith, suc-mul h p, ap (λ (i : ℕ). i * p) (add-on
 
 -- cells that are filled, and a count that is exact, serve the lines
 pub begins-counted : (r : Rig) (states h m n : ℕ) (f : Filled) (old d l cells table : List ℕ) → Fits r states h (length old) → length old ≡ 8192
-    → Fills (recordAutomaton r) states (r .events) 0 h f old cells table → f .checked ≡ Passed → n ≡ min (f .count) 1000
+    → Fills (recordAutomaton r) states 0 h f old cells table → f .checked ≡ Passed → n ≡ min (f .count) 1000
     → Leads (numbersOf (99 ∷ 111 ∷ 117 ∷ 110 ∷ 116 ∷ []) (f .count) (f .passes)) m d l
     → Begins (countTold (recordAutomaton r) h) (recordAutomaton r) 0 h (record { length = m; index = 0; lines = n; horizon = h; states = states }) d l cells table
-begins-counted r states h m n f old d l cells table z long fs e q w = rw (← told-count A states (r .events) 0 h f old cells table fs e) (record {
+begins-counted r states h m n f old d l cells table z long fs e q w = rw (← told-count A states 0 h f old cells table fs e) (record {
   limits = record {
     short = z .horizon;
     some-states = z .some-states;
@@ -78,22 +78,19 @@ begins-counted r states h m n f old d l cells table z long fs e q w = rw (← to
   idle = λ i. absurd (omega (arith, some-count));
   serves = λ lt. (refl, record {
     starts = refl;
-    events = r .events;
-    numbered = fs .tabled;
-    rows = filled-holds A h cells old (fs .cells-filled);
-    exact = told-few A states (r .events) 0 h f old cells table fs e;
-    below = omega (arith, exact);
+    exact = filled-exact A states h 0 table cells old (fs .tabled) (fs .cells-filled) (told-few A states 0 h f old cells table fs e);
+    below = omega (arith, count-is);
   });
 })
   where
     A : Automaton
     A = recordAutomaton r
 
-    exact : f .count ≡ N A h 0
-    exact = told-exact A states (r .events) 0 h f old cells table fs e
+    count-is : f .count ≡ N A h 0
+    count-is = told-exact A states 0 h f old cells table fs e
 
     some-count : 1 ≤ f .count
-    some-count = rw exact (told-some A states (r .events) 0 h f old cells table fs e)
+    some-count = rw count-is (told-some A states 0 h f old cells table fs e)
 
 -- ---- the input
 
@@ -176,8 +173,7 @@ module _ (input : List ℕ) (r : Asked) (a : r ≡ askedAs (asked input) (indexO
 -- ---- the line of an index
 
 pub leads-next : (t : List ℕ) (c : Cursor) (cells table es d line l : List ℕ) (r : ℕ) → Serves t c cells table → c .index < c .lines
-    → ((A : Automaton) (events : ℕ) → Numbered A (c .states) events table → HoldsRows A (c .horizon) cells → c .index < N A (c .horizon) 0 → N A (c .horizon) 0 < most
-    → es ≡ unrank A (c .horizon) 0 (c .index) ++ drop (c .horizon) d)
+    → EventsBy table cells (c .states) (c .horizon) (c .index) d es
     → r ≡ length (lineOf (c .index) (take (c .horizon) es)) → l ≡ lineOf (c .index) (take (c .horizon) es) ++ drop (length (lineOf (c .index) (take (c .horizon) es))) line
     → Leads (scenarioLine t (c .horizon) (c .index)) r line l
 unfolding scenarioLine
@@ -194,13 +190,12 @@ leads-next t c cells table es d line l r ls lt u e w = rw (← events-are) (reco
 
     events-are : take (c .horizon) es ≡ unrank (rigAutomaton t) (c .horizon) (start t) (c .index)
     events-are =
-        ap (take h) (u A (ls .events) (ls .numbered) (ls .rows) is-below (ls .exact))
+        ap (take h) (u A (ls .exact) is-below)
         ∙ take-at (unrank A h 0 (c .index)) (drop h d) h (length-unrank A h 0 (c .index) is-below)
         ∙ ap (λ (x : ℕ). unrank A h x (c .index)) (sym (ls .starts))
 
 -- what unranking wrote to the part lent, seen in the whole
-pub events-front : (A : Automaton) (cells : List ℕ) (h m i : ℕ) (ys rest : List ℕ) → m ≡ h
-    → (HoldsRows A m cells → i < N A m 0 → N A m 0 < most → ys ≡ unrank A m 0 i)
-    → HoldsRows A h cells → i < N A h 0 → N A h 0 < most → ys ++ rest ≡ unrank A h 0 i ++ rest
-events-front A cells h m i ys rest q u r b x =
-    ap (λ (l : List ℕ). l ++ rest) (subst (λ (n : ℕ). HoldsRows A n cells → i < N A n 0 → N A n 0 < most → ys ≡ unrank A n 0 i) q u r b x)
+pub events-front : (table cells : List ℕ) (p h i : ℕ) (part ys rest : List ℕ) → length part ≡ h → UnrankedBy table cells p 0 i part ys
+    → (A : Automaton) → Exact A p h 0 table cells → i < N A h 0 → ys ++ rest ≡ unrank A h 0 i ++ rest
+events-front table cells p h i part ys rest q u A x b =
+    ap (λ (l : List ℕ). l ++ rest) (subst (λ (n : ℕ). Exact A p n 0 table cells → i < N A n 0 → ys ≡ unrank A n 0 i) q (u A) x b)

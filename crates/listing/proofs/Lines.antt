@@ -41,7 +41,7 @@ module _ (input : List ℕ) (c : Cursor) (cells table : List ℕ) where
       comes-next = omega (arith, s .comes-next);
       follows = s .follows;
       idle = s .idle;
-      serves = λ some. let z = s .serves some in (z .0, record { starts = z .1 .starts; events = z .1 .events; numbered = z .1 .numbered; rows = z .1 .rows; exact = z .1 .exact; below = z .1 .below });
+      serves = λ some. let z = s .serves some in (z .0, record { starts = z .1 .starts; exact = z .1 .exact; below = z .1 .below });
     }
       where
         at : c .index ≡ k
@@ -58,7 +58,7 @@ module _ (input : List ℕ) (c : Cursor) (cells table : List ℕ) where
       comes-next = omega (arith, s .comes-next);
       follows = s .follows;
       idle = s .idle;
-      serves = λ some. let z = s .serves some in (z .0, record { starts = z .1 .starts; events = z .1 .events; numbered = z .1 .numbered; rows = z .1 .rows; exact = z .1 .exact; below = z .1 .below });
+      serves = λ some. let z = s .serves some in (z .0, record { starts = z .1 .starts; exact = z .1 .exact; below = z .1 .below });
     }
       where
         none-left : lineAt input (suc k) ≡ []

@@ -5,6 +5,7 @@
 --   WithinLimits c room     == the cells of c's horizon and joint states are among `room` cells, and within the limits of paper 01
 --   Leads s n d l           == the line d is now l, with s at its front, and n is the length of s
 --   Lists A x c cells table == the cells and the table serve the lines that c tells, for the automaton A from its start x
+--   EventsBy t .. i es left == the scenario of index i is at the front of `left`
 --   Begins a A x h c d l .. == c tells the first line for the answer a, at the front of l; where lines follow it, they are served, for the horizon h
 --   BeginsRefused, BeginsCounted, BeginsText == the same for a refusal, for the automaton of a record, and for a text
 --   LeadsNext c .. n d l    == the line of c's next index is at the front of l
@@ -21,11 +22,12 @@ use lib.Dec.{ltb}
 use Rattle.lists.specs.Lists.{pick}
 use Rattle.automaton.specs.Automaton.{Automaton}
 use Rattle.automaton.specs.Pruning.{passes}
-use Rattle.automaton.specs.Counting.{N, most}
+use Rattle.automaton.specs.Counting.{N}
+use Rattle.automaton.specs.Ranking.{unrank}
 use Rattle.promises.specs.Answer.{Answer, served, refused}
 use Rattle.promises.specs.Rig.{rigAutomaton, start}
 use Rattle.promises.specs.Calls.{countRows, count}
-use Rattle.ranking.specs.Ranks.{Numbered, HoldsRows}
+use Rattle.ranking.specs.Ranks.{Exact}
 use Rattle.listing.specs.Listing.{text, answer, headLine, follow, horizon, scenarioLine}
 use Rattle.listing.specs.declared.Asked.{Asked}
 use Rattle.listing.specs.declared.Asked.the-variants.{Horizon, Bad}
@@ -61,11 +63,12 @@ pub record Leads (s : List ℕ) (n : ℕ) (line left : List ℕ) : Type 0 where
 
 pub record Lists (A : Automaton) (x : ℕ) (c : Cursor) (cells table : List ℕ) : Type 0 where
   pub starts : x ≡ 0
-  pub events : ℕ
-  pub numbered : Numbered A (c .states) events table
-  pub rows : HoldsRows A (c .horizon) cells
-  pub exact : N A (c .horizon) 0 < most
+  pub exact : Exact A (c .states) (c .horizon) 0 table cells
   pub below : c .lines ≤ N A (c .horizon) 0
+
+-- the scenario of index i is written over the first h bytes
+abbrev pub EventsBy : List ℕ → List ℕ → ℕ → ℕ → ℕ → List ℕ → List ℕ → Type 0
+EventsBy table cells states h i events left = (A : Automaton) → Exact A states h 0 table cells → i < N A h 0 → left ≡ unrank A h 0 i ++ drop h events
 
 abbrev pub Serves : List ℕ → Cursor → List ℕ → List ℕ → Type 0
 Serves t c cells table = Lists (rigAutomaton t) (start t) c cells table

@@ -7,18 +7,14 @@ ghost use mathlib.Core.List.{List, [], _∷_, _++_};
 ghost use Prim.Native.Nat.{ℕ, _+_, _*_, _<_, _≤_, min};
 ghost use lib.ListN.{length, take, drop};
 ghost use Rattle.lists.specs.Lists.{indexOf};
-ghost use Rattle.automaton.specs.Automaton.{Automaton};
-ghost use Rattle.automaton.specs.Counting.{N, most};
-ghost use Rattle.automaton.specs.Ranking.{unrank};
 ghost use Rattle.rig.specs.Record.{recordAutomaton};
 ghost use Rattle.promises.specs.Text.{same};
 ghost use Rattle.promises.specs.Calls.{filled};
 ghost use Rattle.promises.specs.Calls as promised;
 ghost use Rattle.decoding.specs.Forms.{valueOf};
 ghost use Rattle.checks.specs.Loading.{Fits};
-ghost use Rattle.ranking.specs.Ranks.{Numbered, HoldsRows};
 ghost use Rattle.listing.specs.Listing.{askedIn, asked, cellsLeft};
-ghost use Rattle.listing.specs.Printing.{askedAs, Buffers, WithinLimits, BeginsRefused, BeginsCounted, BeginsText, LeadsNext, StandsAt, Stands, Moves};
+ghost use Rattle.listing.specs.Printing.{askedAs, Buffers, WithinLimits, EventsBy, BeginsRefused, BeginsCounted, BeginsText, LeadsNext, StandsAt, Stands, Moves};
 
 // What the first line asks for: a horizon, with the place where the rig text begins; or it is no `ask` line.
 enum Asked {
@@ -165,7 +161,7 @@ fn write_events(
     events: &mut [u8],
 )
     requires { ⌜ (states ≤ 1024) × (0 < states) × (h * states ≤ length (now cells)) × (h ≤ length (now events)) ⌝ }
-    ensures { λ _. ⌜ ((A : Automaton) (e : ℕ) → Numbered A states e (now (table .entry)) → HoldsRows A h (now (cells .entry)) → i < N A h 0 → N A h 0 < most → now (events .exit) ≡ unrank A h 0 i ++ drop h (now (events .entry))) ⌝ }
+    ensures { λ _. ⌜ EventsBy (now (table .entry)) (now (cells .entry)) states h i (now (events .entry)) (now (events .exit)) ⌝ }
 {
     ranking::unrank(cells, table, states, 0, i, &mut events[..h]);
 }

@@ -3,6 +3,7 @@ pub mod Tests
 pub mod Members
 pub mod Counts
 pub mod Ordered
+pub mod Filters
 pub mod Tables
 pub mod Tells
 pub mod Distinct

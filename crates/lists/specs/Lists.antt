@@ -2,6 +2,7 @@
 --   pick b x y    == x where the test b holds, else y
 --   Pairwise R l  == every earlier element of l is in R to every later one
 --   any f l       == some element of l passes the test f
+--   filter f l    == the elements of l that pass the test f, in their order
 --   sum c l       == the sum of c over l
 --   concatMap f l == the lists f x for the x of l, one after the other
 --   count f n     == how many of the numbers below n pass the test f
@@ -26,6 +27,10 @@ pub data Pairwise {A : Type 0} (R : A → A → Type 0) : List A → Type 0 wher
 abbrev pub any : (ℕ → Bool) → List ℕ → Bool
 any f [] = false
 any f (x ∷ l) = f x || any f l
+
+abbrev pub filter : (ℕ → Bool) → List ℕ → List ℕ
+filter f [] = []
+filter f (x ∷ l) = pick (f x) (x ∷ filter f l) (filter f l)
 
 abbrev pub sum : (ℕ → ℕ) → List ℕ → ℕ
 sum c [] = 0

@@ -1,28 +1,42 @@
 -- What a caller has, in the form that the contracts ask for and give. Assumes nothing.
-use mathlib.Core.Path.{_≡_, sym, ap, _∙_, subst}
+use mathlib.Core.Path.{_≡_, sym, ap, subst}
+use mathlib.Core.Bool.{true}
 use mathlib.Core.List.{List, _++_}
-use Prim.Native.Nat.{ℕ, _+_, _≤_}
+use Prim.Native.Nat.{ℕ, _+_, _<_}
 use native.Mathlib.Omega.{arith}
 use lib.ListN.{length, getD, drop}
-use Rattle.lists.specs.Lists.{concatMap, range}
-use Rattle.lists.proofs.Tables.{length-range}
+use Rattle.lists.specs.Lists.{concatMap}
 use Rattle.automaton.specs.Automaton.{Automaton}
-use Rattle.automaton.specs.Counting.{N}
+use Rattle.automaton.specs.Pruning.{live}
+use Rattle.automaton.specs.Counting.{N, most}
 use Rattle.automaton.specs.Ranking.{unrank}
-use Rattle.automaton.specs.Table.{Pruned}
+use Rattle.automaton.proofs.Counting.{N-live}
 use Rattle.promises.specs.Calls.{filled}
-use Rattle.ranking.specs.Ranks.{Numbered, HoldsRows, IndicesBelow, withScenarios}
+use Rattle.counting.specs.Tabled.{Tabled}
+use Rattle.ranking.specs.declared.Choice.{Choice}
+use Rattle.ranking.specs.Ranks.{HoldsRows, Exact, Chosen, IndicesBelow, withScenarios}
+use Rattle.ranking.proofs.Steps.{chosen-least}
 use Rattle.ranking.proofs.Rows.{rows-fewer, filled-rows}
 use Rattle.ranking.proofs.Walk.{length-unrank, length-concatMap-sized}
 
 module _ (A : Automaton) where
-  pub numbered : (p events : ℕ) (t : List ℕ) → A .states ≡ p → A .events ≡ range events → events ≤ 16 → Pruned A t → Numbered A p events t
-  numbered p events t n o few pruned =
-      record { tabled = record { states = n; columns = ap length o ∙ length-range events; pruned = pruned }; in-order = o; few-events = few }
-
   -- cells that are filled hold the rows that unranking and ranking read
-  pub filled-holds : (h : ℕ) (cells d : List ℕ) → cells ≡ filled A h d → HoldsRows A h cells
+  filled-holds : (h : ℕ) (cells d : List ℕ) → cells ≡ filled A h d → HoldsRows A h cells
   filled-holds h cells d e = subst (HoldsRows A h) (sym e) (rows-fewer A (filled A h d) h (h + 1) (omega arith) (filled-rows A h d))
+
+  -- cells that are filled, and a count below the limit
+  pub filled-exact : (p h x : ℕ) (t cells d : List ℕ) → Tabled A p t → cells ≡ filled A h d → N A h x < most → Exact A p h x t cells
+  filled-exact p h x t cells d n e few = record { tabled = n; holds = filled-holds h cells d e; not-cut-off = few }
+
+  -- what is left after a step is exact too
+  pub exact-on : (p r x i : ℕ) (t cells : List ℕ) (c : Choice) → Chosen A r x i c → {n : ℕ} → i < N A n x → n ≡ r + 1 → Exact A p n x t cells → Exact A p r (c .state) t cells
+  exact-on p r x i t cells c is {n} below e exact =
+      let l : live A x ≡ true = N-live A n x (omega arith) in
+      record {
+        tabled = exact .tabled;
+        holds = rows-fewer A cells r n (omega arith) (exact .holds);
+        not-cut-off = omega (arith, chosen-least A r x i c is l, exact .not-cut-off, ap (λ (m : ℕ). N A m x) e);
+      }
 
   -- the scenarios fill as many bytes as they have
   pub served-fresh : (h x : ℕ) (is out : List ℕ) → IndicesBelow (N A h x) is

@@ -1,34 +1,33 @@
--- One step along a scenario, by a row of cells. Why: where the whole count is below the largest number, every cell on or beside the path is
--- exact, so the counts read are those of the definitions; an event's part of the indices begins at the sum of the counts before it.
+-- One step along a scenario, by a row of cells. Why: where the count of a state is no more than the largest number, the cells that its live events lead
+-- to are exact, so the counts read are those of the definitions; an event's part of the indices begins at the sum of the counts before it.
 -- Assumes nothing.
-use mathlib.Core.Path.{_≡_, refl, sym, ap, _∙_}
+use mathlib.Core.Path.{_≡_, refl, sym, ap, _∙_, subst}
 use mathlib.Core.Logic.{_≢_, _⊎_, inl, inr}
-use mathlib.Core.Bool.{true, _&&_}
+use mathlib.Core.Bool.{Bool, true, false}
 use mathlib.Core.List.{List, [], _∷_, List·Memᴰ as In}
-use Prim.Native.Nat.{ℕ, zero, suc, _+_, _*_, _≤_, _<_}
+use Prim.Native.Nat.{ℕ, zero, suc, _+_, _*_, _/_, _%_, _^_, _-_, _≤_, _<_, min}
 use native.Mathlib.Omega.{arith}
 use native.Mathlib.Numerals.{add-one}
+use native.Mathlib.Nat.{eq-or-lt-of-le}
 use lib.ListN.{length, getD, take}
 use lib.Dec.{ltb}
-use borrow.Author.Tests.{ltb-true, lt-ltb, le-ltb, eq-eqb, ne-eqb}
-use Rattle.lists.specs.Lists.{pick, sum, range, Pairwise, more}
-use Rattle.lists.proofs.Tests.{case, split}
+use borrow.Author.Tests.{ltb-true, lt-ltb, eq-eqb, ne-eqb}
+use Rattle.lists.specs.Lists.{pick, sum, Pairwise, more}
+use Rattle.lists.proofs.Tests.{case}
 use Rattle.lists.proofs.Members.{getD-in}
-use Rattle.lists.proofs.Ordered.{pairwise-imp, range-ordered, range-in}
-use Rattle.lists.proofs.Tables.{getD-range}
+use Rattle.lists.proofs.Distinct.{in-place}
 use Rattle.automaton.specs.Automaton.{Automaton}
 use Rattle.automaton.specs.Pruning.{live}
 use Rattle.automaton.specs.Counting.{N, most, cell}
 use Rattle.automaton.specs.Ranking.{choose, before, unrank}
-use Rattle.automaton.specs.Table.{nowhere, entry, Pruned}
-use Rattle.automaton.proofs.Pruning.{live-state}
-use Rattle.automaton.proofs.Counting.{N-step, N-live}
-use Rattle.automaton.proofs.Cells.{cells-beside}
+use Rattle.automaton.specs.Table.{liveEvents}
+use Rattle.automaton.proofs.Counting.{N-step, N-dead}
 use Rattle.automaton.proofs.Ranking.{choose-back}
-use Rattle.counting.specs.Tabled.{HoldsRow}
-use Rattle.counting.proofs.Sums.{upTo, upTo-suc, upTo-total, beside}
+use Rattle.automaton.proofs.Table.{EntryAt, before-live, live-in, live-at, liveEvents-distinct}
+use Rattle.counting.specs.Tabled.{Tabled, HoldsRow}
+use Rattle.counting.proofs.Sums.{upTo, upTo-suc, upTo-total, upTo-least, tabled-few, tabled-some, tabled-none, entry-state, beside}
 use Rattle.ranking.specs.declared.Choice.{Choice}
-use Rattle.ranking.specs.Ranks.{Numbered, Chosen}
+use Rattle.ranking.specs.Ranks.{Chosen, ChosenOrNone, noChoice, FoundOrNot}
 
 -- a count that is above some number is that of a state
 pub counted-state : (y p v k : ℕ) → k < pick (ltb y p) v 0 → y < p
@@ -43,80 +42,107 @@ before-at f (d ∷ l) (more g u) (suc k) h =
     let lt : k < length l = omega arith in
     rw (ne-eqb d (getD l k 0) (g (getD l k 0) (getD-in l k 0 lt))) (ap (λ (n : ℕ). f d + n) (before-at f l u k lt))
 
-pub range-distinct : (n : ℕ) → Pairwise _≢_ (range n)
-range-distinct n = pairwise-imp (λ a b i j h q. omega arith) (range-ordered n)
+module _ (A : Automaton) (p : ℕ) (t : List ℕ) (tabled : Tabled A p t) (few : p ≤ 1024) (x : ℕ) (hx : x < p) where
+  state : x < A .states
+  state = let n : A .states ≡ p = tabled .states in omega arith
 
-module _ (A : Automaton) (p events : ℕ) (t : List ℕ) (numbered : Numbered A p events t) where
-  pub event-at : (e : ℕ) → e < events → getD (A .events) e 0 ≡ e
-  event-at e h = ap (λ (l : List ℕ). getD l e 0) (numbered .in-order) ∙ getD-range events e h
-
-  pub event-in : (e : ℕ) → e < events → In e (A .events)
-  event-in e h = rw (numbered .in-order) (range-in events e .1 h)
-
-  pub before-upTo : (r x e : ℕ) → e < events → before (λ d. N A r (A .next x d)) (A .events) e ≡ upTo A r x e
+  -- the counts before the live event at place c
+  before-upTo : (r c : ℕ) → c < length (liveEvents A x) → before (λ d. N A r (A .next x d)) (A .events) (getD (liveEvents A x) c 0) ≡ upTo A r x c
   unfolding upTo
-  before-upTo r x e h =
-      let n : length (A .events) ≡ events = numbered .tabled .columns in
+  before-upTo r c h =
       let f : ℕ → ℕ = λ d. N A r (A .next x d) in
-      let u : Pairwise _≢_ (A .events) = rw (numbered .in-order) (range-distinct events) in
-      ap (before f (A .events)) (sym (event-at e h)) ∙ before-at f (A .events) u e (omega arith)
+      sym (before-live A x f (λ e d. N-dead A r (A .next x e) d) (getD (liveEvents A x) c 0) (live-at A x c h .1))
+      ∙ before-at f (liveEvents A x) (liveEvents-distinct A x (tabled .distinct)) c h
 
-  module _ (few : p ≤ 1024) (x e : ℕ) (hx : x < p) (he : e < events) where
-    read : getD t (x * 16 + e) 0 ≡ pick (ltb e (length (A .events)) && live A (A .next x e)) (A .next x e) 65535
-    unfolding Pruned entry nowhere
-    read =
-        let n : A .states ≡ p = numbered .tabled .states in
-        let columns : events ≤ 16 = numbered .few-events in
-        let q : getD t (x * 16 + e) 0 ≡ pick (ltb e (length (A .events)) && live A (A .next x (getD (A .events) e 0))) (A .next x (getD (A .events) e 0)) 65535 =
-        numbered .tabled .pruned x e (omega arith) (omega arith) in
-        q ∙ ap (λ (d : ℕ). pick (ltb e (length (A .events)) && live A (A .next x d)) (A .next x d) 65535) (event-at e he)
+  -- what is not found among the live events leads to no live state
+  pub not-found : (e : ℕ) → ((k : ℕ) → k < length (liveEvents A x) → getD (liveEvents A x) k 0 ≡ e → ⊥) → live A (A .next x e) ≡ false
+  not-found e none = case (live A (A .next x e)) (λ l. tabled .only-events x e state (λ i. let (k, lt, q) = in-place 0 (live-in A x i l) in none k lt q)) (λ d. d)
 
-    -- the entry is a state exactly where the event leads to a live one
-    pub entry-live : ltb (getD t (x * 16 + e) 0) p ≡ live A (A .next x e)
-    entry-live =
-        let k : length (A .events) ≡ events = numbered .tabled .columns in
-        let n : A .states ≡ p = numbered .tabled .states in
-        rw (read, lt-ltb e (length (A .events)) (omega arith))
-        (case (live A (A .next x e))
-        (λ l. let s : A .next x e < A .states = live-state A (A .next x e) l in rw l (lt-ltb (A .next x e) p (omega arith)))
-        (λ d. rw d (le-ltb 65535 p (omega arith))))
+  -- all columns passed, or an empty entry: no live event is left
+  pub past-all : (c : ℕ) → c ≡ 16 → length (liveEvents A x) ≤ c
+  past-all c e = omega (arith, tabled-few A p t tabled x)
 
-    pub entry-next : live A (A .next x e) ≡ true → getD t (x * 16 + e) 0 ≡ A .next x e
-    entry-next l =
-        let k : length (A .events) ≡ events = numbered .tabled .columns in
-        read ∙ rw (lt-ltb e (length (A .events)) (omega arith), l)
+  pub past-last : (c v : ℕ) → c < 16 → v ≡ getD t (x * 16 + c) 0 → v ≡ 65535 → length (liveEvents A x) ≤ c
+  past-last c v hc read q = tabled-none A p t tabled few x c hx hc (sym read ∙ q)
 
-    -- what is read for the event is its count
-    pub count-exact : (r : ℕ) (cells : List ℕ) → HoldsRow A r cells → live A x ≡ true → N A (r + 1) x < most
-        → pick (ltb (getD t (x * 16 + e) 0) p) (getD cells (getD t (x * 16 + e) 0) 0) 0 ≡ N A r (A .next x e)
-    count-exact r cells holds l h =
-        beside A p events t (numbered .tabled) r cells holds x e hx he few (numbered .few-events)
-        ∙ ap (λ (d : ℕ). cell A r (A .next x d)) (event-at e he)
-        ∙ cells-beside A r x e l (event-in e he) (rw (add-one r) at h)
+  -- one turn in the code's own values: v is the entry read in column c, n the count that it leads to
+  module _ (c v : ℕ) (hc : c < 16) (read : v ≡ getD t (x * 16 + c) 0) (entered : v ≡ 65535 → ⊥) where
+    pub is-entry : EntryAt A x c v
+    is-entry = subst (EntryAt A x c) (sym read) (tabled-some A p t tabled few x c hx hc (λ e. entered (read ∙ e)))
 
-    pub upTo-next : (r : ℕ) → upTo A r x (e + 1) ≡ upTo A r x e + N A r (A .next x e)
-    upTo-next r =
-        let k : length (A .events) ≡ events = numbered .tabled .columns in
-        upTo-suc A r x e (omega arith) ∙ ap (λ (d : ℕ). upTo A r x e + N A r (A .next x d)) (event-at e he)
+    pub entry-below : v % 1024 < p
+    entry-below = entry-state A p t tabled x c v is-entry
 
-    -- an index that is in the event's part: the step that is chosen
-    pub chosen : (r i left y : ℕ) → y ≡ getD t (x * 16 + e) 0 → left + upTo A r x e ≡ i → left < N A r (A .next x e)
-        → Chosen A r x i (record { event = e; left = left; state = y })
-    chosen r i left y q s h =
-        let l : live A (A .next x e) ≡ true = N-live A r (A .next x e) (omega arith) in
-        let leads : y ≡ A .next x e = q ∙ entry-next l in
-        record { is-event = event-in e he; leads = leads; taken-off = rw (before-upTo r x e he) (omega arith); is-below = rw leads h }
+    module _ (r : ℕ) (cells : List ℕ) (holds : HoldsRow A r cells) (n : ℕ) (count : n ≡ pick (ltb (v % 1024) p) (getD cells (v % 1024) 0) 0) where
+      upTo-next : upTo A r x (c + 1) ≡ upTo A r x c + N A r (v % 1024)
+      upTo-next = upTo-suc A r x c (is-entry .within) ∙ ap (λ (y : ℕ). upTo A r x c + N A r y) (sym (is-entry .state-is))
 
-  -- an index below the count is in the part of some event that is still to come
-  pub still-event : (r x i left e : ℕ) → x < p → left + upTo A r x e ≡ i → i < N A (r + 1) x → e < events
-  still-event r x i left e hx s h = go (split events e)
-    where
-      go : (events ≤ e) ⊎ (e < events) → e < events
-      go (inl le) =
-          let n : A .states ≡ p = numbered .tabled .states in
-          let k : length (A .events) ≡ events = numbered .tabled .columns in
-          absurd (omega (arith, upTo-total A r x e (omega arith) (omega arith)))
-      go (inr lt) = lt
+      -- what is read is the event's count
+      count-exact : N A (r + 1) x ≤ most → n ≡ N A r (v % 1024)
+      unfolding cell
+      count-exact le =
+          let q : n ≡ min (N A r (v % 1024)) most =
+          count ∙ ap (λ (b : Bool). pick b (getD cells (v % 1024) 0) 0) (lt-ltb (v % 1024) p entry-below) ∙ beside A p t tabled r cells holds x c v is-entry ∙ ap (cell A r) (sym (is-entry .state-is)) in
+          omega (arith, upTo-next, upTo-least A r x (c + 1) state)
+
+      -- stepping over the event
+      pub step-over : (left i : ℕ) → N A (r + 1) x ≤ most → left + upTo A r x c ≡ i → n ≤ left → left - n + upTo A r x (c + 1) ≡ i
+      step-over left i le s h = omega (arith, upTo-next, count-exact le)
+
+      pub add-on : (sum q : ℕ) → N A (r + 1) x ≤ most → sum ≡ upTo A r x c → q ≡ min (sum + n) (2 ^ 64 - 1) → q ≡ upTo A r x (c + 1)
+      unfolding most
+      add-on sum q le s e = omega (arith, upTo-next, count-exact le, upTo-least A r x (c + 1) state)
+
+      -- the index is in the event's part: the step that is chosen
+      pub choose-here : (left i : ℕ) → (N A (r + 1) x ≤ most → left + upTo A r x c ≡ i) → i ≤ most → left < n
+          → ChosenOrNone A r x i (record { event = v / 1024; left = left; state = v % 1024 })
+      choose-here left i so-far small h =
+          record {
+            some = λ lt exact.
+                let at = live-at A x c (is-entry .within) in
+                record {
+                  is-event = rw (is-entry .event-is) (at .0);
+                  leads = is-entry .state-is ∙ ap (A .next x) (sym (is-entry .event-is));
+                  taken-off = rw (is-entry .event-is, before-upTo r c (is-entry .within)) (omega (arith, so-far (omega arith)));
+                  is-below = omega (arith, count-exact (omega arith));
+                };
+            none = λ le. absurd (omega (arith, so-far (omega arith), count-exact (omega arith), upTo-next, upTo-least A r x (c + 1) state));
+          }
+
+    -- the event is found: how a scenario goes on with it
+    pub found-here : (e r sum : ℕ) → v / 1024 ≡ e → sum ≡ upTo A r x c → FoundOrNot A p r x e (record { before = sum; state = v % 1024 })
+    found-here e r sum q s =
+        let here : getD (liveEvents A x) c 0 ≡ e = sym (is-entry .event-is) ∙ q in
+        let at = live-at A x c (is-entry .within) in
+        record {
+          goes-on = λ h. record {
+            is-event = subst (λ (d : ℕ). In d (A .events)) here (at .0);
+            is-live = subst (λ (d : ℕ). live A (A .next x d) ≡ true) here (at .1);
+            leads = is-entry .state-is ∙ ap (A .next x) here;
+            passed = s ∙ sym (before-upTo r c (is-entry .within)) ∙ ap (before (λ d. N A r (A .next x d)) (A .events)) here;
+          };
+          not-live = λ h. absurd (omega (arith, entry-below));
+        }
+
+    -- it is none of the events passed
+    pub found-later : (e : ℕ) → ((k : ℕ) → k < c → getD (liveEvents A x) k 0 ≡ e → ⊥) → (v / 1024 ≡ e → ⊥) → (k : ℕ) → k < c + 1 → getD (liveEvents A x) k 0 ≡ e → ⊥
+    found-later e before ne k lt = go (eq-or-lt-of-le {n = k} {m = c} (omega arith))
+      where
+        go : (k ≡ c) ⊎ (k < c) → getD (liveEvents A x) k 0 ≡ e → ⊥
+        go (inl q) is = ne (is-entry .event-is ∙ ap (λ (j : ℕ). getD (liveEvents A x) j 0) (sym q) ∙ is)
+        go (inr b) is = before k b is
+
+  module _ (c : ℕ) (past : length (liveEvents A x) ≤ c) where
+    -- the index is in no event's part
+    pub choose-none : (r left i : ℕ) → (N A (r + 1) x ≤ most → left + upTo A r x c ≡ i) → ChosenOrNone A r x i noChoice
+    choose-none r left i so-far =
+        record {
+          some = λ lt exact. absurd (omega (arith, so-far (omega arith), upTo-total A r x c state past));
+          none = λ le. refl;
+        }
+
+    pub found-nowhere : (e r : ℕ) → ((k : ℕ) → k < c → getD (liveEvents A x) k 0 ≡ e → ⊥) → FoundOrNot A p r x e (record { before = 0; state = p })
+    found-nowhere e r none = record { goes-on = λ h. absurd (omega arith); not-live = λ h. not-found e (λ k lt. none k (omega arith)) }
 
 -- the scenario goes on from the step that is chosen
 module _ (A : Automaton) (r x i : ℕ) (c : Choice) (is : Chosen A r x i c) where

@@ -20,8 +20,8 @@ use Rattle.automaton.specs.Counting.{N, scenarios}
 use Rattle.automaton.specs.Ranking.{unrank}
 use Rattle.automaton.proofs.Counting.{scenarios-length, scenarios-sound}
 use Rattle.automaton.proofs.Ranking.{unrank-at}
-use Rattle.promises.specs.Calls.{firstBad, firstBadFrom}
-use Rattle.ranking.specs.Ranks.{IndicesBelow, notBelow}
+use Rattle.promises.specs.Calls.{notBelow, firstBad, firstBadFrom}
+use Rattle.ranking.specs.Ranks.{IndicesBelow}
 
 -- ---- the check of a list
 

@@ -1,22 +1,24 @@
-// Scenarios by index, indices by scenario, and the list walker, over the cells and a pruned table of 16 columns to a state.
+// Scenarios by index, indices by scenario, and the list walker, over the cells and the rows of a pruned table. A walk over a row ends at its first
+// empty entry.
 ghost use mathlib.Core.Path.{_≡_};
-ghost use mathlib.Core.Bool.{true, not};
-ghost use Prim.Native.Nat.{ℕ, _+_, _-_, _*_, _<_, _≤_, _^_, min};
-ghost use lib.ListN.{length};
+ghost use mathlib.Core.Bool.{not};
+ghost use Prim.Native.Nat.{_+_, _-_, _*_, _<_, _≤_, _^_, min};
+ghost use lib.ListN.{getD, length};
 ghost use lib.Dec.{ltb};
 ghost use Rattle.lists.specs.Lists.{pick};
-ghost use Rattle.automaton.specs.Automaton.{Automaton};
-ghost use Rattle.automaton.specs.Pruning.{live};
-ghost use Rattle.automaton.specs.Counting.{N, most};
-ghost use Rattle.automaton.specs.Ranking.{before, unrank};
-ghost use Rattle.promises.specs.Calls.{firstBad};
-ghost use Rattle.counting.specs.Tabled.{HoldsRow};
-ghost use Rattle.ranking.specs.Ranks.{Numbered, HoldsRows, EventsBelow, Chosen, rankedAs, IndicesBelow, notBelow, withScenarios};
+ghost use Rattle.promises.specs.Calls.{notBelow, firstBad};
+ghost use Rattle.ranking.specs.Ranks.{ChosenBy, FoundBy, UnrankedBy, RankedBy, WrittenBy, ListedBy};
 
 // One step of unranking: the event, what is left of the index, and the state that the event leads to.
 pub struct Choice {
     pub event: u8,
     pub left: u64,
+    pub state: usize,
+}
+
+// One step of ranking: how many indices lie before those that begin with the event, and the state that the event leads to.
+pub struct Found {
+    pub before: u64,
     pub state: usize,
 }
 
@@ -26,19 +28,31 @@ pub enum Ranked {
     Violation(usize),
 }
 
-// The event that the index i from x falls in, by the row of cells of what is left after it. Columns past the last event lead nowhere.
+// What a row of p cells holds for y: nothing where y is no state.
+fn count_at(cells: &[u64], p: usize, y: usize) -> u64
+    requires { ⌜ p ≤ length (now cells) ⌝ }
+    ensures { λ n. ⌜ n ≡ pick (ltb y p) (getD (now (cells .entry)) y 0) 0 ⌝ }
+{
+    if y < p { cells[y] } else { 0 }
+}
+
+// The event that the index i from x falls in, by the row of cells of what is left after it. Where it falls in none, all is 0.
 pub fn choose_event(cells: &[u64], table: &[u16; 16384], p: usize, x: usize, i: u64) -> Choice
     requires { ⌜ (p ≤ 1024) × (x < p) × (p ≤ length (now cells)) ⌝ }
     ensures { λ c. ⌜ c .state < p ⌝ }
-    ensures { λ c. ⌜ ((A : Automaton) (events r : ℕ) → Numbered A p events (now (table .entry)) → HoldsRow A r (now (cells .entry)) → i < N A (r + 1) x → N A (r + 1) x < most → Chosen A r x i c) ⌝ }
+    ensures { λ c. ⌜ ChosenBy (now (table .entry)) (now (cells .entry)) p x i c ⌝ }
 {
     let mut left = i;
-    for e in 0..16 {
-        let y = counting::wide(table[x * 16 + e]);
-        let n = counting::count_at(cells, p, y);
+    for c in 0..16 {
+        let entry = counting::wide(table[x * 16 + c]);
+        if entry == 65535 {
+            break;
+        }
+        let y = entry % 1024;
+        let n = count_at(cells, p, y);
         if left < n {
             return Choice {
-                event: e as u8,
+                event: (entry / 1024) as u8,
                 left,
                 state: y,
             };
@@ -47,7 +61,7 @@ pub fn choose_event(cells: &[u64], table: &[u16; 16384], p: usize, x: usize, i: 
     }
     Choice {
         event: 0,
-        left,
+        left: 0,
         state: 0,
     }
 }
@@ -55,7 +69,7 @@ pub fn choose_event(cells: &[u64], table: &[u16; 16384], p: usize, x: usize, i: 
 // Writes the scenario of index i from x to the part lent, one byte for each event left.
 pub fn unrank(cells: &[u64], table: &[u16; 16384], p: usize, x: usize, i: u64, out: &mut [u8])
     requires { ⌜ (p ≤ 1024) × (x < p) × (length (now out) * p ≤ length (now cells)) ⌝ }
-    ensures { λ _. ⌜ ((A : Automaton) (events : ℕ) → Numbered A p events (now (table .entry)) → HoldsRows A (length (now (out .entry))) (now (cells .entry)) → i < N A (length (now (out .entry))) x → N A (length (now (out .entry))) x < most → now (out .exit) ≡ unrank A (length (now (out .entry))) x i) ⌝ }
+    ensures { λ _. ⌜ UnrankedBy (now (table .entry)) (now (cells .entry)) p x i (now (out .entry)) (now (out .exit)) ⌝ }
 {
     let r = out.len();
     if r == 0 {
@@ -68,58 +82,51 @@ pub fn unrank(cells: &[u64], table: &[u16; 16384], p: usize, x: usize, i: u64, o
 }
 
 // a + b, or the largest 64-bit number where that is more.
-pub fn add_saturating(a: u64, b: u64) -> u64
+fn add_saturating(a: u64, b: u64) -> u64
     ensures { λ s. ⌜ s ≡ min (a + b) (2 ^ 64 - 1) ⌝ }
 {
     if a <= u64::MAX - b { a + b } else { u64::MAX }
 }
 
-// An event byte as an index.
-pub fn wide(event: u8) -> usize
-    ensures { λ e. ⌜ e ≡ event ⌝ }
+// Finds the event e among the live ones of x, adding up what stands before it. Where it isn't there, the state is p, which is none.
+fn find_event(cells: &[u64], table: &[u16; 16384], p: usize, x: usize, e: u8) -> Found
+    requires { ⌜ (p ≤ 1024) × (x < p) × (p ≤ length (now cells)) ⌝ }
+    ensures { λ f. ⌜ FoundBy (now (table .entry)) (now (cells .entry)) p x e f ⌝ }
 {
-    event as usize
-}
-
-// The counts of the events before e from x, together: where the indices that begin with e begin.
-pub fn count_before(cells: &[u64], table: &[u16; 16384], p: usize, x: usize, e: usize) -> u64
-    requires { ⌜ (p ≤ 1024) × (e < 16) × (x < p) × (p ≤ length (now cells)) ⌝ }
-    ensures { λ n. ⌜ ((A : Automaton) (events r : ℕ) → Numbered A p events (now (table .entry)) → e < events → HoldsRow A r (now (cells .entry)) → live A x ≡ true → N A (r + 1) x < most → n ≡ before (λ d. N A r (A .next x d)) (A .events) e) ⌝ }
-{
-    let mut sum: u64 = 0;
-    for d in 0..e {
-        let y = counting::wide(table[x * 16 + d]);
-        sum = add_saturating(sum, counting::count_at(cells, p, y));
+    let mut before: u64 = 0;
+    for c in 0..16 {
+        let entry = counting::wide(table[x * 16 + c]);
+        if entry == 65535 {
+            break;
+        }
+        let y = entry % 1024;
+        if (entry / 1024) as u8 == e {
+            return Found { before, state: y };
+        }
+        before = add_saturating(before, count_at(cells, p, y));
     }
-    sum
+    Found {
+        before: 0,
+        state: p,
+    }
 }
 
 // The index of the sequence s from x, or the place where it is no scenario.
-pub fn rank(
-    cells: &[u64],
-    table: &[u16; 16384],
-    p: usize,
-    events: usize,
-    x: usize,
-    s: &[u8],
-) -> Ranked
-    requires { ⌜ (p ≤ 1024) × (events ≤ 16) × (x < p) × (length (now s) * p ≤ length (now cells)) ⌝ }
-    requires { ⌜ EventsBelow events (now s) ⌝ }
-    ensures { λ r. ⌜ ((A : Automaton) → Numbered A p events (now (table .entry)) → HoldsRows A (length (now (s .entry))) (now (cells .entry)) → N A (length (now (s .entry))) x < most → r ≡ rankedAs A x (now (s .entry))) ⌝ }
+pub fn rank(cells: &[u64], table: &[u16; 16384], p: usize, x: usize, s: &[u8]) -> Ranked
+    requires { ⌜ (p ≤ 1024) × (x < p) × (length (now s) * p ≤ length (now cells)) ⌝ }
+    ensures { λ r. ⌜ RankedBy (now (table .entry)) (now (cells .entry)) p x (now (s .entry)) r ⌝ }
 {
     let h = s.len();
     let mut index: u64 = 0;
     let mut at = x;
     for k in 0..h {
-        let e = wide(s[k]);
-        let y = counting::wide(table[at * 16 + e]);
-        if p <= y {
+        let from = (h - 1 - k) * p;
+        let f = find_event(&cells[from..], table, p, at, s[k]);
+        if p <= f.state {
             return Ranked::Violation(k);
         }
-        let from = (h - 1 - k) * p;
-        let n = count_before(&cells[from..], table, p, at, e);
-        index = add_saturating(index, n);
-        at = y;
+        index = add_saturating(index, f.before);
+        at = f.state;
     }
     Ranked::Index(index)
 }
@@ -135,7 +142,7 @@ pub fn fits(scenarios: usize, h: usize, out: usize) -> bool
 }
 
 // The place of the first index that is not below n; the list's length where all are.
-pub fn first_not_below(list: &[u64], n: u64) -> usize
+fn first_not_below(list: &[u64], n: u64) -> usize
     ensures { λ k. ⌜ k ≡ firstBad (notBelow n) (now (list .entry)) ⌝ }
 {
     for k in 0..list.len() {
@@ -147,7 +154,7 @@ pub fn first_not_below(list: &[u64], n: u64) -> usize
 }
 
 // Writes the scenarios of all indices of the list, each to the h bytes from its place × h.
-pub fn unrank_all(
+fn unrank_all(
     cells: &[u64],
     table: &[u16; 16384],
     p: usize,
@@ -157,7 +164,7 @@ pub fn unrank_all(
     out: &mut [u8],
 )
     requires { ⌜ (p ≤ 1024) × (x < p) × (h * p ≤ length (now cells)) × (length (now list) * h ≤ length (now out)) ⌝ }
-    ensures { λ _. ⌜ ((A : Automaton) (events : ℕ) → Numbered A p events (now (table .entry)) → HoldsRows A h (now (cells .entry)) → IndicesBelow (N A h x) (now (list .entry)) → N A h x < most → now (out .exit) ≡ withScenarios A h x (now (list .entry)) (now (out .entry))) ⌝ }
+    ensures { λ _. ⌜ WrittenBy (now (table .entry)) (now (cells .entry)) p x h (now (list .entry)) (now (out .entry)) (now (out .exit)) ⌝ }
 {
     for n in 0..list.len() {
         let at = n * h;
@@ -179,7 +186,7 @@ pub fn unrank_list(
 ) -> usize
     requires { ⌜ (p ≤ 1024) × (x < p) × (h * p ≤ length (now cells)) × (length (now list) * h ≤ length (now out)) ⌝ }
     ensures { λ k. ⌜ k ≡ firstBad (notBelow count) (now (list .entry)) ⌝ }
-    ensures { λ k. ⌜ ((A : Automaton) (events : ℕ) → Numbered A p events (now (table .entry)) → HoldsRows A h (now (cells .entry)) → count ≡ N A h x → count < most → now (out .exit) ≡ pick (ltb k (length (now (list .entry)))) (now (out .entry)) (withScenarios A h x (now (list .entry)) (now (out .entry)))) ⌝ }
+    ensures { λ k. ⌜ ListedBy (now (table .entry)) (now (cells .entry)) p x h count (now (list .entry)) k (now (out .entry)) (now (out .exit)) ⌝ }
 {
     let place = first_not_below(list, count);
     if place < list.len() {

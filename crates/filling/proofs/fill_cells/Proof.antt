@@ -34,7 +34,7 @@ returns : tie.Need-returns
 returns c =
     let st = c .before .before .before .before .before .before .before .before .before .before .before in
     let f = c .before .before .before .before .before .before .prune-and-fill in
-    fills-told (recordAutomaton (st .args .rig)) (st .args .states) (st .args .h) (f .result) (st .args .rig .events) (c .check-count .result) (st .args .cells .now) (f .last .1 .1 .1 .0) (f .last .1 .1 .1 .1 .0)
+    fills-told (recordAutomaton (st .args .rig)) (st .args .states) (st .args .h) (f .result) (c .check-count .result) (st .args .cells .now) (f .last .1 .1 .1 .0) (f .last .1 .1 .1 .1 .0)
     (st .pre .0 .joint) (st .pre .0 .some-states) (f .ensures .1 .0) (c .check-count .ensures) (f .ensures .0) (f .ensures .1 .1)
 
 pub fill-cells-spec : {M : Type 1} → statement M

@@ -5,7 +5,7 @@ use lib.ListN.{length}
 use borrow.Author.Needs.{needs}
 use Rattle.promises.specs.Calls.{index, indexCells}
 use Rattle.filling.proofs.Rows.{early-answer, early-cells}
-use Rattle.generator.proofs.Laws.{events-below, bad-index, bad-index-cells, index-is, index-cells-are}
+use Rattle.generator.proofs.Laws.{bad-index, bad-index-cells, index-is, index-cells-are}
 use Rattle.generator.proofs.index.Statement.{statement}
 use Rattle.generator.proofs.index.Tie as tie
 use Rattle.generator.proofs.index.Reads as reads
@@ -35,11 +35,7 @@ returns c =
     (bad-index (st .text .now) (st .sequence .now) (length (st .cells .now)) (o .result) (o .ensures) (st .cells .now) refl e (g .result) (g .ensures) (c .if1 .taken), bad-index-cells (st .text .now) (st .sequence .now) (length (st .cells .now)) (o .result) (o .ensures) (st .cells .now) refl e (g .result) (g .ensures) (c .if1 .taken))
 
 index-cells-requires : tie.Need-index-cells-requires
-index-cells-requires c κs =
-    let st = c .before .before .before .before .before .before .before .before .before .before .args in
-    let o = c .before .before .before .before .before .before .load in
-    let g = c .before .before .first-not-event in
-    (o .ensures .ready (c .before .before .before .enum-told .given .1) .fits, events-below (o .result .rig .events) (g .result) (st .sequence .now) (g .ensures) (c .before .if1 .left))
+index-cells-requires c κs = c .before .before .before .before .before .before .load .ensures .ready (c .before .before .before .enum-told .given .1) .fits
 
 returns-2 : tie.Need-returns-2
 unfolding index indexCells

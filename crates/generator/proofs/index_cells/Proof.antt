@@ -5,7 +5,7 @@ use native.Mathlib.Omega.{arith}
 use lib.ListN.{length}
 use Rattle.rig.specs.Record.{recordAutomaton}
 use Rattle.pruning.proofs.Digits.{states-few}
-use Rattle.ranking.proofs.Premises.{filled-holds}
+use Rattle.ranking.proofs.Premises.{filled-exact}
 use Rattle.filling.proofs.Rows.{cell-room, told-refused, told-passed, told-few}
 use Rattle.generator.proofs.Laws.{ranked-index, ranked-violation}
 use Rattle.generator.proofs.index_cells.Statement.{statement}
@@ -31,14 +31,10 @@ rank-requires : tie.Need-rank-requires
 rank-requires c κs =
     let st = c .before .before .before .before .before .before .before .before .before .before .before .before in
     let f = c .before .before .before .before .before .before .before .fill-cells in
-    let z = st .pre .0 in (
-      (
-        omega (arith, states-few (st .args .rig) (z .well-formed), z .joint),
-        z .well-formed .few-events,
-        z .some-states,
-        omega (arith, f .kept .1 .1 .1 .0, cell-room (length (st .args .sequence .now)) (st .args .states) (length (st .args .cells .now)) (z .some-states) (z .enough)),
-      ),
-      st .pre .1,
+    let z = st .pre in (
+      omega (arith, states-few (st .args .rig) (z .well-formed), z .joint),
+      z .some-states,
+      omega (arith, f .kept .1 .1 .1 .0, cell-room (length (st .args .sequence .now)) (st .args .states) (length (st .args .cells .now)) (z .some-states) (z .enough)),
     )
 
 enum-known-ranked : tie.Need-enum-known-ranked
@@ -55,7 +51,7 @@ returns c =
     let st = c .before .before .before .before .before .before .before .before .before .before .before .args in
     let f = c .before .before .before .before .before .before .fill-cells in
     let k = c .before .checked .given in
-    (told-refused (recordAutomaton (st .rig)) (st .states) (st .rig .events) 0 (length (st .sequence .now)) (f .result) _ _ _ (f .ensures) (k .0 .0) (k .0 .1 .0) (k .1) _, f .ensures .cells-filled)
+    (told-refused (recordAutomaton (st .rig)) (st .states) 0 (length (st .sequence .now)) (f .result) _ _ _ (f .ensures) (k .0 .0) (k .0 .1 .0) (k .1) _, f .ensures .cells-filled)
 
 same-length-2 : tie.Need-same-length-2
 same-length-2 c = search needs
@@ -69,9 +65,8 @@ returns-2 c =
     let e = c .before .before .before .before .before .before .enum-told .given .1 in
     let k = c .before .ranked .given in
     let A = recordAutomaton (st .rig) in
-    let rows = filled-holds A h (f .last .1 .1 .1 .0) (st .cells .now) (f .ensures .cells-filled) in
-    let w = r .ensures A (f .ensures .tabled) rows (told-few A (st .states) (st .rig .events) 0 h (f .result) _ _ _ (f .ensures) e) in
-    (ranked-index A (st .sequence .now) (r .result) w (k .0 .0) (k .1) ∙ told-passed A (st .states) (st .rig .events) 0 h (f .result) _ _ _ (f .ensures) e _, f .ensures .cells-filled)
+    let exact = filled-exact A (st .states) h 0 _ _ (st .cells .now) (f .ensures .tabled) (f .ensures .cells-filled) (told-few A (st .states) 0 h (f .result) _ _ _ (f .ensures) e) in
+    (ranked-index A (st .sequence .now) (r .result) (r .ensures A exact) (k .0 .0) (k .1) ∙ told-passed A (st .states) 0 h (f .result) _ _ _ (f .ensures) e _, f .ensures .cells-filled)
 
 same-length-3 : tie.Need-same-length-3
 same-length-3 c = search needs
@@ -85,9 +80,8 @@ returns-3 c =
     let e = c .before .before .before .before .before .before .enum-told .given .1 in
     let k = c .before .ranked2 .given in
     let A = recordAutomaton (st .rig) in
-    let rows = filled-holds A h (f .last .1 .1 .1 .0) (st .cells .now) (f .ensures .cells-filled) in
-    let w = r .ensures A (f .ensures .tabled) rows (told-few A (st .states) (st .rig .events) 0 h (f .result) _ _ _ (f .ensures) e) in
-    (ranked-violation A (st .sequence .now) (r .result) w (k .0 .0) (k .1) ∙ told-passed A (st .states) (st .rig .events) 0 h (f .result) _ _ _ (f .ensures) e _, f .ensures .cells-filled)
+    let exact = filled-exact A (st .states) h 0 _ _ (st .cells .now) (f .ensures .tabled) (f .ensures .cells-filled) (told-few A (st .states) 0 h (f .result) _ _ _ (f .ensures) e) in
+    (ranked-violation A (st .sequence .now) (r .result) (r .ensures A exact) (k .0 .0) (k .1) ∙ told-passed A (st .states) 0 h (f .result) _ _ _ (f .ensures) e _, f .ensures .cells-filled)
 
 pub index-cells-spec : {M : Type 1} → statement M
 index-cells-spec =

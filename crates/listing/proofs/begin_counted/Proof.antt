@@ -49,7 +49,7 @@ returns c =
     let f = c .before .before .before .before .before .before .before .before .before .before .before .fill-cells in
     let k = c .before .before .before .before .before .checked .given in
     let A = recordAutomaton (st .rig) in
-    let a = told-refused A (st .states) (st .rig .events) 0 (st .h) (f .result) _ _ _ (f .ensures) (k .0 .0) (k .0 .1 .0) (k .1) _ in
+    let a = told-refused A (st .states) 0 (st .h) (f .result) _ _ _ (f .ensures) (k .0 .0) (k .0 .1 .0) (k .1) _ in
     (begins-as _ _ A A 0 0 (st .h) (st .h) _ _ _ _ _ a refl refl refl (c .before .before .refuse .ensures A 0 (st .h) _ _), f .ensures .cells-filled)
 
 same-length-4 : tie.Need-same-length-4

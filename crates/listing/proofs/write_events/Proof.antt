@@ -1,4 +1,5 @@
 -- The part that is lent has h bytes, and unranking fills it; the bytes past it are as they were. Assumes nothing.
+use lib.ListN.{take}
 use lib.Seq.{length-take-le}
 use mathlib.Core.Path.{sym}
 use borrow.Author.Needs.{needs}
@@ -25,7 +26,7 @@ same-length c = search needs
 returns : tie.Need-returns
 returns c =
     let st = c .before .before .before .before .before .before in
-    λ A e n r b x. events-front A (st .args .cells .now) (st .args .h) _ (st .args .i) _ _ (length-take-le (st .args .h) (st .args .events .now) (st .pre .3)) (c .before .before .unrank .ensures A e n) r b x
+    events-front (st .args .table .now) (st .args .cells .now) (st .args .states) (st .args .h) (st .args .i) (take (st .args .h) (st .args .events .now)) _ _ (length-take-le (st .args .h) (st .args .events .now) (st .pre .3)) (c .before .before .unrank .ensures)
 
 pub write-events-spec : {M : Type 1} → statement M
 write-events-spec =

@@ -1,17 +1,15 @@
 -- The step is chosen by the row of what is left after it, which the part lent begins with (`row-lent`). Its event is stored and the rest of the
 -- part lent on for what is left of the index, which is below the next state's count (`chosen-unrank`); the events left fall by one.
 use mathlib.Core.Path.{_≡_, sym, ap, _∙_, subst}
-use mathlib.Core.Bool.{true}
 use Prim.Native.Nat.{ℕ, _+_, _-_, _*_, _≤_, _<_}
 use native.Mathlib.Omega.{arith}
 use lib.ListN.{length, length-set, length-take, length-drop}
-use Rattle.automaton.specs.Pruning.{live}
 use Rattle.automaton.specs.Counting.{N, most}
 use Rattle.automaton.specs.Ranking.{unrank}
-use Rattle.automaton.proofs.Counting.{N-live}
-use Rattle.ranking.specs.Ranks.{HoldsRows, Chosen}
-use Rattle.ranking.proofs.Steps.{chosen-unrank, chosen-least}
-use Rattle.ranking.proofs.Rows.{row-within, row-lent, rows-fewer, length-rest, rest-within, rest-none, rest-back}
+use Rattle.ranking.specs.Ranks.{Exact, Chosen}
+use Rattle.ranking.proofs.Steps.{chosen-unrank}
+use Rattle.ranking.proofs.Premises.{exact-on}
+use Rattle.ranking.proofs.Rows.{row-within, row-lent, length-rest, rest-within, rest-none, rest-back}
 use borrow.Author.Needs.{needs}
 use borrow.Fn.Kinds.{In}
 use borrow.Fn.PlainCycle.{Measures, is, falls, and}
@@ -38,7 +36,7 @@ unrank-returns : (t : ℕ) → unrank-lts.Need-returns (
   unrank.Post,
 ) (unrank-at t) unrank.Post
 unrank-returns t c =
-    λ A events numbered rows below least.
+    λ A exact below.
     let a = c .before .before .before .args in
     rest-none A (a .x) (a .i) (a .out .now) (c .if1 .taken)
 
@@ -170,7 +168,7 @@ unrank-returns-2 : (t : ℕ) → unrank-lts.Need-returns-2 (
   unrank.Post,
 ) (unrank-at t) unrank.Post
 unrank-returns-2 t c =
-    λ A events numbered rows below least.
+    λ A exact below.
     let st = c .before .before .before .before .before .before .before .before .before in
     let a = st .args in
     let cells = a .cells .now in
@@ -178,14 +176,12 @@ unrank-returns-2 t c =
     let k = r - 1 in
     let e : r ≡ k + 1 = omega arith in
     let ch = c .before .before .before .before .choose-event in
-    let less : N A (k + 1) (a .x) < most = subst (λ (n : ℕ). N A n (a .x) < most) e least in
+    let less : N A (k + 1) (a .x) < most = subst (λ (n : ℕ). N A n (a .x) < most) e (exact .not-cut-off) in
     let is : Chosen A k (a .x) (a .i) (ch .result) =
-    ch .ensures .1 A events k numbered (row-lent A cells (a .p) k r (numbered .tabled .states) rows (omega arith)) (subst (λ (n : ℕ). a .i < N A n (a .x)) e below) less in
-    let l : live A (a .x) ≡ true = N-live A r (a .x) (omega arith) in
-    let fewer : N A k (ch .result .state) < most = omega (arith, chosen-least A k (a .x) (a .i) (ch .result) is l) in
+    ch .ensures .1 A k (exact .tabled) (row-lent A cells (a .p) k r (exact .tabled .states) (exact .holds) (omega arith)) .some (subst (λ (n : ℕ). a .i < N A n (a .x)) e below) less in
+    let on : Exact A (a .p) k (ch .result .state) (a .table .now) cells = exact-on A (a .p) k (a .x) (a .i) (a .table .now) cells (ch .result) is below e exact in
     let q = sym (length-rest (a .out .now) (ch .result .event) (omega arith)) in
-    let back = c .before .before .unrank .ensures A events numbered (subst (λ (n : ℕ). HoldsRows A n cells) q (rows-fewer A cells k r (omega arith) rows))
-    (subst (λ (n : ℕ). ch .result .left < N A n (ch .result .state)) q (is .is-below)) (subst (λ (n : ℕ). N A n (ch .result .state) < most) q fewer) in
+    let back = c .before .before .unrank .ensures A (subst (λ (n : ℕ). Exact A (a .p) n (ch .result .state) (a .table .now) cells) q on) (subst (λ (n : ℕ). ch .result .left < N A n (ch .result .state)) q (is .is-below)) in
     rest-back (a .out .now) (ch .result .event) (unrank A k (ch .result .state) (ch .result .left)) _ (omega arith) (back ∙ ap (λ (n : ℕ). unrank A n (ch .result .state) (ch .result .left)) (sym q))
     ∙ sym (chosen-unrank A k (a .x) (a .i) (ch .result) is) ∙ ap (λ (n : ℕ). unrank A n (a .x) (a .i)) (sym e)
 

@@ -1,35 +1,27 @@
--- The invariant: what is left of the index, with the counts of the events passed, is the index; so it is in the part of an event still to come
--- (`still-event`). The first count above what is left is that event's (`chosen`).
-use mathlib.Core.Path.{_≡_, ap, _∙_}
-use mathlib.Core.Bool.{true}
-use Prim.Native.Nat.{ℕ, _+_, _-_, _*_, _≤_, _<_}
+-- The invariant: what is left of the index, with the counts of the live events passed, is the index. The first count above what is left is that of the
+-- event it falls in (`choose-here`); where no live event is left there is none (`choose-none`).
+use mathlib.Core.Path.{_≡_, subst}
+use Prim.Native.Nat.{ℕ, _+_, _-_, _%_, _≤_, _<_}
 use native.Mathlib.Omega.{arith}
-use lib.ListN.{getD}
-use lib.Dec.{ltb}
-use Rattle.lists.specs.Lists.{pick}
 use Rattle.automaton.specs.Automaton.{Automaton}
-use Rattle.automaton.specs.Pruning.{live}
 use Rattle.automaton.specs.Counting.{N, most}
-use Rattle.automaton.proofs.Counting.{N-live}
-use Rattle.counting.specs.Tabled.{HoldsRow}
+use Rattle.counting.specs.Tabled.{Tabled, HoldsRow}
 use Rattle.counting.proofs.Sums.{upTo, upTo-none}
-use Rattle.ranking.specs.Ranks.{Numbered}
-use Rattle.ranking.proofs.Steps.{counted-state, count-exact, upTo-next, chosen, still-event}
+use Rattle.ranking.proofs.Steps.{counted-state, past-all, past-last, step-over, choose-here, choose-none}
 use borrow.Author.Needs.{needs}
 use Rattle.ranking.proofs.choose_event.Statement.{statement}
 use Rattle.ranking.proofs.choose_event.Tie as tie
 
 abbrev Inv-loop : tie.InvT-loop
-Inv-loop cells table p x i left₀ e₀ left e =
-    (e ≤ 16)
-    × ((A : Automaton) (events r : ℕ) → Numbered A p events table → HoldsRow A r cells → i < N A (r + 1) x → N A (r + 1) x < most → left + upTo A r x e ≡ i)
+Inv-loop cells table p x i left₀ c₀ left c =
+    (c ≤ 16) × ((A : Automaton) (r : ℕ) → Tabled A p table → HoldsRow A r cells → N A (r + 1) x ≤ most → left + upTo A r x c ≡ i)
 
 abbrev μ-loop : tie.MeasureT-loop
-μ-loop cells table p x i left₀ e₀ left e = 16 - e
+μ-loop cells table p x i left₀ c₀ left c = 16 - c
 
 loop-holds : tie.Need-loop-holds Inv-loop μ-loop
 loop-holds c =
-    (omega arith, λ A events r numbered holds below least. omega (arith, upTo-none A r (c .before .args .x)))
+    (omega arith, λ A r tabled holds le. omega (arith, upTo-none A r (c .before .args .x)))
 
 mul-wide : tie.Need-mul-wide Inv-loop μ-loop
 mul-wide c = search needs
@@ -49,55 +41,66 @@ wide-requires c κs = search needs
 count-at-requires : tie.Need-count-at-requires Inv-loop μ-loop
 count-at-requires c κs = search needs
 
-cast-t17 : tie.Need-cast-t17 Inv-loop μ-loop
-cast-t17 c = search needs
+cast-t19 : tie.Need-cast-t19 Inv-loop μ-loop
+cast-t19 c =
+    let wd = c .before .before .before .wide in
+    omega (arith, wd .ensures .1)
 
 returns : tie.Need-returns Inv-loop μ-loop
+unfolding most
 returns c =
-    let a = c .before .before .before .before .before .before .before .args in
-    let lp = c .before .before .before .before .before .loop in (
-      rw (c .before .before .wide .ensures) (counted-state (getD (a .table .now) (a .x * 16 + lp .e) 0) (a .p) _ (lp .left) (rw (c .before .count-at .ensures, c .before .before .wide .ensures) at (c .if1 .taken))),
-      λ A events r numbered holds below least.
-          let now : lp .left + upTo A r (a .x) (lp .e) ≡ a .i = lp .inv .1 A events r numbered holds below least in
-          let he : lp .e < events = still-event A (a .p) events (a .table .now) numbered r (a .x) (a .i) (lp .left) (lp .e) (omega arith) now below in
-          let l : live A (a .x) ≡ true = N-live A (r + 1) (a .x) (omega arith) in
-          let count : c .before .count-at .result ≡ N A r (A .next (a .x) (lp .e)) =
-          c .before .count-at .ensures ∙ ap (λ (y : ℕ). pick (ltb y (a .p)) (getD (a .cells .now) y 0) 0) (c .before .before .wide .ensures)
-          ∙ count-exact A (a .p) events (a .table .now) numbered (omega arith) (a .x) (lp .e) (omega arith) he r (a .cells .now) holds l least in
-          chosen A (a .p) events (a .table .now) numbered (omega arith) (a .x) (lp .e) (omega arith) he r (a .i) (lp .left) _ (c .before .before .wide .ensures) now (omega arith),
+    let st = c .before .before .before .before .before .before .before .before in
+    let a = st .args in
+    let lp = c .before .before .before .before .before .before .loop in
+    let wd = c .before .before .before .wide in
+    let hc = c .before .before .before .before .before .loop-test .taken in (
+      counted-state (wd .result % 1024) (a .p) _ (lp .left) (subst (λ (n : ℕ). lp .left < n) (c .before .count-at .ensures) (c .if2 .taken)),
+      λ A r tabled holds.
+          choose-here A (a .p) (a .table .now) tabled (st .pre .0) (a .x) (st .pre .1) (lp .c) (wd .result) hc (wd .ensures .0) (c .before .before .if1 .left)
+          r (a .cells .now) holds (c .before .count-at .result) (c .before .count-at .ensures) (lp .left) (a .i) (lp .inv .1 A r tabled holds) (omega arith) (c .if2 .taken),
     )
 
-add-e : tie.Need-add-e Inv-loop μ-loop
-add-e c = search needs
+add-c : tie.Need-add-c Inv-loop μ-loop
+add-c c = search needs
 
 loop-less : tie.Need-loop-less Inv-loop μ-loop
 loop-less c = search needs
 
 loop-again : tie.Need-loop-again Inv-loop μ-loop
 loop-again c =
-    let a = c .before .before .before .before .before .before .before .args in
-    let lp = c .before .before .before .before .before .loop in
-    let on : (A : Automaton) (events r : ℕ) → Numbered A (a .p) events (a .table .now) → HoldsRow A r (a .cells .now) → a .i < N A (r + 1) (a .x) → N A (r + 1) (a .x) < most
-    → lp .left - c .before .count-at .result + upTo A r (a .x) (lp .e + 1) ≡ a .i =
-    λ A events r numbered holds below least.
-    let now : lp .left + upTo A r (a .x) (lp .e) ≡ a .i = lp .inv .1 A events r numbered holds below least in
-    let he : lp .e < events = still-event A (a .p) events (a .table .now) numbered r (a .x) (a .i) (lp .left) (lp .e) (omega arith) now below in
-    let l : live A (a .x) ≡ true = N-live A (r + 1) (a .x) (omega arith) in
-    let count : c .before .count-at .result ≡ N A r (A .next (a .x) (lp .e)) =
-    c .before .count-at .ensures ∙ ap (λ (y : ℕ). pick (ltb y (a .p)) (getD (a .cells .now) y 0) 0) (c .before .before .wide .ensures)
-    ∙ count-exact A (a .p) events (a .table .now) numbered (omega arith) (a .x) (lp .e) (omega arith) he r (a .cells .now) holds l least in
-    omega (arith, upTo-next A (a .p) events (a .table .now) numbered (omega arith) (a .x) (lp .e) (omega arith) he r) in
-    (omega arith, on)
+    let st = c .before .before .before .before .before .before .before .before in
+    let a = st .args in
+    let lp = c .before .before .before .before .before .before .loop in
+    let wd = c .before .before .before .wide in
+    let hc = c .before .before .before .before .before .loop-test .taken in (
+      omega arith,
+      λ A r tabled holds le.
+          step-over A (a .p) (a .table .now) tabled (st .pre .0) (a .x) (st .pre .1) (lp .c) (wd .result) hc (wd .ensures .0) (c .before .before .if1 .left)
+          r (a .cells .now) holds (c .before .count-at .result) (c .before .count-at .ensures) (lp .left) (a .i) le (lp .inv .1 A r tabled holds le) (c .if2 .left),
+    )
 
 returns-2 : tie.Need-returns-2 Inv-loop μ-loop
 returns-2 c =
-    let a = c .before .before .before .args in
+    let st = c .before .before .before in
+    let a = st .args in
     let lp = c .before .loop in (
       omega arith,
-      λ A events r numbered holds below least.
-          let columns : events ≤ 16 = numbered .few-events in
-          let more : lp .e < events = still-event A (a .p) events (a .table .now) numbered r (a .x) (a .i) (lp .left) (lp .e) (omega arith) (lp .inv .1 A events r numbered holds below least) below in
-          absurd (omega arith),
+      λ A r tabled holds.
+          choose-none A (a .p) (a .table .now) tabled (st .pre .0) (a .x) (st .pre .1) (lp .c)
+          (past-all A (a .p) (a .table .now) tabled (st .pre .0) (a .x) (st .pre .1) (lp .c) (omega arith)) r (lp .left) (a .i) (lp .inv .1 A r tabled holds),
+    )
+
+returns-3 : tie.Need-returns-3 Inv-loop μ-loop
+returns-3 c =
+    let st = c .before .before .before .before .before .before in
+    let a = st .args in
+    let lp = c .before .before .before .before .loop in
+    let wd = c .before .wide in (
+      omega arith,
+      λ A r tabled holds.
+          choose-none A (a .p) (a .table .now) tabled (st .pre .0) (a .x) (st .pre .1) (lp .c)
+          (past-last A (a .p) (a .table .now) tabled (st .pre .0) (a .x) (st .pre .1) (lp .c) (wd .result) (c .before .before .before .loop-test .taken) (wd .ensures .0) (c .if1 .taken))
+          r (lp .left) (a .i) (lp .inv .1 A r tabled holds),
     )
 
 pub choose-event-spec : {M : Type 1} → statement M
@@ -113,9 +116,10 @@ choose-event-spec =
     element-copy-out-wide
     wide-requires
     count-at-requires
-    cast-t17
+    cast-t19
     returns
-    add-e
+    add-c
     loop-less
     loop-again
-    returns-2)
+    returns-2
+    returns-3)

@@ -3,8 +3,7 @@ use mathlib.Core.Path.{_≡_, refl, sym, _∙_}
 use Prim.Native.Nat.{_-_, _≤_}
 use native.Mathlib.Omega.{arith}
 use lib.ListN.{length, drop}
-use Rattle.promises.specs.Calls.{firstBad, firstBadFrom}
-use Rattle.ranking.specs.Ranks.{notBelow}
+use Rattle.promises.specs.Calls.{notBelow, firstBad, firstBadFrom}
 use Rattle.ranking.proofs.Walk.{bad-here, bad-later, bad-nowhere}
 use borrow.Author.Needs.{needs}
 use Rattle.ranking.proofs.first_not_below.Statement.{statement}

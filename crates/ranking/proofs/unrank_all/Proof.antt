@@ -9,9 +9,9 @@ use lib.ListN.{length, getD, take, drop}
 use lib.Seq.{take-length}
 use Rattle.lists.specs.Lists.{concatMap}
 use Rattle.automaton.specs.Automaton.{Automaton}
-use Rattle.automaton.specs.Counting.{N, most}
+use Rattle.automaton.specs.Counting.{N}
 use Rattle.automaton.specs.Ranking.{unrank}
-use Rattle.ranking.specs.Ranks.{Numbered, HoldsRows, IndicesBelow, withScenarios}
+use Rattle.ranking.specs.Ranks.{Exact, IndicesBelow, withScenarios}
 use Rattle.ranking.proofs.Rows.{row-within}
 use Rattle.ranking.proofs.Walk.{length-unrank, length-part, walk-step}
 use borrow.Author.Needs.{needs}
@@ -21,13 +21,13 @@ use Rattle.ranking.proofs.unrank_all.Tie as tie
 abbrev Inv-loop : tie.InvT-loop
 Inv-loop cells table p x h list out₀ n₀ n-end out n =
     (n ≤ length list) × (length out ≡ length out₀)
-    × ((A : Automaton) (events : ℕ) → Numbered A p events table → HoldsRows A h cells → IndicesBelow (N A h x) list → N A h x < most → out ≡ concatMap (unrank A h x) (take n list) ++ drop (n * h) out₀)
+    × ((A : Automaton) → Exact A p h x table cells → IndicesBelow (N A h x) list → out ≡ concatMap (unrank A h x) (take n list) ++ drop (n * h) out₀)
 
 abbrev μ-loop : tie.MeasureT-loop
 μ-loop cells table p x h list out₀ n₀ n-end out n = length list - n
 
 loop-holds : tie.Need-loop-holds Inv-loop μ-loop
-loop-holds c = (omega arith, refl, λ A events numbered rows below least. rw zero-mul)
+loop-holds c = (omega arith, refl, λ A exact below. rw zero-mul)
 
 mul-at : tie.Need-mul-at Inv-loop μ-loop
 mul-at c =
@@ -94,11 +94,10 @@ loop-again c =
     let q = sym (length-part (lp .out) (lp .n * a .h) (a .h) (omega arith)) in (
       omega arith,
       c .before .out .given .1 ∙ lp .inv .1,
-      λ A events numbered rows below least.
-          let back = c .before .before .unrank .ensures A events numbered (subst (λ (r : ℕ). HoldsRows A r (a .cells .now)) q rows) (subst (λ (r : ℕ). i < N A r (a .x)) q (below (lp .n) lt))
-          (subst (λ (r : ℕ). N A r (a .x) < most) q least) in
+      λ A exact below.
+          let back = c .before .before .unrank .ensures A (subst (λ (r : ℕ). Exact A (a .p) r (a .x) (a .table .now) (a .cells .now)) q exact) (subst (λ (r : ℕ). i < N A r (a .x)) q (below (lp .n) lt)) in
           walk-step (unrank A (a .h) (a .x)) (a .h) (a .list .now) (λ k h. length-unrank A (a .h) (a .x) (getD (a .list .now) k 0) (below k h)) (a .out .now) (lp .out) (lp .n) _ lt
-          (lp .inv .2 A events numbered rows below least) (back ∙ ap (λ (r : ℕ). unrank A r (a .x) i) (sym q)),
+          (lp .inv .2 A exact below) (back ∙ ap (λ (r : ℕ). unrank A r (a .x) i) (sym q)),
     )
 
 same-length : tie.Need-same-length Inv-loop μ-loop
@@ -107,11 +106,11 @@ same-length c = search needs
 returns : tie.Need-returns Inv-loop μ-loop
 unfolding withScenarios
 returns c =
-    λ A events numbered rows below least.
+    λ A exact below.
     let a = c .before .before .before .before .before .args in
     let lp = c .before .loop in
     let e : lp .n ≡ length (a .list .now) = omega arith in
-    lp .inv .2 A events numbered rows below least
+    lp .inv .2 A exact below
     ∙ ap (λ (n : ℕ). concatMap (unrank A (a .h) (a .x)) (take n (a .list .now)) ++ drop (n * a .h) (a .out .now)) e
     ∙ ap (λ (l : List ℕ). concatMap (unrank A (a .h) (a .x)) l ++ drop (length (a .list .now) * a .h) (a .out .now)) (take-length (a .list .now))
 

@@ -1,10 +1,10 @@
 -- The list is checked to its end first: a place below its length is told and nothing written. Else every index is below the count (`good-all`), and all
 -- are written.
 use mathlib.Core.Path.{subst}
-use Prim.Native.Nat.{ℕ, _≤_, _<_}
+use Prim.Native.Nat.{ℕ, _≤_}
 use lib.ListN.{length}
 use borrow.Author.Tests.{lt-ltb, le-ltb}
-use Rattle.automaton.specs.Counting.{N, most}
+use Rattle.automaton.specs.Counting.{N}
 use Rattle.ranking.specs.Ranks.{IndicesBelow}
 use Rattle.ranking.proofs.Walk.{good-all}
 use borrow.Author.Needs.{needs}
@@ -16,7 +16,7 @@ first-not-below-requires c κs = search needs
 
 returns : tie.Need-returns
 returns c =
-    (c .before .first-not-below .ensures, λ A events numbered rows is least. rw (lt-ltb _ _ (c .if1 .taken)))
+    (c .before .first-not-below .ensures, λ A exact is. rw (lt-ltb _ _ (c .if1 .taken)))
 
 unrank-all-requires : tie.Need-unrank-all-requires
 unrank-all-requires c κs = search needs
@@ -30,10 +30,10 @@ returns-2 c =
     let place = c .before .before .before .before .before .first-not-below in
     let past : length (a .list .now) ≤ place .result = c .before .before .before .before .if1 .left in (
       place .ensures,
-      λ A events numbered rows is least.
+      λ A exact is.
           let below : IndicesBelow (N A (a .h) (a .x)) (a .list .now) =
           subst (λ (n : ℕ). IndicesBelow n (a .list .now)) is (good-all (a .count) (a .list .now) (subst (λ (n : ℕ). length (a .list .now) ≤ n) (place .ensures) past)) in
-          rw (le-ltb (place .result) (length (a .list .now)) past) (c .before .before .unrank-all .ensures A events numbered rows below (subst (λ (n : ℕ). n < most) is least)),
+          rw (le-ltb (place .result) (length (a .list .now)) past) (c .before .before .unrank-all .ensures A exact below),
     )
 
 pub unrank-list-spec : {M : Type 1} → statement M
