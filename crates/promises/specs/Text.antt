@@ -106,12 +106,15 @@ unfoldable pub end : Line → List (List ℕ) → Line
 end l [] = l
 end l (f ∷ fs) = other
 
--- one number, and three
+-- one number, two and three
 unfoldable pub one : (ℕ → Line) → List (List ℕ) → Line
 one f = field number (λ a. end (f a))
 
+unfoldable pub two : (ℕ → ℕ → Line) → List (List ℕ) → Line
+two f = field number (λ a. one (f a))
+
 unfoldable pub three : (ℕ → ℕ → ℕ → Line) → List (List ℕ) → Line
-three f = field number (λ a. field number (λ b. field number (λ c. end (f a b c))))
+three f = field number (λ a. two (f a))
 
 -- the bytes of a word's characters
 abbrev pub bytes : String → List ℕ
