@@ -24,19 +24,17 @@ use Rattle.decoding.specs.declared.Field.the-variants.{Last, More, Bad}
 use Rattle.decoding.specs.declared.Form.{Form}
 use Rattle.decoding.specs.declared.Form.the-variants.{Rig, Begins, Continues, Other}
 use Rattle.decoding.specs.declared.Kind.{Kind}
-use Rattle.decoding.specs.declared.Kind.the-variants.{Mon}
 use Rattle.decoding.specs.declared.Part.{Part}
-use Rattle.decoding.specs.declared.Part.the-variants.{Go}
 
 abbrev pub valueOf : Decimal → Option ℕ
 valueOf (Value n) = some n
 valueOf Wrong = none
 
 abbrev pub kindOf : Kind → text.Kind
-kindOf (Mon s) = mon s
+kindOf k = mon (k .states)
 
 abbrev pub partOf : Part → text.Part
-partOf (Go s e t) = go s e t
+partOf p = go (p .state) (p .event) (p .target)
 
 abbrev pub formLine : Form → Line
 formLine (Rig e) = rig e

@@ -13,14 +13,16 @@ pub enum Decimal {
     Wrong,
 }
 
-// A line that begins a monitor, with its numbers.
-pub enum Kind {
-    Mon(usize),
+// A line that begins a monitor, with its numbers: `mon`, S. (A struct, as an enum of one variant can't be matched on; a second kind makes it an enum.)
+pub struct Kind {
+    pub states: usize,
 }
 
-// A line of the latest monitor, with its numbers.
-pub enum Part {
-    Go(usize, usize, usize),
+// A line of the latest monitor, with its numbers: `go`, s, e, t. (A struct for the same reason.)
+pub struct Part {
+    pub state: usize,
+    pub event: usize,
+    pub target: usize,
 }
 
 // A line's form.
@@ -153,7 +155,11 @@ fn go_form(rest: &[u8]) -> Form
     let Field::Last(t) = read_field(third) else {
         return Form::Other;
     };
-    Form::Continues(Part::Go(s, e, t))
+    Form::Continues(Part {
+        state: s,
+        event: e,
+        target: t,
+    })
 }
 
 // The form that a line is.
@@ -173,7 +179,7 @@ pub fn decode(line: &[u8]) -> Form
         }
         if same(word, b"mon") {
             return match only_number(rest) {
-                Decimal::Value(s) => Form::Begins(Kind::Mon(s)),
+                Decimal::Value(s) => Form::Begins(Kind { states: s }),
                 Decimal::Wrong => Form::Other,
             };
         }

@@ -47,19 +47,19 @@ in-addPart p (k ∷ (n ∷ ms)) m (there i) = later (in-addPart p (n ∷ ms) m i
     later (inl j) = inl (there j)
     later (inr (j, e, h, q)) = inr (j, e, there h, q)
 
-length-addPart : (p : Part) (ms : List Monitor) → length (addPart p ms) ≡ length ms
+pub length-addPart : (p : Part) (ms : List Monitor) → length (addPart p ms) ≡ length ms
 unfolding addPart
 length-addPart p [] = refl
 length-addPart p (m ∷ []) = refl
 length-addPart p (m ∷ (n ∷ ms)) = ap suc (length-addPart p (n ∷ ms))
 
-product-addPart : (p : Part) (ms : List Monitor) → product (addPart p ms) ≡ product ms
+pub product-addPart : (p : Part) (ms : List Monitor) → product (addPart p ms) ≡ product ms
 unfolding addPart product
 product-addPart p [] = refl
 product-addPart p (m ∷ []) = refl
 product-addPart p (m ∷ (n ∷ ms)) = ap (λ n. statesOf (m .kind) * n) (product-addPart p (n ∷ ms))
 
-product-append : (ms : List Monitor) (m : Monitor) → product (ms ++ (m ∷ [])) ≡ product ms * statesOf (m .kind)
+pub product-append : (ms : List Monitor) (m : Monitor) → product (ms ++ (m ∷ [])) ≡ product ms * statesOf (m .kind)
 unfolding product
 product-append [] m = mul-one _ ∙ sym (one-mul _)
 product-append (k ∷ ms) m = ap (λ p. statesOf (k .kind) * p) (product-append ms m) ∙ sym (mul-assoc (statesOf (k .kind)) (product ms) (statesOf (m .kind)))

@@ -37,7 +37,7 @@ moves-later s e t a b c ps q (here r) = absurd (is-move s e (go a b c) .no q (t,
 moves-later s e t a b c ps q (there i) = i
 
 -- where there is a line for s and e, and just one target, the moves lead there
-target-in : (z : ℕ) (ps : List Part) (s e t : ℕ) → ((u : ℕ) → In (go s e u) ps → t ≡ u) → In (go s e t) ps → target z ps s e ≡ t
+pub target-in : (z : ℕ) (ps : List Part) (s e t : ℕ) → ((u : ℕ) → In (go s e u) ps → t ≡ u) → In (go s e t) ps → target z ps s e ≡ t
 unfolding target
 target-in z [] s e t one i = absurd (List·Memᴰ·not-nil i)
 target-in z (go a b c ∷ ps) s e t one i =
@@ -46,7 +46,7 @@ target-in z (go a b c ∷ ps) s e t one i =
     (λ q. rw q (target-in z ps s e t (λ u j. one u (there j)) (moves-later s e t a b c ps q i)))
 
 -- where the moves lead to a state, there is that line
-target-found : (z : ℕ) (ps : List Part) (s e : ℕ) → (target z ps s e ≡ z) ⊎ In (go s e (target z ps s e)) ps
+pub target-found : (z : ℕ) (ps : List Part) (s e : ℕ) → (target z ps s e ≡ z) ⊎ In (go s e (target z ps s e)) ps
 unfolding target
 target-found z [] s e = inl refl
 target-found z (go a b c ∷ ps) s e =
@@ -140,7 +140,7 @@ module _ (E : ℕ) (ms : List Monitor) (w : WellFormed E ms) where
 
 -- ---- the text
 
-sizes-standing : (E : ℕ) (ms : List Monitor) → sizes (standing E ms) ≡ product ms
+pub sizes-standing : (E : ℕ) (ms : List Monitor) → sizes (standing E ms) ≡ product ms
 unfolding sizes standing product monitorOf
 sizes-standing E [] = refl
 sizes-standing E (m ∷ ms) = ap (λ p. statesOf (m .kind) * p) (sizes-standing E ms)
