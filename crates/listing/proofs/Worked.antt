@@ -12,8 +12,8 @@ use Rattle.promises.specs.Reading.{isMove, moves, testBeginning, ofLatest, test
 use Rattle.promises.specs.Rig.{target, nextOf, monitorOf, standing, linesAutomaton, linesStart, rigAutomaton, start}
 use Rattle.promises.specs.Calls.{sized, total, counted, count}
 use Rattle.promises.specs.Examples.{A}
-use Rattle.decimal.specs.Decimal as decimals
-use Rattle.decimal.specs.Decimal.{decimal}
+use Rattle.lists.specs.Decimal as decimals
+use Rattle.lists.specs.Decimal.{decimal}
 use Rattle.line.specs.Line.{lineOf, numbersOf}
 use Rattle.listing.specs.Listing.{firstLine, askedIn, asked, text, owned, answer, horizon, scenarioLine, listing}
 

@@ -8,3 +8,4 @@ pub mod Tells
 pub mod Distinct
 pub mod Blocks
 pub mod Fronts
+pub mod Decimal

@@ -14,7 +14,7 @@ use lib.Seq.{getD-set-same, getD-set-other}
 use lib.Dec.{eqb, ltb, leb}
 use borrow.Author.Tests.{eq-eqb, ne-eqb, eqb-true, eqb-false, ltb-false, leb-false, not-false}
 use Rattle.lists.specs.Lists.{pick}
-use Rattle.lists.proofs.Tests.{contra, case, ℕ-trichotomy}
+use Rattle.lists.proofs.Tests.{contra, case, or-left, or-rest, ℕ-trichotomy}
 use Rattle.promises.specs.Text.{Kind, mon, Part, go, Line, rig, begins, continues, Monitor, addPart, extended, monitorsFrom, monitors, statesOf, latest, product, eventsOf}
 use Rattle.promises.specs.Reading.{empty, moves, outside, testBeginning, ofLatest, testContinuing, tests, lineCase}
 use Rattle.promises.specs.Rig.{target}
@@ -82,14 +82,6 @@ holds-none mv ct blank long wide = record {
 }
 
 -- ---- tests
-
-or-left : (a b : Bool) → (a || b) ≡ false → a ≡ false
-or-left true b h = h
-or-left false b h = refl
-
-or-rest : (a b : Bool) → (a || b) ≡ false → b ≡ false
-or-rest true b h = contra refl h
-or-rest false b h = h
 
 same-picks : (a a′ b b′ c c′ : Bool) → a ≡ a′ → (a′ ≡ false → b ≡ b′) → (a′ ≡ false → b′ ≡ false → c ≡ c′)
     → _≡_ {A = ℕ} (pick a 5 (pick b 3 (pick c 4 0))) (pick a′ 5 (pick b′ 3 (pick c′ 4 0)))
