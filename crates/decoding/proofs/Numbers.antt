@@ -13,10 +13,11 @@ use borrow.Author.Tests.{eq-eqb, ne-eqb, le-leb, lt-leb, lt-ltb, le-ltb, ltb-tru
 use Rattle.lists.specs.Lists.{pick, indexOf}
 use Rattle.lists.proofs.Tests.{case}
 use Rattle.promises.specs.Text.{Line, rig, begins, continues, other, mon, go, bytes, splitOn, same, fields, digitsValue, number, field, end, one, two, three, form, decode}
+use Rattle.promises.proofs.Pieces.{splitOn-some}
 use Rattle.decoding.specs.declared.Field.the-variants.{Last, More, Bad}
 use Rattle.decoding.specs.declared.Field.{Field}
 use Rattle.decoding.specs.Forms.{asField, fieldOf, fieldBy, orOther}
-use Rattle.decoding.proofs.Parts.{splitOn-some, splitOn-whole, splitOn-first}
+use Rattle.decoding.proofs.Parts.{splitOn-whole, splitOn-first}
 
 -- ---- digits
 

@@ -39,17 +39,6 @@ indexOf-le (x ∷ l) b = go (eqb x b) (indexOf-le l b)
 
 -- ---- the pieces
 
--- there is at least one piece
-pub splitOn-some : (b : ℕ) (l : List ℕ) → (p : List ℕ) × (ps : List (List ℕ)) × (splitOn b l ≡ p ∷ ps)
-unfolding splitOn onto
-splitOn-some b [] = ([], [], refl)
-splitOn-some b (x ∷ l) = go (eqb x b) (splitOn b l)
-  where
-    go : (t : Bool) (q : List (List ℕ)) → (p : List ℕ) × (ps : List (List ℕ)) × (pick t ([] ∷ q) (onto x q) ≡ p ∷ ps)
-    go true q = ([], q, refl)
-    go false [] = (x ∷ [], [], refl)
-    go false (p ∷ ps) = (x ∷ p, ps, refl)
-
 -- nothing parts the list
 pub splitOn-whole : (b : ℕ) (l : List ℕ) → length l ≤ indexOf l b → splitOn b l ≡ l ∷ []
 unfolding indexOf splitOn onto

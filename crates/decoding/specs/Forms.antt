@@ -9,7 +9,7 @@
 --   fieldBy rest l x == what `rest` makes of the field x, the first of l, and of the fields after it
 -- A new line form is one constructor of Kind, Part or Form and one clause here. Assumes nothing.
 use mathlib.Core.Bool.{Bool}
-use mathlib.Core.List.{List, [], _∷_}
+use mathlib.Core.List.{List, []}
 use mathlib.Core.Option.{Option, none, some}
 use Prim.Native.Nat.{ℕ, _+_}
 use lib.ListN.{length, take, drop}

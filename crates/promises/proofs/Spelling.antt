@@ -1,23 +1,23 @@
 -- A line is read as a form exactly if it is that form written out; a text is its lines.
 -- Why: parting at a byte and joining with it undo each other where no piece holds the byte; digits without a leading zero are those of their value. Assumes nothing.
 use mathlib.Core.Path.{_≡_, refl, sym, ap, ap₂, _∙_, subst}
-use mathlib.Core.Logic.{_⊎_, inl, inr, _≢_, _↔_, ⊎-elim}
-use mathlib.Core.Bool.{Bool, true, false, _&&_}
-use mathlib.Core.List.{List, [], _∷_, _++_, map, append-nil, append-assoc}
-use mathlib.Core.List.{List·Memᴰ as In, List·Memᴰ·head as here, List·Memᴰ·tail as there, List·Memᴰ·not-nil, List·Memᴰ·eq-of-singleton as in-one}
+use mathlib.Core.Logic.{_⊎_, _≢_, ⊎-elim}
+use mathlib.Core.Bool.{true, false, _&&_}
+use mathlib.Core.List.{List, [], _∷_, _++_, map}
+use mathlib.Core.List.{List·Memᴰ as In, List·Memᴰ·head as here, List·Memᴰ·tail as there, List·Memᴰ·not-nil}
 use mathlib.Core.Option.{Option, none, some}
-use Prim.Native.Nat.{ℕ, zero, suc, _+_, _-_, _*_, _≤_, _<_}
+use Prim.Native.Nat.{ℕ, _+_, _-_, _≤_, _<_}
 use Prim.Native.String.{String}
 use native.Mathlib.Omega.{arith}
 use lib.ListN.{length, getD}
 use lib.Dec.{eqb, leb}
-use borrow.Author.Tests.{eq-eqb, ne-eqb, eqb-true, eqb-false, le-leb, leb-true, leb-false}
-use Rattle.lists.specs.Lists.{pick, concatMap, any}
+use borrow.Author.Tests.{eq-eqb, ne-eqb, eqb-false, le-leb, leb-true}
+use Rattle.lists.specs.Lists.{concatMap, any}
 use Rattle.lists.specs.Decimal.{decimal, value, valueFrom, Digit}
 use Rattle.lists.proofs.Tests.{contra, case, and-left, and-right, or-left, or-rest, split}
-use Rattle.lists.proofs.Tells.{Tells, tells-true, tells-eq, tells-and}
+use Rattle.lists.proofs.Tells.{Tells, tells-eq, tells-and}
 use Rattle.lists.proofs.Decimal.{decimal-one, decimal-digit, decimal-some, decimal-lead, decimal-value, value-decimal, decimal-short, decimal-long}
-use Rattle.promises.specs.Text.{onto, splitOn, init, lastOf, lines, unended, fields, digitsValue, number, same, mon, go, Line, rig, begins, continues, other, field, end, one, two, three, bytes, form, decode}
+use Rattle.promises.specs.Text.{splitOn, init, lastOf, lines, unended, fields, digitsValue, number, same, mon, go, Line, rig, begins, continues, other, field, end, one, two, three, bytes, form, decode}
 use Rattle.promises.specs.Spelling.{spelled, Small, SpelledAs, Spelled, joined, Spelling}
 use Rattle.promises.proofs.Pieces.{preceded, Free, splitOn-some, splitOn-joined, splitOn-free, splitOn-pieces, init-last, in-init, last-in}
 
@@ -184,11 +184,11 @@ form-spelled : (l v : List ℕ) (fs : List (List ℕ)) → splitOn 9 l ≡ v ∷
 unfolding form Spelled
 form-spelled l v fs e k ne q =
     case (same v (bytes "rig"))
-    (λ t. let (a, g, s, r) = one-is k ne (λ E. rig E) fs (rw t at q) in subst (λ k. Spelled k l) r (spelled-fields "rig" _ l v fs e t g s))
+    (λ t. let (a, g, s, r) = one-is k ne (λ E. rig E) fs (rw t at q) in subst (λ k. Spelled k l) r (spelled-fields "rig" (a ∷ []) l v fs e t g s))
     (λ t. case (same v (bytes "mon"))
-    (λ u. let (a, g, s, r) = one-is k ne (λ S. begins (mon S)) fs (rw (t, u) at q) in subst (λ k. Spelled k l) r (spelled-fields "mon" _ l v fs e u g s))
+    (λ u. let (a, g, s, r) = one-is k ne (λ S. begins (mon S)) fs (rw (t, u) at q) in subst (λ k. Spelled k l) r (spelled-fields "mon" (a ∷ []) l v fs e u g s))
     (λ u. case (same v (bytes "go"))
-    (λ x. let (a, b, c, g, s, r) = three-is k ne (λ s e t. continues (go s e t)) fs (rw (t, u, x) at q) in subst (λ k. Spelled k l) r (spelled-fields "go" _ l v fs e x g s))
+    (λ x. let (a, b, c, g, s, r) = three-is k ne (λ s e t. continues (go s e t)) fs (rw (t, u, x) at q) in subst (λ k. Spelled k l) r (spelled-fields "go" (a ∷ b ∷ c ∷ []) l v fs e x g s))
     (λ x. absurd (ne (sym (rw (t, u, x) at q))))))
 
 spelled-decodes : (k : Line) (l : List ℕ) → Spelled k l → decode l ≡ k

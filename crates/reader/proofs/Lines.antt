@@ -1,13 +1,12 @@
 -- The lines of a text, one after the other. Assumes nothing.
-use mathlib.Core.Path.{_≡_, refl, ap, _∙_}
-use mathlib.Core.Bool.{Bool, true, false}
+use mathlib.Core.Path.{_≡_, ap, _∙_}
 use mathlib.Core.List.{List, [], _∷_, map}
 use Prim.Native.Nat.{ℕ, _+_, _-_, _≤_, _<_}
 use lib.ListN.{length, take, drop}
-use lib.Dec.{eqb}
-use Rattle.lists.specs.Lists.{pick, indexOf}
-use Rattle.promises.specs.Text.{onto, splitOn, init, lastOf, lines, unended, decode, decoded}
-use Rattle.decoding.proofs.Parts.{splitOn-some, splitOn-whole, splitOn-first}
+use Rattle.lists.specs.Lists.{indexOf}
+use Rattle.promises.specs.Text.{splitOn, init, lastOf, lines, unended, decode, decoded}
+use Rattle.promises.proofs.Pieces.{splitOn-some}
+use Rattle.decoding.proofs.Parts.{splitOn-whole, splitOn-first}
 
 init-more : (p : List ℕ) (b : ℕ) (l : List ℕ) → init (p ∷ splitOn b l) ≡ p ∷ init (splitOn b l)
 unfolding init

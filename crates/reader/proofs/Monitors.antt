@@ -2,7 +2,7 @@
 use mathlib.Core.Path.{_≡_, refl, sym, ap, _∙_}
 use mathlib.Core.Bool.{Bool, true, false, _&&_, _||_}
 use mathlib.Core.List.{List, [], _∷_, _++_}
-use mathlib.Core.Option.{none, some}
+use mathlib.Core.Option.{some}
 use Prim.Native.Nat.{ℕ, zero, suc, _+_, _<_}
 use native.Mathlib.Omega.{arith}
 use lib.ListN.{length, getD, length-append, List·getD-append, List·getD-eq-default}
@@ -11,7 +11,7 @@ use lib.Dec.{eqb}
 use borrow.Author.Tests.{eq-eqb, ne-eqb}
 use Rattle.lists.specs.Lists.{pick}
 use Rattle.lists.proofs.Tests.{contra}
-use Rattle.promises.specs.Text.{Part, go, Line, rig, begins, continues, other, Monitor, addPart, latest, eventsOf}
+use Rattle.promises.specs.Text.{Part, go, Line, Monitor, addPart, latest, eventsOf}
 use Rattle.promises.specs.Reading.{empty, isMove, moves}
 use Rattle.promises.specs.Rig.{target}
 use Rattle.promises.proofs.Lines.{eventsOf-more}

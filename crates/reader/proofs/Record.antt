@@ -4,26 +4,25 @@ use mathlib.Core.Path.{_≡_, refl, sym, ap, ap₂, _∙_, fun-ext}
 use mathlib.Core.Logic.{_↔_, _≢_, ⊎-elim}
 use mathlib.Core.Bool.{Bool, true, false, _&&_}
 use mathlib.Core.List.{List, [], _∷_, _++_, map, append-nil, append-assoc}
-use mathlib.Core.List.{List·Memᴰ as In, List·Memᴰ·head as here, List·Memᴰ·tail as there}
-use Prim.Native.Nat.{ℕ, _+_, _*_, _≤_, _<_}
+use mathlib.Core.List.{List·Memᴰ as In}
+use Prim.Native.Nat.{ℕ, _+_, _≤_, _<_}
 use native.Mathlib.Omega.{arith}
 use lib.ListN.{length, getD, length-map, length-replicate, getD-replicate, replicate}
 use lib.Seq.{ext-getD}
 use lib.Dec.{ltb}
 use borrow.Author.Tests.{eqb-false, lt-ltb, le-ltb, ltb-true}
 use Rattle.lists.specs.Lists.{pick, tabulate, range}
-use Rattle.lists.proofs.Tests.{contra, case}
-use Rattle.lists.proofs.Tells.{tells-true}
+use Rattle.lists.proofs.Tests.{case}
 use Rattle.lists.proofs.Tables.{length-tabulate, getD-tabulate}
 use Rattle.lists.proofs.Members.{getD-map-lt, getD-in}
 use Rattle.automaton.specs.Joint.{At, joint, jointState, sizes}
-use Rattle.promises.specs.Text.{Kind, mon, Part, go, Line, rig, begins, continues, other, Monitor, monitorsFrom, monitors, decoded, statesOf, startOf, eventsOf, product, jointStates, AllSound, Readable}
-use Rattle.promises.specs.Reading.{empty, isMove, moves, lineCase}
+use Rattle.promises.specs.Text.{Kind, mon, Part, go, Line, rig, begins, continues, other, Monitor, monitorsFrom, monitors, decoded, statesOf, startOf, eventsOf, jointStates, AllSound, Readable}
+use Rattle.promises.specs.Reading.{empty, moves, lineCase}
 use Rattle.promises.specs.Rig.{target, nextOf, rigAutomaton, linesAutomaton, linesStart, start}
 use Rattle.promises.specs.Rig as lines
 use Rattle.promises.proofs.Lines.{Once, PartRanged, readable-formed}
 use Rattle.promises.proofs.Meaning.{target-in, target-found, sizes-standing}
-use Rattle.promises.proofs.Reading.{tells-moves, sound-case, readable-said}
+use Rattle.promises.proofs.Reading.{sound-case, readable-said}
 use Rattle.rig.specs.declared.Rig.{Rig}
 use Rattle.rig.specs.Record.{moveAt, countOf, moveOf, monitorAt, standing, recordAutomaton, recordStart, WellFormed, emptyRig}
 use Rattle.decoding.specs.declared.Form.{Form}

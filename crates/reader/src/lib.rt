@@ -2,7 +2,7 @@
 use decoding::Form;
 use rig::Rig;
 ghost use mathlib.Core.Path.{_≡_};
-ghost use Prim.Native.Nat.{_<_, _≤_};
+ghost use Prim.Native.Nat.{_<_};
 ghost use lib.ListN.{length};
 ghost use Rattle.promises.specs.Reading as promised;
 ghost use Rattle.reader.specs.Reading.{answerOf, recordOf};

@@ -1,11 +1,10 @@
 -- The word is what stands before the first byte 9, and the rest of the fields stand after it; without a byte 9 there is no field but the word.
 -- Assumes nothing.
 use mathlib.Core.Path.{sym, ap, _∙_}
-use mathlib.Core.Option.{Option}
-use Prim.Native.Nat.{ℕ, _-_}
+use Prim.Native.Nat.{_-_}
 use lib.ListN.{take}
 use lib.Seq.{length-take-le}
-use Rattle.promises.specs.Text.{Line, rig, begins, mon, fields}
+use Rattle.promises.specs.Text.{rig, begins, mon}
 use Rattle.decoding.specs.Forms.{valueOf, orOther}
 use Rattle.decoding.proofs.Parts.{indexOf-le}
 use Rattle.decoding.proofs.Numbers.{decode-first, decode-alone, form-rig, form-mon, form-go, form-other}
