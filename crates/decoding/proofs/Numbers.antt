@@ -90,7 +90,7 @@ module _ (l : List ℕ) (end : ℕ) (e : end ≡ indexOf l 9) where
   field-bad q = rw (← e, ← q)
 
 -- a form by the first of its fields
-pub field-by : (rest : ℕ → List (List ℕ) → Line) (l : List ℕ) (x : Field) → x ≡ fieldOf l → field number rest (fields l) ≡ fieldBy rest l x
+field-by : (rest : ℕ → List (List ℕ) → Line) (l : List ℕ) (x : Field) → x ≡ fieldOf l → field number rest (fields l) ≡ fieldBy rest l x
 unfolding fields fieldOf field
 field-by rest l x e = rw e (case (ltb (indexOf l 9) (length l)) more last)
   where
@@ -109,7 +109,7 @@ field-by rest l x e = rw e (case (ltb (indexOf l 9) (length l)) more last)
         go (some n) q = rw q
 
 -- a line has at least one field
-pub end-more : (k : Line) (l : List ℕ) → end k (fields l) ≡ other
+end-more : (k : Line) (l : List ℕ) → end k (fields l) ≡ other
 unfolding end fields
 end-more k l = let (p, ps, e) = splitOn-some 9 l in rw e
 

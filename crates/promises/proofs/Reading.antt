@@ -35,7 +35,7 @@ is-move s e (go a b c) =
       no = λ q h. let w : go s e (h .0) ≡ go a b c = h .1 in let x : a ≡ s = cc in let y : b ≡ e = cc in both .no q (x, y);
     }
 
-pub tells-moves : (s e : ℕ) (ps : List Part) → Tells (moves s e ps) ((u : ℕ) × In (go s e u) ps)
+tells-moves : (s e : ℕ) (ps : List Part) → Tells (moves s e ps) ((u : ℕ) × In (go s e u) ps)
 unfolding moves
 tells-moves s e [] = record { yes = λ q. contra q refl; no = λ q h. List·Memᴰ·not-nil (h .1) }
 tells-moves s e (p ∷ ps) =
