@@ -1,16 +1,15 @@
 -- What belongs by the rig's lines is what belongs by the joint automaton of the text.
 -- Why: on a readable text a monitor's automaton moves exactly along its `go` lines, and the joint automaton admits what every monitor does.
 -- Assumes nothing.
-use mathlib.Core.Path.{_≡_, refl, sym, ap, _∙_}
-use mathlib.Core.Logic.{_⊎_, inl, inr, _≢_, _↔_, ⊎-elim}
-use mathlib.Core.Bool.{true, false, _&&_}
+use mathlib.Core.Path.{_≡_, refl, ap, _∙_}
+use mathlib.Core.Logic.{inl, _≢_, _↔_}
+use mathlib.Core.Bool.{false}
+use mathlib.Core.Option.{Option, none, some, Option·getD}
 use mathlib.Core.List.{List, [], _∷_, _++_, append-nil, List·Memᴰ as In, List·Memᴰ·head as here, List·Memᴰ·tail as there, List·Memᴰ·not-nil}
 use Prim.Native.Nat.{ℕ, _*_, _≤_, _<_}
 use native.Mathlib.Omega.{arith}
 use lib.ListN.{length}
-use lib.Dec.{eqb}
 use Rattle.lists.specs.Lists.{range, Pairwise}
-use Rattle.lists.proofs.Tests.{case}
 use Rattle.lists.proofs.Ordered.{range-in, range-ordered, pairwise-imp}
 use Rattle.automaton.specs.Automaton as automaton
 use Rattle.automaton.specs.Automaton.{Automaton}
@@ -19,40 +18,10 @@ use Rattle.automaton.proofs.Joint.{joint-admits, joint-states, joint-events, jo
 use Rattle.automaton.proofs.Counting.{carried-plain}
 use Rattle.promises.specs.Text.{Kind, mon, Part, go, Monitor, monitors, statesOf, startOf, product, eventsOf, decoded, Readable, jointStates}
 use Rattle.promises.specs.Meaning.{Follows, Says, Admits, AllAdmit, CarriedOn, Belongs}
-use Rattle.promises.specs.Reading.{isMove}
-use Rattle.promises.specs.Rig.{target, nextOf, monitorOf, standing, linesAutomaton, linesStart, rigAutomaton, start}
+use Rattle.promises.specs.Reading.{moveBy}
+use Rattle.promises.specs.Rig.{nextOf, monitorOf, standing, linesAutomaton, linesStart, rigAutomaton, start}
 use Rattle.promises.proofs.Lines.{Once, PartRanged, Kept, WellFormed, start-below, readable-formed}
-use Rattle.promises.proofs.Reading.{is-move}
-
--- ---- `go` lines
-
--- the line that moves from s on e
-moves-here : (s e a b c : ℕ) → (eqb a s && eqb b e) ≡ true → go s e c ≡ go a b c
-unfolding isMove
-moves-here s e a b c q = let (u, r) = is-move s e (go a b c) .yes q in let x : u ≡ c = cc in rw x at r
-
-moves-later : (s e t a b c : ℕ) (ps : List Part) → (eqb a s && eqb b e) ≡ false → In (go s e t) (go a b c ∷ ps) → In (go s e t) ps
-unfolding isMove
-moves-later s e t a b c ps q (here r) = absurd (is-move s e (go a b c) .no q (t, r))
-moves-later s e t a b c ps q (there i) = i
-
--- where there is a line for s and e, and just one target, the moves lead there
-pub target-in : (z : ℕ) (ps : List Part) (s e t : ℕ) → ((u : ℕ) → In (go s e u) ps → t ≡ u) → In (go s e t) ps → target z ps s e ≡ t
-unfolding target
-target-in z [] s e t one i = absurd (List·Memᴰ·not-nil i)
-target-in z (go a b c ∷ ps) s e t one i =
-    case (eqb a s && eqb b e)
-    (λ q. rw q (sym (one c (here (moves-here s e a b c q)))))
-    (λ q. rw q (target-in z ps s e t (λ u j. one u (there j)) (moves-later s e t a b c ps q i)))
-
--- where the moves lead to a state, there is that line
-pub target-found : (z : ℕ) (ps : List Part) (s e : ℕ) → (target z ps s e ≡ z) ⊎ In (go s e (target z ps s e)) ps
-unfolding target
-target-found z [] s e = inl refl
-target-found z (go a b c ∷ ps) s e =
-    case (eqb a s && eqb b e)
-    (λ q. rw q (inr (here (moves-here s e a b c q))))
-    (λ q. rw q (⊎-elim (λ r. inl r) (λ i. inr (there i)) (target-found z ps s e)))
+use Rattle.promises.proofs.Reading.{moved, moves}
 
 -- ---- one monitor
 
@@ -67,28 +36,34 @@ unfolding automaton.Admits idle
 idle-admits A x [] a = omega arith
 idle-admits A x (e ∷ v) a = (omega arith, a .1, idle-admits A (A .next x e) v (a .2))
 
+-- where the lines of a monitor move, they move to one state only
+pub move-is : (E : ℕ) (m : Monitor) → Kept E m → (s e t : ℕ) → In (go s e t) (m .parts) → moveBy (m .parts) s e ≡ some t
+unfolding Once
+move-is E m k s e t i = let (u, q) = moves (m .parts) s e t i in q ∙ ap some (k .move-once s e u t (moved (m .parts) s e u q) i)
+
 -- a `mon` monitor admits just the sequences that its `go` lines lead on
 module _ (E S : ℕ) (ps : List Part) (k : Kept E (record { kind = mon S; parts = ps })) where
   in-range : (s e t : ℕ) → In (go s e t) ps → (s < S) × (e < E) × (t < S)
   unfolding PartRanged statesOf
   in-range s e t i = k .parts-ranged (go s e t) i
 
-  mon-admits : (s : ℕ) (v : List ℕ) → s < S → Follows ps s v ↔ automaton.Admits (monitorOf E (record { kind = mon S; parts = ps })) s v
-  unfolding Follows automaton.Admits monitorOf nextOf statesOf Once
-  mon-admits s [] h = (λ a. h, λ a. tt)
-  mon-admits s (e ∷ v) h = (λ (t, j, a). onward t j (in-range s e t j) (mon-admits t v) a, λ a. back a (mon-admits (target S ps s e) v) (target-found S ps s e))
-    where
-      onward : (t : ℕ) → In (go s e t) ps → (s < S) × (e < E) × (t < S)
-          → (t < S → Follows ps t v ↔ automaton.Admits (monitorOf E (record { kind = mon S; parts = ps })) t v) → Follows ps t v
-          → (s < S) × In e (range E) × automaton.Admits (monitorOf E (record { kind = mon S; parts = ps })) (target S ps s e) v
-      onward t j (a, b, c) ih f = (a, range-in E e .1 b, rw (target-in S ps s e t (λ u. k .move-once s e t u j) j) (ih c .0 f))
+  abbrev table : Automaton
+  table = monitorOf E (record { kind = mon S; parts = ps })
 
-      back : (s < S) × In e (range E) × automaton.Admits (monitorOf E (record { kind = mon S; parts = ps })) (target S ps s e) v
-          → (target S ps s e < S → Follows ps (target S ps s e) v ↔ automaton.Admits (monitorOf E (record { kind = mon S; parts = ps })) (target S ps s e) v)
-          → (target S ps s e ≡ S) ⊎ In (go s e (target S ps s e)) ps
-          → (t : ℕ) × In (go s e t) ps × Follows ps t v
-      back (a, b, c) ih (inl q) = let lt : target S ps s e < S = admits-state (monitorOf E (record { kind = mon S; parts = ps })) _ v c in absurd (omega arith)
-      back (a, b, c) ih (inr j) = (target S ps s e, j, ih (in-range s e _ j .2) .1 c)
+  mon-admits : (s : ℕ) (v : List ℕ) → s < S → Follows ps s v ↔ automaton.Admits table s v
+  unfolding Follows automaton.Admits monitorOf nextOf statesOf
+  mon-admits s [] h = (λ a. h, λ a. tt)
+  mon-admits s (e ∷ v) h = (λ (t, j, a). onward t j (in-range s e t j) (mon-admits t v) a, λ a. back a (mon-admits (table .next s e) v) (moveBy ps s e) refl)
+    where
+      onward : (t : ℕ) → In (go s e t) ps → (s < S) × (e < E) × (t < S) → (t < S → Follows ps t v ↔ automaton.Admits table t v) → Follows ps t v
+          → (s < S) × In e (range E) × automaton.Admits table (Option·getD (moveBy ps s e) S) v
+      onward t j (a, b, c) ih f = (a, range-in E e .1 b, rw (move-is E (record { kind = mon S; parts = ps }) k s e t j) (ih c .0 f))
+
+      back : (s < S) × In e (range E) × automaton.Admits table (Option·getD (moveBy ps s e) S) v
+          → (Option·getD (moveBy ps s e) S < S → Follows ps (Option·getD (moveBy ps s e) S) v ↔ automaton.Admits table (Option·getD (moveBy ps s e) S) v)
+          → (o : Option ℕ) → moveBy ps s e ≡ o → (t : ℕ) × In (go s e t) ps × Follows ps t v
+      back (a, b, c) ih none q = let lt : S < S = rw q at (admits-state table _ v c) in absurd (omega arith)
+      back (a, b, c) ih (some t) q = let j = moved ps s e t q in let f = ih (rw q (in-range s e t j .2)) .1 c in (t, j, rw q at f)
 
 -- a monitor admits a sequence exactly when its automaton does: one clause a kind
 kind-admits : (E : ℕ) (k : Kind) (ps : List Part) → Kept E (record { kind = k; parts = ps }) → (s : ℕ) (v : List ℕ) → s < statesOf k
@@ -129,14 +104,14 @@ module _ (E : ℕ) (ms : List Monitor) (w : WellFormed E ms) where
   pub all-admit : ms ≢ [] → (v : List ℕ)
       → ((m : Monitor) → In m ms → Admits m (startOf (m .kind)) v) ↔ automaton.Admits (joint (range E) (standing E ms)) (jointState (standing E ms)) v
   unfolding monitorOf
-  all-admit some v =
+  all-admit full v =
       let jointly = joint-admits (range E) (standing E ms) v (standing-fits ms (λ m i. i)) in
       let each = each-admits ms (λ m i. i) v in
-      (λ a. jointly .1 (each .1 (a, of-events ms some (λ m i. i) a)), λ a. each .0 (jointly .0 a) .0)
+      (λ a. jointly .1 (each .1 (a, of-events ms full (λ m i. i) a)), λ a. each .0 (jointly .0 a) .0)
     where
       of-events : (ks : List Monitor) → ks ≢ [] → ((m : Monitor) → In m ks → In m ms) → ((m : Monitor) → In m ks → Admits m (startOf (m .kind)) v) → automaton.Admits (idle (range E)) 0 v
-      of-events [] none sub a = absurd (none refl)
-      of-events (m ∷ ks) none sub a = idle-admits (monitorOf E m) (startOf (m .kind)) v (from-start m (sub m (here refl)) v .0 (a m (here refl)))
+      of-events [] full sub a = absurd (full refl)
+      of-events (m ∷ ks) full sub a = idle-admits (monitorOf E m) (startOf (m .kind)) v (from-start m (sub m (here refl)) v .0 (a m (here refl)))
 
 -- ---- the text
 
@@ -152,8 +127,8 @@ rig-states t = joint-states (range (eventsOf (decoded t))) (standing (eventsOf (
 
 never-stops : (E : ℕ) (es : List ℕ) (ms : List Monitor) → ms ≢ [] → (x : ℕ) → joint es (standing E ms) .stop x ≡ false
 unfolding joint standing monitorOf
-never-stops E es [] some x = absurd (some refl)
-never-stops E es (m ∷ ms) some x = join-never (monitorOf E m) (joint es (standing E ms)) (inl (λ s. refl)) x
+never-stops E es [] full x = absurd (full refl)
+never-stops E es (m ∷ ms) full x = join-never (monitorOf E m) (joint es (standing E ms)) (inl (λ s. refl)) x
 
 module _ (t : List ℕ) (r : Readable t) where
   well-formed : WellFormed (eventsOf (decoded t)) (monitors (decoded t))

@@ -3,17 +3,19 @@
 use mathlib.Core.Path.{_≡_, refl, sym, ap, _∙_, subst}
 use mathlib.Core.Logic.{_⊎_, inl, inr, _≢_, _↔_}
 use mathlib.Core.Bool.{Bool, not, _&&_}
-use mathlib.Core.List.{List, [], _∷_, _++_, append-nil, append-assoc, List·Memᴰ as In, List·Memᴰ·head as here, List·Memᴰ·tail as there, List·Memᴰ·not-nil}
-use mathlib.Core.Option.{Option, none, some}
+use mathlib.Core.List.{List, [], _∷_, _++_, append-nil, append-assoc, List·Memᴰ as In, List·Memᴰ·head as here, List·Memᴰ·tail as there}
+use mathlib.Core.Option.{Option, none, some, orElse, Option·none-ne-some}
 use Prim.Native.Nat.{ℕ, suc, _*_, _≤_, _<_}
 use native.Mathlib.Omega.{arith}
 use lib.ListN.{length}
 use lib.Dec.{ltb, eqb}
+use borrow.Author.Tests.{eq-eqb}
+use Rattle.lists.specs.Lists.{pick}
 use Rattle.lists.proofs.Tests.{contra, case}
 use Rattle.lists.proofs.Tells.{Tells, tells-true, tells-false, tells-lt, tells-le, tells-eq, tells-never, tells-always, tells-not, tells-or, tells-and}
 use Rattle.promises.specs.Answer.{served, refused, Served, unless}
 use Rattle.promises.specs.Text.{Kind, mon, Part, go, Line, rig, begins, continues, other, Monitor, monitors, latest, statesOf, eventsOf, product, decoded, unended, Outside, Cases, beginning, OfLatest, continuing, cases, Case1, Case2, Case3, Case4, Case5, Case6, Sound, AllSound, Readable, LineFault, Fault}
-use Rattle.promises.specs.Reading.{empty, isMove, moves, Tests, outside, testBeginning, ofLatest, testContinuing, tests, lineCase, readingFrom, reading}
+use Rattle.promises.specs.Reading.{empty, isSome, leadsTo, moveBy, Tests, outside, testBeginning, ofLatest, testContinuing, tests, lineCase, readingFrom, reading}
 use Rattle.promises.proofs.Lines.{not-empty}
 
 -- ---- each test tells its case
@@ -25,30 +27,49 @@ tells-empty (x ∷ l) = record { yes = λ q. contra q refl; no = λ q. not-empty
 tells-outside : (lo hi n : ℕ) → Tells (outside lo hi n) (Outside lo hi n)
 tells-outside lo hi n = tells-or (tells-lt n lo) (tells-lt hi n)
 
--- a line that moves from s on e is `go` s e u for some u
-pub is-move : (s e : ℕ) (p : Part) → Tells (isMove s e p) ((u : ℕ) × (go s e u ≡ p))
-unfolding isMove
-is-move s e (go a b c) =
-    let both : Tells (eqb a s && eqb b e) ((a ≡ s) × (b ≡ e)) = tells-and (tells-eq a s) (tells-eq b e) in
-    record {
-      yes = λ q. let (x, y) = both .yes q in (c, rw (x, y) refl);
-      no = λ q h. let w : go s e (h .0) ≡ go a b c = h .1 in let x : a ≡ s = cc in let y : b ≡ e = cc in both .no q (x, y);
-    }
-
-tells-moves : (s e : ℕ) (ps : List Part) → Tells (moves s e ps) ((u : ℕ) × In (go s e u) ps)
-unfolding moves
-tells-moves s e [] = record { yes = λ q. contra q refl; no = λ q h. List·Memᴰ·not-nil (h .1) }
-tells-moves s e (p ∷ ps) =
-    let t = tells-or (is-move s e p) (tells-moves s e ps) in
-    record { yes = λ q. found (t .yes q); no = λ q h. t .no q (where-is h) }
+-- a line that moves from s on e to u is `go` s e u
+leads-is : (s e : ℕ) (p : Part) (u : ℕ) → (leadsTo s e p ≡ some u) ↔ (p ≡ go s e u)
+unfolding leadsTo
+leads-is s e (go a b c) u = (to, from)
   where
-    found : ((u : ℕ) × (go s e u ≡ p)) ⊎ ((u : ℕ) × In (go s e u) ps) → (u : ℕ) × In (go s e u) (p ∷ ps)
-    found (inl (u, q)) = (u, here q)
-    found (inr (u, i)) = (u, there i)
+    to : pick (eqb a s && eqb b e) (some c) none ≡ some u → go a b c ≡ go s e u
+    to q =
+        case (eqb a s && eqb b e)
+        (λ t. let z : some c ≡ some u = rw t at q in let w : c ≡ u = cc in let (x, y) = tells-and (tells-eq a s) (tells-eq b e) .yes t in rw (x, y, w))
+        (λ t. absurd (Option·none-ne-some u (rw t at q)))
 
-    where-is : (u : ℕ) × In (go s e u) (p ∷ ps) → ((u : ℕ) × (go s e u ≡ p)) ⊎ ((u : ℕ) × In (go s e u) ps)
-    where-is (u, here q) = inl (u, q)
-    where-is (u, there i) = inr (u, i)
+    from : go a b c ≡ go s e u → pick (eqb a s && eqb b e) (some c) none ≡ some u
+    from q =
+        let x : a ≡ s = cc in
+        let y : b ≡ e = cc in
+        let z : c ≡ u = cc in
+        rw (x, y, z, eq-eqb s s refl, eq-eqb e e refl)
+
+-- the lines move where one of them does
+pub moved : (ps : List Part) (s e u : ℕ) → moveBy ps s e ≡ some u → In (go s e u) ps
+unfolding moveBy orElse
+moved [] s e u q = absurd (Option·none-ne-some u q)
+moved (p ∷ ps) s e u q = step (leadsTo s e p) refl (moved ps s e u)
+  where
+    step : (o : Option ℕ) → leadsTo s e p ≡ o → (moveBy ps s e ≡ some u → In (go s e u) ps) → In (go s e u) (p ∷ ps)
+    step none t ih = there (ih (rw t at q))
+    step (some v) t ih = here (sym (leads-is s e p u .0 (t ∙ (rw t at q))))
+
+pub moves : (ps : List Part) (s e t : ℕ) → In (go s e t) ps → (u : ℕ) × (moveBy ps s e ≡ some u)
+unfolding moveBy orElse
+moves (p ∷ ps) s e t (here r) = (t, rw (leads-is s e p t .1 (sym r)))
+moves (p ∷ ps) s e t (there i) = step (leadsTo s e p) (moves ps s e t i)
+  where
+    step : (o : Option ℕ) → (u : ℕ) × (moveBy ps s e ≡ some u) → (u : ℕ) × (orElse o (moveBy ps s e) ≡ some u)
+    step none ih = ih
+    step (some v) ih = (v, refl)
+
+tells-moves : (ps : List Part) (s e : ℕ) → Tells (isSome (moveBy ps s e)) ((u : ℕ) × In (go s e u) ps)
+tells-moves ps s e = step (moveBy ps s e) refl
+  where
+    step : (o : Option ℕ) → moveBy ps s e ≡ o → Tells (isSome o) ((u : ℕ) × In (go s e u) ps)
+    step none q = record { yes = λ t. contra t refl; no = λ t (u, i). let (v, r) = moves ps s e u i in Option·none-ne-some v (sym q ∙ r) }
+    step (some u) q = record { yes = λ t. (u, moved ps s e u q); no = λ t h. contra refl t }
 
 tells-latest : (f : Monitor → Bool) (P : Monitor → Type 0) → ((m : Monitor) → Tells (f m) (P m)) → (m : Option Monitor) → Tells (ofLatest f m) (OfLatest P m)
 unfolding ofLatest OfLatest
@@ -98,7 +119,7 @@ told ls (begins (mon S)) = told-beginning ls (mon S) _ _ (tells-outside 1 32 S)
 told ls (continues (go s e t)) =
     told-continuing ls _ _ _ _
     (λ m. tells-or (tells-le (statesOf (m .kind)) s) (tells-or (tells-le (eventsOf ls) e) (tells-le (statesOf (m .kind)) t)))
-    (λ m. tells-moves s e (m .parts))
+    (λ m. tells-moves (m .parts) s e)
 told ls other = record { misformed = tells-always; misplaced = tells-empty ls; out-of-range = tells-never; again = tells-never; too-many = tells-never }
 
 -- ---- one line

@@ -1,11 +1,13 @@
 -- Reading a text: the first bad line, and the first case on it. What the reader's contract cites; that it agrees with the words of Text is a theorem.
+--   leadsTo s e p      == where the line p moves from s on e, if it does
+--   moveBy ps s e      == where the first of the lines ps that does so moves
 --   tests ls l         == the cases 2, 5, 3, 4 and 6 of the line l after the lines ls, as tests
 --   lineCase ls l      == the number of the first case that holds of l, 0 where none does
 --   reading t          == served where t is readable, else refused by a number from 1 to 6 and its place
--- A new line form is one clause of `tests`. Assumes nothing.
+-- A new line form is one clause of `tests`; a new Part also one of `leadsTo`. Assumes nothing.
 use mathlib.Core.Bool.{Bool, true, false, not, _&&_, _||_}
 use mathlib.Core.List.{List, [], _∷_, _++_}
-use mathlib.Core.Option.{Option, none, some}
+use mathlib.Core.Option.{Option, none, some, orElse}
 use Prim.Native.Nat.{ℕ, suc, _*_}
 use lib.ListN.{length}
 use lib.Dec.{ltb, leb, eqb}
@@ -17,13 +19,17 @@ abbrev pub empty : {A : Type 0} → List A → Bool
 empty [] = true
 empty (x ∷ l) = false
 
--- the line moves from s on e
-unfoldable pub isMove : ℕ → ℕ → Part → Bool
-isMove s e (go a b c) = eqb a s && eqb b e
+abbrev pub isSome : {A : Type 0} → Option A → Bool
+isSome none = false
+isSome (some a) = true
 
-unfoldable pub moves : ℕ → ℕ → List Part → Bool
-moves s e [] = false
-moves s e (p ∷ ps) = isMove s e p || moves s e ps
+-- '`go`, s, e, t: the latest monitor moves from s to t on event e'
+unfoldable pub leadsTo : ℕ → ℕ → Part → Option ℕ
+leadsTo s e (go a b c) = pick (eqb a s && eqb b e) (some c) none
+
+unfoldable pub moveBy : List Part → ℕ → ℕ → Option ℕ
+moveBy [] s e = none
+moveBy (p ∷ ps) s e = orElse (leadsTo s e p) (moveBy ps s e)
 
 pub record Tests : Type 0 where
   pub misformed : Bool
@@ -66,7 +72,7 @@ tests ls (begins (mon S)) = testBeginning ls (mon S) (outside 1 32 S)
 tests ls (continues (go s e t)) =
     testContinuing ls
     (λ m. leb (statesOf (m .kind)) s || (leb (eventsOf ls) e || leb (statesOf (m .kind)) t))
-    (λ m. moves s e (m .parts))
+    (λ m. isSome (moveBy (m .parts) s e))
 tests ls other = record { misformed = true; misplaced = empty ls; out-of-range = false; again = false; too-many = false }
 
 -- 'on one line 2, 5, 3, 4, 6'

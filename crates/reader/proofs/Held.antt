@@ -5,7 +5,7 @@ use mathlib.Core.Path.{_≡_, refl, sym, ap, _∙_}
 use mathlib.Core.Logic.{_⊎_, ⊎-elim}
 use mathlib.Core.Bool.{Bool, true, false, not, _||_}
 use mathlib.Core.List.{List, [], _∷_, _++_}
-use mathlib.Core.Option.{none, some}
+use mathlib.Core.Option.{some, Option·getD}
 use Prim.Native.Nat.{ℕ, suc, _+_, _-_, _*_, _≤_, _<_}
 use native.Mathlib.Nat.{eq-or-lt-of-le}
 use native.Mathlib.Omega.{arith}
@@ -16,8 +16,7 @@ use borrow.Author.Tests.{eq-eqb, ne-eqb, eqb-true, eqb-false, ltb-false, leb-fal
 use Rattle.lists.specs.Lists.{pick}
 use Rattle.lists.proofs.Tests.{contra, case, or-left, or-rest, ℕ-trichotomy}
 use Rattle.promises.specs.Text.{Kind, mon, Part, go, Line, rig, begins, continues, Monitor, addPart, extended, monitorsFrom, monitors, statesOf, latest, product, eventsOf}
-use Rattle.promises.specs.Reading.{empty, moves, outside, testBeginning, ofLatest, testContinuing, tests, lineCase}
-use Rattle.promises.specs.Rig.{target}
+use Rattle.promises.specs.Reading.{empty, isSome, moveBy, outside, testBeginning, ofLatest, testContinuing, tests, lineCase}
 use Rattle.promises.proofs.Lines.{monitors-more, length-addPart, product-addPart, product-append}
 use Rattle.rig.specs.declared.Rig.{Rig}
 use Rattle.rig.specs.Record.{moveIndex, moveAt}
@@ -29,7 +28,7 @@ use Rattle.reader.specs.Reading.{withPart, withLine, recordFrom}
 use Rattle.reader.specs.Record.{nobody}
 use Rattle.reader.specs.Taking.{Bounded, rigCase, rigSizes, monCase, monSizes, monCounts, goCase, goMoves, caseOf, sizesAfter, movesAfter, countsAfter}
 use Rattle.reader.proofs.Monitors.{monitorAt, events-snoc, empty-nil, empty-snoc, empty-length, addPart-at, addPart-beside, latest-at, new-before, new-at, new-after}
-use Rattle.reader.proofs.Tables.{Table, table-blank, table-beside, table-go}
+use Rattle.reader.proofs.Tables.{Table, seen, table-blank, table-beside, table-go}
 
 abbrev pub statesAt : List Monitor → ℕ → ℕ
 statesAt ms k = statesOf (monitorAt ms k .kind)
@@ -99,7 +98,7 @@ pick-zero false n m h q = (refl, q)
 -- the first line: no monitor has a move yet
 more-events : (ms : List Monitor) (n E F : ℕ) (mv ct : List ℕ) → E ≡ 0 → Tabled ms n E mv ct → Tabled ms n F mv ct
 more-events ms n E F mv ct q T = record {
-  tables = λ k h. let U = T .tables k h in record { entry = U .entry; seen = U .seen; within = λ s e m. let w = U .within s e m in absurd (omega arith) };
+  tables = λ k h. let U = T .tables k h in record { entry = U .entry; within = λ s e u m. let w = U .within s e u m in absurd (omega arith) };
   counts-are = T .counts-are;
   some-state = T .some-state;
   few-states = T .few-states;
@@ -124,7 +123,7 @@ module _ (ms : List Monitor) (n E : ℕ) (k : Kind) (mv ct : List ℕ) (ln : len
       new l = rw (new-before ms (fresh k) i (omega arith)) (f i l)
 
   one-more : Tabled (ms ++ (fresh k ∷ [])) (n + 1) E mv (set ct n (statesOf k))
-  unfolding target
+  unfolding moveBy
   one-more = record {
     tables = λ i h. ⊎-elim (before i h) (⊎-elim (at i h) (after i h)) (ℕ-trichotomy i (length ms));
     counts-are = each-new (λ i v. getD (set ct n (statesOf k)) i 0 ≡ v) (λ i h. getD-set-other ct n i (statesOf k) 0 (λ q. omega arith) ∙ T .counts-are i h) (getD-set-same ct n (statesOf k) 0 (omega arith));
@@ -136,7 +135,7 @@ module _ (ms : List Monitor) (n E : ℕ) (k : Kind) (mv ct : List ℕ) (ln : len
       before i h l = rw (new-before ms (fresh k) i l) (T .tables i h)
 
       at : (i : ℕ) → i < 4 → i ≡ length ms → Table mv i (monitorAt (ms ++ (fresh k ∷ [])) i .parts) E (statesAt (ms ++ (fresh k ∷ [])) i)
-      at i h q = rw (new-at ms (fresh k) i q) (table-blank mv i E (statesOf k) (λ x y hx hy. T .tables i h .entry x y hx hy ∙ ap (λ m. target 255 (m .parts) x y) (List·getD-eq-default ms nobody {n = i} (omega arith))))
+      at i h q = rw (new-at ms (fresh k) i q) (table-blank mv i E (statesOf k) (λ x y hx hy. T .tables i h .entry x y hx hy ∙ ap (λ m. Option·getD (moveBy (m .parts) x y) 255) (List·getD-eq-default ms nobody {n = i} (omega arith))))
 
       after : (i : ℕ) → i < 4 → length ms < i → Table mv i (monitorAt (ms ++ (fresh k ∷ [])) i .parts) E (statesAt (ms ++ (fresh k ∷ [])) i)
       after i h l = rw (new-after ms (fresh k) i l) (T .tables i h)
@@ -201,13 +200,13 @@ module _ (r : Rig) (ls : List Line) (z : Sizes) (mv ct : List ℕ) (H : Holds r 
     unfolding ofLatest
     out-of-range s e t = rw (latest-is-last, last-states, H .events-are)
 
-    again : (s e t : ℕ) → (leb (z .latest) s || (leb (z .events) e || leb (z .latest) t)) ≡ false → ofLatest (λ m. moves s e (m .parts)) (latest (monitors ls)) ≡ not (eqb (moveAt mv (z .monitors - 1) s e) 255)
+    again : (s e t : ℕ) → (leb (z .latest) s || (leb (z .events) e || leb (z .latest) t)) ≡ false → ofLatest (λ m. isSome (moveBy (m .parts) s e)) (latest (monitors ls)) ≡ not (eqb (moveAt mv (z .monitors - 1) s e) 255)
     unfolding ofLatest
     again s e t p =
         let a = leb-false (z .latest) s (or-left (leb (z .latest) s) _ p) in
         let b = leb-false (z .events) e (or-left (leb (z .events) e) _ (or-rest (leb (z .latest) s) _ p)) in
         let room = H .room in
-        ap (ofLatest (λ m. moves s e (m .parts))) latest-is-last ∙ H .tabled .tables (z .monitors - 1) (omega (arith, room .few-monitors)) .seen s e (omega (arith, room .few-latest)) (omega (arith, room .few-events))
+        ap (ofLatest (λ m. isSome (moveBy (m .parts) s e))) latest-is-last ∙ seen mv (z .monitors - 1) _ _ _ (H .tabled .tables (z .monitors - 1) (omega (arith, room .few-monitors))) (rw last-states (room .few-latest)) s e (omega (arith, room .few-latest)) (omega (arith, room .few-events))
 
   go-case : (s e t : ℕ) → goCase mv z s e t ≡ lineCase ls (continues (go s e t))
   unfolding goCase lineCase tests testContinuing

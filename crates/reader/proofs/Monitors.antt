@@ -1,19 +1,17 @@
 -- The monitors of some lines with one line more. Assumes nothing.
 use mathlib.Core.Path.{_≡_, refl, sym, ap, _∙_}
-use mathlib.Core.Bool.{Bool, true, false, _&&_, _||_}
+use mathlib.Core.Bool.{true, false}
 use mathlib.Core.List.{List, [], _∷_, _++_}
-use mathlib.Core.Option.{some}
+use mathlib.Core.Option.{Option, none, some, orElse}
 use Prim.Native.Nat.{ℕ, zero, suc, _+_, _<_}
 use native.Mathlib.Omega.{arith}
 use lib.ListN.{length, getD, length-append, List·getD-append, List·getD-eq-default}
 use lib.Seq.{getD-at}
 use lib.Dec.{eqb}
-use borrow.Author.Tests.{eq-eqb, ne-eqb}
-use Rattle.lists.specs.Lists.{pick}
+use borrow.Author.Tests.{ne-eqb}
 use Rattle.lists.proofs.Tests.{contra}
-use Rattle.promises.specs.Text.{Part, go, Line, Monitor, addPart, latest, eventsOf}
-use Rattle.promises.specs.Reading.{empty, isMove, moves}
-use Rattle.promises.specs.Rig.{target}
+use Rattle.promises.specs.Text.{Part, Line, Monitor, addPart, latest, eventsOf}
+use Rattle.promises.specs.Reading.{empty, leadsTo, moveBy}
 use Rattle.promises.proofs.Lines.{eventsOf-more}
 use Rattle.reader.specs.Record.{nobody}
 
@@ -80,51 +78,17 @@ module _ (ms : List Monitor) (m : Monitor) where
 
 -- ---- the moves of a monitor's lines
 
-pub moves-snoc : (s e : ℕ) (ps : List Part) (p : Part) → moves s e (ps ++ (p ∷ [])) ≡ (moves s e ps || isMove s e p)
-unfolding moves
-moves-snoc s e [] p = go (isMove s e p)
-  where
-    go : (x : Bool) → (x || false) ≡ x
-    go true = refl
-    go false = refl
-moves-snoc s e (q ∷ ps) p = go (isMove s e q) (moves-snoc s e ps p)
-  where
-    go : (x : Bool) → moves s e (ps ++ (p ∷ [])) ≡ (moves s e ps || isMove s e p) → (x || moves s e (ps ++ (p ∷ []))) ≡ ((x || moves s e ps) || isMove s e p)
-    go true ih = refl
-    go false ih = ih
+pub or-none : (o : Option ℕ) → orElse o none ≡ o
+unfolding orElse
+or-none none = refl
+or-none (some u) = refl
 
--- where no line moves, the target is none
-pub target-none : (n : ℕ) (ps : List Part) (s e : ℕ) → moves s e ps ≡ false → target n ps s e ≡ n
-unfolding moves isMove target
-target-none n [] s e h = refl
-target-none n (go x y t ∷ ps) s e h = step (eqb x s && eqb y e) h (target-none n ps s e)
+-- a line more moves where none before it does
+pub moveBy-snoc : (ps : List Part) (p : Part) (s e : ℕ) → moveBy (ps ++ (p ∷ [])) s e ≡ orElse (moveBy ps s e) (leadsTo s e p)
+unfolding moveBy orElse
+moveBy-snoc [] p s e = or-none (leadsTo s e p)
+moveBy-snoc (q ∷ ps) p s e = step (leadsTo s e q) (moveBy-snoc ps p s e)
   where
-    step : (q : Bool) → (q || moves s e ps) ≡ false → (moves s e ps ≡ false → target n ps s e ≡ n) → pick q t (target n ps s e) ≡ n
-    step true p ih = contra refl p
-    step false p ih = ih p
-
--- where one does, the number that stands for none does not matter
-pub target-any : (n k : ℕ) (ps : List Part) (s e : ℕ) → moves s e ps ≡ true → target n ps s e ≡ target k ps s e
-unfolding moves isMove target
-target-any n k [] s e h = contra h refl
-target-any n k (go x y t ∷ ps) s e h = step (eqb x s && eqb y e) h (target-any n k ps s e)
-  where
-    step : (q : Bool) → (q || moves s e ps) ≡ true → (moves s e ps ≡ true → target n ps s e ≡ target k ps s e) → pick q t (target n ps s e) ≡ pick q t (target k ps s e)
-    step true p ih = refl
-    step false p ih = ih p
-
--- a line that does not move from s on e changes nothing there
-pub target-beside : (n : ℕ) (x y t : ℕ) (ps : List Part) (s e : ℕ) → (eqb x s && eqb y e) ≡ false → target n (ps ++ (go x y t ∷ [])) s e ≡ target n ps s e
-unfolding target
-target-beside n x y t [] s e h = rw h
-target-beside n x y t (go a b c ∷ ps) s e h = ap (pick (eqb a s && eqb b e) c) (target-beside n x y t ps s e h)
-
--- the first line that does says where to
-pub target-new : (n : ℕ) (t : ℕ) (ps : List Part) (s e : ℕ) → moves s e ps ≡ false → target n (ps ++ (go s e t ∷ [])) s e ≡ t
-unfolding moves isMove target
-target-new n t [] s e h = rw (eq-eqb s s refl, eq-eqb e e refl)
-target-new n t (go a b c ∷ ps) s e h = step (eqb a s && eqb b e) h (target-new n t ps s e)
-  where
-    step : (q : Bool) → (q || moves s e ps) ≡ false → (moves s e ps ≡ false → target n (ps ++ (go s e t ∷ [])) s e ≡ t) → pick q c (target n (ps ++ (go s e t ∷ [])) s e) ≡ t
-    step true p ih = contra refl p
-    step false p ih = ih p
+    step : (o : Option ℕ) → moveBy (ps ++ (p ∷ [])) s e ≡ orElse (moveBy ps s e) (leadsTo s e p) → orElse o (moveBy (ps ++ (p ∷ [])) s e) ≡ orElse (orElse o (moveBy ps s e)) (leadsTo s e p)
+    step none ih = ih
+    step (some u) ih = refl

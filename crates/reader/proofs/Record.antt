@@ -1,8 +1,9 @@
 -- The record of a readable text: its automaton is the one that the lines describe. The tables hold the moves of the `go` lines (Held), and these
 -- are the automaton's. Assumes nothing.
 use mathlib.Core.Path.{_≡_, refl, sym, ap, ap₂, _∙_, fun-ext}
-use mathlib.Core.Logic.{_↔_, _≢_, ⊎-elim}
+use mathlib.Core.Logic.{_↔_, _≢_}
 use mathlib.Core.Bool.{Bool, true, false, _&&_}
+use mathlib.Core.Option.{Option, none, some, Option·getD}
 use mathlib.Core.List.{List, [], _∷_, _++_, map, append-nil, append-assoc}
 use mathlib.Core.List.{List·Memᴰ as In}
 use Prim.Native.Nat.{ℕ, _+_, _≤_, _<_}
@@ -17,12 +18,12 @@ use Rattle.lists.proofs.Tables.{length-tabulate, getD-tabulate}
 use Rattle.lists.proofs.Members.{getD-map-lt, getD-in}
 use Rattle.automaton.specs.Joint.{At, joint, jointState, sizes}
 use Rattle.promises.specs.Text.{Kind, mon, Part, go, Line, rig, begins, continues, other, Monitor, monitorsFrom, monitors, decoded, statesOf, startOf, eventsOf, jointStates, AllSound, Readable}
-use Rattle.promises.specs.Reading.{empty, moves, lineCase}
-use Rattle.promises.specs.Rig.{target, nextOf, rigAutomaton, linesAutomaton, linesStart, start}
+use Rattle.promises.specs.Reading.{empty, moveBy, lineCase}
+use Rattle.promises.specs.Rig.{nextOf, rigAutomaton, linesAutomaton, linesStart, start}
 use Rattle.promises.specs.Rig as lines
-use Rattle.promises.proofs.Lines.{Once, PartRanged, readable-formed}
-use Rattle.promises.proofs.Meaning.{target-in, target-found, sizes-standing}
-use Rattle.promises.proofs.Reading.{sound-case, readable-said}
+use Rattle.promises.proofs.Lines.{PartRanged, readable-formed}
+use Rattle.promises.proofs.Meaning.{move-is, sizes-standing}
+use Rattle.promises.proofs.Reading.{moved, sound-case, readable-said}
 use Rattle.rig.specs.declared.Rig.{Rig}
 use Rattle.rig.specs.Record.{moveAt, countOf, moveOf, monitorAt, standing, recordAutomaton, recordStart, WellFormed, emptyRig}
 use Rattle.decoding.specs.declared.Form.{Form}
@@ -32,7 +33,7 @@ use Rattle.reader.specs.declared.Sizes.{Sizes}
 use Rattle.reader.specs.Reading.{recordFrom, whereServed, recordOf}
 use Rattle.reader.specs.Record.{nobody, monitorIn, ReadFrom}
 use Rattle.reader.specs.Taking.{sizesAfter, movesAfter, countsAfter}
-use Rattle.reader.proofs.Monitors.{empty-nil, target-none, target-any}
+use Rattle.reader.proofs.Monitors.{empty-nil}
 use Rattle.reader.proofs.Tables.{Table}
 use Rattle.reader.proofs.Held.{Tabled, Holds, holds-none, case-is, holds-more}
 
@@ -87,7 +88,7 @@ held-readable t R = held-all emptyRig [] (decoded t) held-none (R .sound)
 -- ---- one monitor
 
 -- a `mon` monitor moves along its `go` lines, from state 0 on
-next-is : (k : Kind) (ps : List Part) (s e : ℕ) → nextOf k ps s e ≡ target (statesOf k) ps s e
+next-is : (k : Kind) (ps : List Part) (s e : ℕ) → nextOf k ps s e ≡ Option·getD (moveBy ps s e) (statesOf k)
 unfolding nextOf statesOf
 next-is (mon S) ps s e = refl
 
@@ -110,29 +111,26 @@ entry-still v S E s e h = go (ltb s S) (ltb e E) refl refl
 -- monitor k of the record is the monitor m of the lines
 module _ (r : Rig) (m : Monitor) (k : ℕ) (T : Table (r .moves) k (m .parts) (r .events) (statesOf (m .kind)))
     (c : countOf r k ≡ statesOf (m .kind)) (few : statesOf (m .kind) ≤ 32) (fewE : r .events ≤ 16) where
-  pub move-is : (s e : ℕ) → moveOf r k s e ≡ target (statesOf (m .kind)) (m .parts) s e
+  moves-as : (s e : ℕ) → moveOf r k s e ≡ Option·getD (moveBy (m .parts) s e) (statesOf (m .kind))
   unfolding moveOf
-  move-is s e = rw c (case (moves s e (m .parts)) moved still)
+  moves-as s e = rw c (step (moveBy (m .parts) s e) refl)
     where
-      moved : moves s e (m .parts) ≡ true
-          → pick ((ltb s (statesOf (m .kind)) && ltb e (r .events)) && ltb (moveAt (r .moves) k s e) (statesOf (m .kind))) (moveAt (r .moves) k s e) (statesOf (m .kind)) ≡ target (statesOf (m .kind)) (m .parts) s e
-      moved q =
-          let w = T .within s e q in
-          let v : moveAt (r .moves) k s e ≡ target 255 (m .parts) s e = T .entry s e (omega arith) (omega arith) in
-          entry-moves (moveAt (r .moves) k s e) (statesOf (m .kind)) (r .events) s e (w .0) (w .1) (rw v (w .2)) ∙ v ∙ target-any 255 (statesOf (m .kind)) (m .parts) s e q
-
-      still : moves s e (m .parts) ≡ false
-          → pick ((ltb s (statesOf (m .kind)) && ltb e (r .events)) && ltb (moveAt (r .moves) k s e) (statesOf (m .kind))) (moveAt (r .moves) k s e) (statesOf (m .kind)) ≡ target (statesOf (m .kind)) (m .parts) s e
-      still q =
-          entry-still (moveAt (r .moves) k s e) (statesOf (m .kind)) (r .events) s e (λ a b. large (T .entry s e (omega arith) (omega arith) ∙ target-none 255 (m .parts) s e q))
-          ∙ sym (target-none (statesOf (m .kind)) (m .parts) s e q)
+      step : (o : Option ℕ) → moveBy (m .parts) s e ≡ o
+          → pick ((ltb s (statesOf (m .kind)) && ltb e (r .events)) && ltb (moveAt (r .moves) k s e) (statesOf (m .kind))) (moveAt (r .moves) k s e) (statesOf (m .kind)) ≡ Option·getD (moveBy (m .parts) s e) (statesOf (m .kind))
+      step none q =
+          entry-still (moveAt (r .moves) k s e) (statesOf (m .kind)) (r .events) s e (λ a b. large (T .entry s e (omega arith) (omega arith) ∙ ap (λ o. Option·getD o 255) q))
+          ∙ ap (λ o. Option·getD o (statesOf (m .kind))) (sym q)
         where
           large : moveAt (r .moves) k s e ≡ 255 → statesOf (m .kind) ≤ moveAt (r .moves) k s e
           large p = omega arith
+      step (some u) q =
+          let w = T .within s e u q in
+          let v : moveAt (r .moves) k s e ≡ u = T .entry s e (omega arith) (omega arith) ∙ ap (λ o. Option·getD o 255) q in
+          entry-moves (moveAt (r .moves) k s e) (statesOf (m .kind)) (r .events) s e (w .0) (w .1) (rw v (w .2)) ∙ v ∙ ap (λ o. Option·getD o (statesOf (m .kind))) (sym q)
 
   pub monitor-is : monitorAt r k ≡ lines.monitorOf (r .events) m
   unfolding monitorAt lines.monitorOf
-  monitor-is = ap₂ (λ n f. record { states = n; events = range (r .events); next = f; stop = λ s. false }) c (fun-ext (λ s. fun-ext (λ e. move-is s e ∙ sym (next-is (m .kind) (m .parts) s e))))
+  monitor-is = ap₂ (λ n f. record { states = n; events = range (r .events); next = f; stop = λ s. false }) c (fun-ext (λ s. fun-ext (λ e. moves-as s e ∙ sym (next-is (m .kind) (m .parts) s e))))
 
 -- ---- all monitors
 
@@ -232,25 +230,29 @@ module _ (t : List ℕ) (R : Readable t) where
 
   -- 'for each monitor, a move from s on e to u exactly when there is that line'
   moves-of : (m s e u : ℕ) → m < recordOf t .monitors → ((moveOf (recordOf t) m s e ≡ u) × (u < countOf (recordOf t) m)) ↔ In (go s e u) (monitorIn t m .parts)
-  unfolding Once PartRanged
+  unfolding PartRanged
   moves-of m s e u h = (to, from)
     where
       known : In (monitorIn t m) (monitors (decoded t))
       known = getD-in (monitors (decoded t)) m nobody (rw (← recorded .monitors-are) h)
 
-      is : moveOf (recordOf t) m s e ≡ target (statesOf (monitorIn t m .kind)) (monitorIn t m .parts) s e
+      is : moveOf (recordOf t) m s e ≡ Option·getD (moveBy (monitorIn t m .parts) s e) (statesOf (monitorIn t m .kind))
       is =
-          move-is (recordOf t) (monitorIn t m) m (recorded .tabled .tables m (omega (arith, recorded .few-monitors))) (recorded .tabled .counts-are m h)
+          moves-as (recordOf t) (monitorIn t m) m (recorded .tabled .tables m (omega (arith, recorded .few-monitors))) (recorded .tabled .counts-are m h)
           (recorded .tabled .few-states m h) (recorded .few-events) s e
 
       to : (moveOf (recordOf t) m s e ≡ u) × (u < countOf (recordOf t) m) → In (go s e u) (monitorIn t m .parts)
-      to (q, l) = ⊎-elim (λ z. absurd (omega (arith, sym is ∙ q, recorded .tabled .counts-are m h))) (λ i. rw (sym is ∙ q) at i) (target-found (statesOf (monitorIn t m .kind)) (monitorIn t m .parts) s e)
+      to (q, l) = step (moveBy (monitorIn t m .parts) s e) refl
+        where
+          step : (o : Option ℕ) → moveBy (monitorIn t m .parts) s e ≡ o → In (go s e u) (monitorIn t m .parts)
+          step none p = let z : statesOf (monitorIn t m .kind) ≡ u = sym (is ∙ ap (λ o. Option·getD o (statesOf (monitorIn t m .kind))) p) ∙ q in absurd (omega (arith, recorded .tabled .counts-are m h))
+          step (some v) p = let z : v ≡ u = sym (is ∙ ap (λ o. Option·getD o (statesOf (monitorIn t m .kind))) p) ∙ q in rw z at (moved (monitorIn t m .parts) s e v p)
 
       from : In (go s e u) (monitorIn t m .parts) → (moveOf (recordOf t) m s e ≡ u) × (u < countOf (recordOf t) m)
       from i =
           let kept = readable-formed t R .monitored .each (monitorIn t m) known in
           let w = kept .parts-ranged (go s e u) i in
-          (is ∙ target-in (statesOf (monitorIn t m .kind)) (monitorIn t m .parts) s e u (λ v j. kept .move-once s e u v i j) i, rw (recorded .tabled .counts-are m h) (w .2))
+          (is ∙ ap (λ o. Option·getD o (statesOf (monitorIn t m .kind))) (move-is (eventsOf (decoded t)) (monitorIn t m) kept s e u i), rw (recorded .tabled .counts-are m h) (w .2))
 
   pub read-from : ReadFrom t (recordOf t)
   unfolding rigAutomaton start
