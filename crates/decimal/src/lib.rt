@@ -3,7 +3,7 @@ ghost use mathlib.Core.Path.{_≡_};
 ghost use mathlib.Core.List.{_++_};
 ghost use Prim.Native.Nat.{_≤_};
 ghost use lib.ListN.{length, drop};
-ghost use Rattle.decimal.specs.Decimal.{decimal};
+ghost use Rattle.lists.specs.Decimal.{decimal};
 
 // Writes the digits of n at the front of `out` and gives how many they are; the rest of `out` keeps its contents.
 // Twenty bytes are enough for every n.

@@ -1,4 +1,4 @@
--- Numbers read digit by digit, and the numbers of a line's fields read field by field. Assumes nothing.
+-- Numbers read digit by digit, and the forms of a line's fields read field by field. Assumes nothing.
 use mathlib.Core.Path.{_≡_, refl, sym, ap, _∙_}
 use mathlib.Core.Bool.{Bool, true, false}
 use mathlib.Core.List.{List, [], _∷_}
@@ -12,10 +12,11 @@ use lib.Dec.{eqb, leb, ltb}
 use borrow.Author.Tests.{eq-eqb, ne-eqb, le-leb, lt-leb, lt-ltb, le-ltb, ltb-true, ltb-false}
 use Rattle.lists.specs.Lists.{pick, indexOf}
 use Rattle.lists.proofs.Tests.{case}
-use Rattle.promises.specs.Text.{Line, rig, mon, go, other, splitOn, same, fields, digitsValue, number, numbers, one, three, form, decode}
+use Rattle.promises.specs.Text.{Line, rig, begins, continues, other, mon, go, bytes, splitOn, same, fields, digitsValue, number, field, end, one, two, three, form, decode}
+use Rattle.promises.proofs.Pieces.{splitOn-some}
 use Rattle.decoding.specs.declared.Field.the-variants.{Last, More, Bad}
 use Rattle.decoding.specs.declared.Field.{Field}
-use Rattle.decoding.specs.Forms.{asField, fieldOf, prepend, numbersBy}
+use Rattle.decoding.specs.Forms.{asField, fieldOf, fieldBy, orOther}
 use Rattle.decoding.proofs.Parts.{splitOn-whole, splitOn-first}
 
 -- ---- digits
@@ -88,53 +89,29 @@ module _ (l : List ℕ) (end : ℕ) (e : end ≡ indexOf l 9) where
   unfolding fieldOf
   field-bad q = rw (← e, ← q)
 
-numbers-wrong : (f : List ℕ) (fs : List (List ℕ)) → number f ≡ none → numbers (f ∷ fs) ≡ none
-unfolding numbers
-numbers-wrong f fs q = rw q
-
-numbers-cons : (f : List ℕ) (fs : List (List ℕ)) (n : ℕ) → number f ≡ some n → numbers (f ∷ fs) ≡ prepend n (numbers fs)
-unfolding numbers
-numbers-cons f fs n q = go (numbers fs) refl
+-- a form by the first of its fields
+field-by : (rest : ℕ → List (List ℕ) → Line) (l : List ℕ) (x : Field) → x ≡ fieldOf l → field number rest (fields l) ≡ fieldBy rest l x
+unfolding fields fieldOf field
+field-by rest l x e = rw e (case (ltb (indexOf l 9) (length l)) more last)
   where
-    go : (o : Option (List ℕ)) → numbers fs ≡ o → numbers (f ∷ fs) ≡ prepend n (numbers fs)
-    go none p = rw (q, p)
-    go (some ns) p = rw (q, p)
-
-numbers-only : (f : List ℕ) (n : ℕ) → number f ≡ some n → numbers (f ∷ []) ≡ some (n ∷ [])
-unfolding numbers
-numbers-only f n q = rw q
-
--- the numbers of the fields, by the first of them
-pub numbers-by : (l : List ℕ) → numbers (fields l) ≡ numbersBy l (fieldOf l)
-unfolding fields fieldOf
-numbers-by l = case (ltb (indexOf l 9) (length l)) more last
-  where
-    more : ltb (indexOf l 9) (length l) ≡ true → numbers (splitOn 9 l) ≡ numbersBy l (asField (number (take (indexOf l 9) l)) (ltb (indexOf l 9) (length l)) (indexOf l 9 + 1))
+    more : ltb (indexOf l 9) (length l) ≡ true → field number rest (splitOn 9 l) ≡ fieldBy rest l (asField (number (take (indexOf l 9) l)) (ltb (indexOf l 9) (length l)) (indexOf l 9 + 1))
     more p = rw (p, splitOn-first 9 l (ltb-true (indexOf l 9) (length l) p)) (go (number (take (indexOf l 9) l)) refl)
       where
-        go : (o : Option ℕ) → number (take (indexOf l 9) l) ≡ o → numbers (take (indexOf l 9) l ∷ splitOn 9 (drop (indexOf l 9 + 1) l)) ≡ numbersBy l (asField o true (indexOf l 9 + 1))
-        go none q = numbers-wrong _ _ q
-        go (some n) q = numbers-cons _ _ n q
+        go : (o : Option ℕ) → number (take (indexOf l 9) l) ≡ o → field number rest (take (indexOf l 9) l ∷ splitOn 9 (drop (indexOf l 9 + 1) l)) ≡ fieldBy rest l (asField o true (indexOf l 9 + 1))
+        go none q = rw q
+        go (some n) q = rw q
 
-    last : ltb (indexOf l 9) (length l) ≡ false → numbers (splitOn 9 l) ≡ numbersBy l (asField (number (take (indexOf l 9) l)) (ltb (indexOf l 9) (length l)) (indexOf l 9 + 1))
+    last : ltb (indexOf l 9) (length l) ≡ false → field number rest (splitOn 9 l) ≡ fieldBy rest l (asField (number (take (indexOf l 9) l)) (ltb (indexOf l 9) (length l)) (indexOf l 9 + 1))
     last p = rw (p, splitOn-whole 9 l (ltb-false (indexOf l 9) (length l) p), take-all (indexOf l 9) l (ltb-false (indexOf l 9) (length l) p)) (go (number l) refl)
       where
-        go : (o : Option ℕ) → number l ≡ o → numbers (l ∷ []) ≡ numbersBy l (asField o false (indexOf l 9 + 1))
-        go none q = numbers-wrong _ _ q
-        go (some n) q = numbers-only l n q
+        go : (o : Option ℕ) → number l ≡ o → field number rest (l ∷ []) ≡ fieldBy rest l (asField o false (indexOf l 9 + 1))
+        go none q = rw q
+        go (some n) q = rw q
 
 -- a line has at least one field
-pub numbers-some : (l : List ℕ) → numbers (fields l) ≡ some [] → ⊥
-numbers-some l h = go (fieldOf l) (sym (numbers-by l) ∙ h)
-  where
-    none-left : (n : ℕ) (o : Option (List ℕ)) → prepend n o ≡ some [] → ⊥
-    none-left n none q = let z : _≡_ {A = ℕ} 0 1 = cc in omega arith
-    none-left n (some ns) q = let z : _≡_ {A = ℕ} 0 1 = cc in omega arith
-
-    go : (f : Field) → numbersBy l f ≡ some [] → ⊥
-    go (Last n) q = let z : _≡_ {A = ℕ} 0 1 = cc in omega arith
-    go (More n next) q = none-left n (numbers (fields (drop next l))) q
-    go Bad q = let z : _≡_ {A = ℕ} 0 1 = cc in omega arith
+end-more : (k : Line) (l : List ℕ) → end k (fields l) ≡ other
+unfolding end fields
+end-more k l = let (p, ps, e) = splitOn-some 9 l in rw e
 
 pub next-le : (l : List ℕ) (n next : ℕ) → fieldOf l ≡ More n next → next ≤ length l
 unfolding fieldOf
@@ -145,69 +122,55 @@ next-le l n next q = go (number (take (indexOf l 9) l)) (ltb (indexOf l 9) (leng
     go (some m) false p h = let z : _≡_ {A = ℕ} 0 1 = cc in absurd (omega arith)
     go (some m) true p h = let z : indexOf l 9 + 1 ≡ next = cc in omega (arith, ltb-true (indexOf l 9) (length l) p)
 
--- ---- forms, by their fields
-
-not-one : (f : ℕ → Line) (n : ℕ) (o : Option (List ℕ)) → (o ≡ some [] → ⊥) → one f (prepend n o) ≡ other
-unfolding one
-not-one f n none h = refl
-not-one f n (some []) h = absurd (h refl)
-not-one f n (some (m ∷ ns)) h = refl
-
-not-three : (f : ℕ → ℕ → ℕ → Line) (a b n : ℕ) (o : Option (List ℕ)) → (o ≡ some [] → ⊥) → three f (prepend a (prepend b (prepend n o))) ≡ other
-unfolding three
-not-three f a b n none h = refl
-not-three f a b n (some []) h = absurd (h refl)
-not-three f a b n (some (m ∷ ns)) h = refl
-
-module _ (f : ℕ → Line) (l : List ℕ) where
-  abbrev pub oneBy : Field → Line
-  oneBy (Last n) = f n
-  oneBy (More n next) = other
-  oneBy Bad = other
-
-  -- a form of one field
-  pub one-by : (x : Field) → x ≡ fieldOf l → oneBy x ≡ one f (numbers (fields l))
-  unfolding one
-  one-by (Last n) q = sym (ap (one f) (numbers-by l ∙ ap (numbersBy l) (sym q)))
-  one-by (More n next) q = sym (ap (one f) (numbers-by l ∙ ap (numbersBy l) (sym q)) ∙ not-one f n (numbers (fields (drop next l))) (numbers-some (drop next l)))
-  one-by Bad q = sym (ap (one f) (numbers-by l ∙ ap (numbersBy l) (sym q)))
-
 -- the part of a list from k on is all that is left
 pub rest-whole : (l : List ℕ) (k : ℕ) → take (length l - k) (drop k l) ≡ drop k l
 rest-whole l k = take-all (length l - k) (drop k l) (rw length-drop (omega arith))
 
--- a form of three fields: the first two are followed by another
-pub numbers-next : (l : List ℕ) (n next : ℕ) → More n next ≡ fieldOf l → numbers (fields l) ≡ prepend n (numbers (fields (take (length l - next) (drop next l))))
-numbers-next l n next q = numbers-by l ∙ ap (numbersBy l) (sym q) ∙ ap (λ r. prepend n (numbers (fields r))) (sym (rest-whole l next))
+-- ---- forms, by their fields
+
+abbrev pub only : Field → Option ℕ
+only (Last n) = some n
+only (More n next) = none
+only Bad = none
+
+-- one field, and no other after it
+pub only-by : (l : List ℕ) (x : Field) → x ≡ fieldOf l → (f : ℕ → Line) → one f (fields l) ≡ orOther f (only x)
+unfolding one end
+only-by l (Last n) q f = field-by (λ a. end (f a)) l (Last n) q
+only-by l (More n next) q f = field-by (λ a. end (f a)) l (More n next) q ∙ end-more (f n) (drop next l)
+only-by l Bad q f = field-by (λ a. end (f a)) l Bad q
+
+-- no field after the first
+abbrev pub Short : Field → Type 0
+Short (Last n) = Unit {0}
+Short (More n next) = ⊥
+Short Bad = Unit {0}
+
+short-by : (rest : ℕ → List (List ℕ) → Line) → ((n : ℕ) → rest n [] ≡ other) → (l : List ℕ) (x : Field) → x ≡ fieldOf l → Short x → field number rest (fields l) ≡ other
+short-by rest e l (Last n) q h = field-by rest l (Last n) q ∙ e n
+short-by rest e l (More n next) q h = absurd h
+short-by rest e l Bad q h = field-by rest l Bad q
+
+next-by : (rest : ℕ → List (List ℕ) → Line) (l : List ℕ) (n next : ℕ) → More n next ≡ fieldOf l → field number rest (fields l) ≡ rest n (fields (take (length l - next) (drop next l)))
+next-by rest l n next q = field-by rest l (More n next) q ∙ ap (λ r. rest n (fields r)) (sym (rest-whole l next))
+
+module _ (f : ℕ → ℕ → Line) where
+  pub two-short : (l : List ℕ) (x : Field) → x ≡ fieldOf l → Short x → two f (fields l) ≡ other
+  unfolding two one field
+  two-short = short-by (λ a. one (f a)) (λ a. refl)
+
+  pub two-next : (l : List ℕ) (n next : ℕ) → More n next ≡ fieldOf l → two f (fields l) ≡ one (f n) (fields (take (length l - next) (drop next l)))
+  unfolding two
+  two-next = next-by (λ a. one (f a))
 
 module _ (f : ℕ → ℕ → ℕ → Line) where
-  abbrev pub Short : Field → Type 0
-  Short (Last n) = Unit {0}
-  Short (More n next) = ⊥
-  Short Bad = Unit {0}
+  pub three-short : (l : List ℕ) (x : Field) → x ≡ fieldOf l → Short x → three f (fields l) ≡ other
+  unfolding three two field
+  three-short = short-by (λ a. two (f a)) (λ a. refl)
 
-  pub three-first : (l : List ℕ) (x : Field) → x ≡ fieldOf l → Short x → three f (numbers (fields l)) ≡ other
+  pub three-next : (l : List ℕ) (n next : ℕ) → More n next ≡ fieldOf l → three f (fields l) ≡ two (f n) (fields (take (length l - next) (drop next l)))
   unfolding three
-  three-first l (Last n) q h = ap (three f) (numbers-by l ∙ ap (numbersBy l) (sym q))
-  three-first l (More n next) q h = absurd h
-  three-first l Bad q h = ap (three f) (numbers-by l ∙ ap (numbersBy l) (sym q))
-
-  pub three-second : (l : List ℕ) (a : ℕ) (x : Field) → x ≡ fieldOf l → Short x → three f (prepend a (numbers (fields l))) ≡ other
-  unfolding three
-  three-second l a (Last n) q h = ap (λ o. three f (prepend a o)) (numbers-by l ∙ ap (numbersBy l) (sym q))
-  three-second l a (More n next) q h = absurd h
-  three-second l a Bad q h = ap (λ o. three f (prepend a o)) (numbers-by l ∙ ap (numbersBy l) (sym q))
-
-  abbrev pub threeBy : ℕ → ℕ → Field → Line
-  threeBy a b (Last n) = f a b n
-  threeBy a b (More n next) = other
-  threeBy a b Bad = other
-
-  pub three-by : (l : List ℕ) (a b : ℕ) (x : Field) → x ≡ fieldOf l → three f (prepend a (prepend b (numbers (fields l)))) ≡ threeBy a b x
-  unfolding three
-  three-by l a b (Last n) q = ap (λ o. three f (prepend a (prepend b o))) (numbers-by l ∙ ap (numbersBy l) (sym q))
-  three-by l a b (More n next) q = ap (λ o. three f (prepend a (prepend b o))) (numbers-by l ∙ ap (numbersBy l) (sym q)) ∙ not-three f a b n (numbers (fields (drop next l))) (numbers-some (drop next l))
-  three-by l a b Bad q = ap (λ o. three f (prepend a (prepend b o))) (numbers-by l ∙ ap (numbersBy l) (sym q))
+  three-next = next-by (λ a. two (f a))
 
 -- ---- forms, by their word
 
@@ -216,26 +179,26 @@ unfolding decode fields
 decode-first l end e h = rw (rest-whole l (end + 1), e) (ap form (splitOn-first 9 l (rw (← e) h)))
 
 module _ (w : List ℕ) (fs : List (List ℕ)) where
-  pub form-rig : same w (114 ∷ 105 ∷ 103 ∷ []) ≡ true → form (w ∷ fs) ≡ one rig (numbers fs)
+  pub form-rig : same w (bytes "rig") ≡ true → form (w ∷ fs) ≡ one (λ E. rig E) fs
   unfolding form
   form-rig p = rw p
 
-  pub form-mon : same w (114 ∷ 105 ∷ 103 ∷ []) ≡ false → same w (109 ∷ 111 ∷ 110 ∷ []) ≡ true → form (w ∷ fs) ≡ one mon (numbers fs)
+  pub form-mon : same w (bytes "rig") ≡ false → same w (bytes "mon") ≡ true → form (w ∷ fs) ≡ one (λ S. begins (mon S)) fs
   unfolding form
   form-mon p q = rw (p, q)
 
-  pub form-go : same w (114 ∷ 105 ∷ 103 ∷ []) ≡ false → same w (109 ∷ 111 ∷ 110 ∷ []) ≡ false → same w (103 ∷ 111 ∷ []) ≡ true → form (w ∷ fs) ≡ three go (numbers fs)
+  pub form-go : same w (bytes "rig") ≡ false → same w (bytes "mon") ≡ false → same w (bytes "go") ≡ true → form (w ∷ fs) ≡ three (λ s e t. continues (go s e t)) fs
   unfolding form
   form-go p q r = rw (p, q, r)
 
-  pub form-other : same w (114 ∷ 105 ∷ 103 ∷ []) ≡ false → same w (109 ∷ 111 ∷ 110 ∷ []) ≡ false → same w (103 ∷ 111 ∷ []) ≡ false → form (w ∷ fs) ≡ other
+  pub form-other : same w (bytes "rig") ≡ false → same w (bytes "mon") ≡ false → same w (bytes "go") ≡ false → form (w ∷ fs) ≡ other
   unfolding form
   form-other p q r = rw (p, q, r)
 
 -- a word alone is no form
 pub decode-alone : (l : List ℕ) → length l ≤ indexOf l 9 → decode l ≡ other
-unfolding decode fields form numbers one three
-decode-alone l h = rw (splitOn-whole 9 l h) (go (same l (114 ∷ 105 ∷ 103 ∷ [])) (same l (109 ∷ 111 ∷ 110 ∷ [])) (same l (103 ∷ 111 ∷ [])))
+unfolding decode fields form one two three field
+decode-alone l h = rw (splitOn-whole 9 l h) (go (same l (bytes "rig")) (same l (bytes "mon")) (same l (bytes "go")))
   where
     go : (a b c : Bool) → pick a other (pick b other (pick c other other)) ≡ other
     go true b c = refl

@@ -1,11 +1,11 @@
 // A line's bytes as its form: the word, and the numbers of its fields.
 ghost use mathlib.Core.Path.{_≡_};
-ghost use Prim.Native.Nat.{_<_, _≤_};
+ghost use Prim.Native.Nat.{ℕ, _<_, _≤_};
 ghost use lib.ListN.{length};
 ghost use Rattle.lists.specs.Lists.{indexOf};
-ghost use Rattle.promises.specs.Text.{rig, mon, go, one, three, numbers, fields};
+ghost use Rattle.promises.specs.Text.{Line, continues, go, one, three, fields};
 ghost use Rattle.promises.specs.Text as text;
-ghost use Rattle.decoding.specs.Forms.{valueOf, fieldOf, formLine};
+ghost use Rattle.decoding.specs.Forms.{valueOf, fieldOf, orOther, formLine};
 
 // What a field is: a number of paper 01, or none.
 pub enum Decimal {
@@ -13,11 +13,23 @@ pub enum Decimal {
     Wrong,
 }
 
-// A line's form with its numbers.
+// A line that begins a monitor, with its numbers: `mon`, S. (A struct, as an enum of one variant can't be matched on; a second kind makes it an enum.)
+pub struct Kind {
+    pub states: usize,
+}
+
+// A line of the latest monitor, with its numbers: `go`, s, e, t. (A struct for the same reason.)
+pub struct Part {
+    pub state: usize,
+    pub event: usize,
+    pub target: usize,
+}
+
+// A line's form.
 pub enum Form {
     Rig(usize),
-    Mon(usize),
-    Go(usize, usize, usize),
+    Begins(Kind),
+    Continues(Part),
     Other,
 }
 
@@ -117,31 +129,20 @@ fn read_field(rest: &[u8]) -> Field
     }
 }
 
-// `rig`, E
-fn rig_form(rest: &[u8]) -> Form
-    ensures { λ r. ⌜ formLine r ≡ one rig (numbers (fields (now (rest .entry)))) ⌝ }
+// The number that is the only field left of a line.
+fn only_number(rest: &[u8]) -> Decimal
+    ensures { λ r. ⌜ ((f : ℕ → Line) → one f (fields (now (rest .entry))) ≡ orOther f (valueOf r)) ⌝ }
 {
     match read_field(rest) {
-        Field::Last(e) => Form::Rig(e),
-        Field::More(_, _) => Form::Other,
-        Field::Bad => Form::Other,
-    }
-}
-
-// `mon`, S
-fn mon_form(rest: &[u8]) -> Form
-    ensures { λ r. ⌜ formLine r ≡ one mon (numbers (fields (now (rest .entry)))) ⌝ }
-{
-    match read_field(rest) {
-        Field::Last(s) => Form::Mon(s),
-        Field::More(_, _) => Form::Other,
-        Field::Bad => Form::Other,
+        Field::Last(n) => Decimal::Value(n),
+        Field::More(_, _) => Decimal::Wrong,
+        Field::Bad => Decimal::Wrong,
     }
 }
 
 // `go`, s, e, t
 fn go_form(rest: &[u8]) -> Form
-    ensures { λ r. ⌜ formLine r ≡ three go (numbers (fields (now (rest .entry)))) ⌝ }
+    ensures { λ r. ⌜ formLine r ≡ three (λ s e t. continues (go s e t)) (fields (now (rest .entry))) ⌝ }
 {
     let Field::More(s, a) = read_field(rest) else {
         return Form::Other;
@@ -154,7 +155,11 @@ fn go_form(rest: &[u8]) -> Form
     let Field::Last(t) = read_field(third) else {
         return Form::Other;
     };
-    Form::Go(s, e, t)
+    Form::Continues(Part {
+        state: s,
+        event: e,
+        target: t,
+    })
 }
 
 // The form that a line is.
@@ -167,10 +172,16 @@ pub fn decode(line: &[u8]) -> Form
         let a = end + 1;
         let rest = &line[a..];
         if same(word, b"rig") {
-            return rig_form(rest);
+            return match only_number(rest) {
+                Decimal::Value(e) => Form::Rig(e),
+                Decimal::Wrong => Form::Other,
+            };
         }
         if same(word, b"mon") {
-            return mon_form(rest);
+            return match only_number(rest) {
+                Decimal::Value(s) => Form::Begins(Kind { states: s }),
+                Decimal::Wrong => Form::Other,
+            };
         }
         if same(word, b"go") {
             return go_form(rest);

@@ -1,7 +1,7 @@
 -- Two lines of the listing that the paper prints for `ask` 3 and rig A. Assumes nothing.
 use mathlib.Core.Path.{_≡_, refl}
 use mathlib.Core.List.{[], _∷_}
-use Rattle.decimal.specs.Decimal.{decimal, digits}
+use Rattle.lists.specs.Decimal.{decimal, digits}
 use Rattle.line.specs.Line.{lineOf, numbersOf}
 
 -- `count`, 5, 1

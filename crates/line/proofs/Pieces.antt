@@ -9,7 +9,7 @@ use lib.ListN.{length, getD, set, take, drop, length-append, take-append-drop}
 use lib.Seq.{take-append-seam, drop-append-add, drop-drop, set-split, append-snoc, take-suc, length-take-le}
 use Rattle.lists.specs.Lists.{concatMap}
 use Rattle.lists.proofs.Fronts.{front-put, front-more}
-use Rattle.decimal.specs.Decimal.{decimal}
+use Rattle.lists.specs.Decimal.{decimal}
 use Rattle.line.specs.Line.{field, placed, lineOf, numbersOf}
 
 -- a piece placed where the front ends

@@ -8,7 +8,7 @@ use mathlib.Core.List.{List, [], _∷_, _++_}
 use Prim.Native.Nat.{ℕ, _+_}
 use lib.ListN.{length, take, drop}
 use Rattle.lists.specs.Lists.{concatMap}
-use Rattle.decimal.specs.Decimal.{decimal}
+use Rattle.lists.specs.Decimal.{decimal}
 
 abbrev pub field : ℕ → List ℕ
 field n = 9 ∷ decimal n

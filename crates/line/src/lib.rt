@@ -4,7 +4,7 @@ ghost use mathlib.Core.List.{_++_};
 ghost use Prim.Native.Nat.{_+_, _*_, _≤_};
 ghost use lib.ListN.{length, drop};
 ghost use Rattle.lists.specs.Lists.{concatMap};
-ghost use Rattle.decimal.specs.Decimal.{decimal};
+ghost use Rattle.lists.specs.Decimal.{decimal};
 ghost use Rattle.line.specs.Line.{field, placed, lineOf, numbersOf};
 
 // Writes byte 9 and the digits of n from `at` on, and gives where they end.

@@ -1,4 +1,5 @@
 -- The listing that paper 01 prints whole, and the least inputs: each side computes to the other. Assumes nothing.
+use mathlib.Core.Option.{orElse}
 use mathlib.Core.Path.{_≡_, refl}
 use mathlib.Core.List.{List, [], _∷_, _++_}
 use Prim.Native.Nat.{ℕ}
@@ -7,13 +8,13 @@ use Rattle.automaton.specs.Joint.{both, join, idle, joint, sizes, jointState}
 use Rattle.automaton.specs.Pruning.{keep, prunedSet, size, passesFrom, passes, live}
 use Rattle.automaton.specs.Counting.{N, most}
 use Rattle.automaton.specs.Ranking.{choose, unrank}
-use Rattle.promises.specs.Text.{onto, splitOn, init, lastOf, lines, unended, fields, digitsValue, number, same, numbers, one, three, form, decode, decoded, role, addLine, extended, monitorsFrom, monitors, statesOf, startOf, latest, product, eventsOf, jointStates}
-use Rattle.promises.specs.Reading.{goOut, isMove, moves, goAgain, tests, isOther, lineCase, readingFrom, reading}
-use Rattle.promises.specs.Rig.{leadsTo, target, monitorOf, standing, linesAutomaton, linesStart, rigAutomaton, start}
+use Rattle.promises.specs.Text.{onto, splitOn, init, lastOf, lines, unended, fields, digitsValue, number, same, field, end, one, two, three, form, decode, decoded, addPart, extended, monitorsFrom, monitors, statesOf, startOf, latest, product, eventsOf, jointStates}
+use Rattle.promises.specs.Reading.{leadsTo, moveBy, testBeginning, ofLatest, testContinuing, tests, lineCase, readingFrom, reading}
+use Rattle.promises.specs.Rig.{nextOf, monitorOf, standing, linesAutomaton, linesStart, rigAutomaton, start}
 use Rattle.promises.specs.Calls.{sized, total, counted, count}
 use Rattle.promises.specs.Examples.{A}
-use Rattle.decimal.specs.Decimal as decimals
-use Rattle.decimal.specs.Decimal.{decimal}
+use Rattle.lists.specs.Decimal as decimals
+use Rattle.lists.specs.Decimal.{decimal}
 use Rattle.line.specs.Line.{lineOf, numbersOf}
 use Rattle.listing.specs.Listing.{firstLine, askedIn, asked, text, owned, answer, horizon, scenarioLine, listing}
 
@@ -23,7 +24,7 @@ bad = 110 ∷ 111 ∷ 9 ∷ 50 ∷ 9 ∷ 48 ∷ 10 ∷ []
 
 -- 'For `ask` 3 and A, whole'
 pub worked : listing ((97 ∷ 115 ∷ 107 ∷ 9 ∷ 51 ∷ 10 ∷ []) ++ A) ≡ 99 ∷ 111 ∷ 117 ∷ 110 ∷ 116 ∷ 9 ∷ 53 ∷ 9 ∷ 49 ∷ 10 ∷ 48 ∷ 9 ∷ 48 ∷ 9 ∷ 48 ∷ 9 ∷ 48 ∷ 10 ∷ 49 ∷ 9 ∷ 48 ∷ 9 ∷ 48 ∷ 9 ∷ 49 ∷ 10 ∷ 50 ∷ 9 ∷ 48 ∷ 9 ∷ 49 ∷ 9 ∷ 48 ∷ 10 ∷ 51 ∷ 9 ∷ 49 ∷ 9 ∷ 48 ∷ 9 ∷ 48 ∷ 10 ∷ 52 ∷ 9 ∷ 49 ∷ 9 ∷ 48 ∷ 9 ∷ 49 ∷ 10 ∷ []
-unfolding listing answer asked askedIn firstLine text owned horizon scenarioLine indexOf lineOf numbersOf decimal decimals.digits reading readingFrom lineCase isOther tests goOut goAgain moves isMove decoded lines unended splitOn onto init lastOf decode fields form one three numbers number digitsValue same monitors monitorsFrom extended role addLine latest statesOf product eventsOf startOf jointStates leadsTo target monitorOf standing linesAutomaton linesStart rigAutomaton start range both join idle joint sizes jointState keep prunedSet size passesFrom passes live N most choose unrank sized total counted count
+unfolding listing answer asked askedIn firstLine text owned horizon scenarioLine indexOf lineOf numbersOf decimal decimals.digits reading readingFrom lineCase tests testBeginning testContinuing ofLatest moveBy leadsTo orElse decoded lines unended splitOn onto init lastOf decode fields form one two three field end number digitsValue same monitors monitorsFrom extended addPart latest statesOf product eventsOf startOf jointStates nextOf monitorOf standing linesAutomaton linesStart rigAutomaton start range both join idle joint sizes jointState keep prunedSet size passesFrom passes live N most choose unrank sized total counted count
 worked = refl
 
 pub nothing : listing [] ≡ bad

@@ -9,3 +9,4 @@ pub mod Tells
 pub mod Distinct
 pub mod Blocks
 pub mod Fronts
+pub mod Decimal

@@ -32,6 +32,9 @@ tells-eq a b = record { yes = eqb-true a b; no = eqb-false a b }
 pub tells-never : Tells false ⊥
 tells-never = record { yes = λ q. contra q refl; no = λ q h. h }
 
+pub tells-always : Tells true (Unit {0})
+tells-always = record { yes = λ q. tt; no = λ q h. contra refl q }
+
 pub tells-not : {b : Bool} {P : Type 0} → Tells b P → Tells (not b) (P → ⊥)
 tells-not {b = true} t = record { yes = λ q. contra q refl; no = λ q n. n (t .yes refl) }
 tells-not {b = false} t = record { yes = λ q. t .no refl; no = λ q n. contra refl q }

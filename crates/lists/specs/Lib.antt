@@ -1,2 +1,3 @@
 -- The definitions that other crates cite.
 pub mod Lists
+pub mod Decimal

@@ -1,11 +1,12 @@
 -- The words of demand 3 are not empty.
 -- Why: reading computes on each text, and reading agrees with the words. Assumes nothing.
+use mathlib.Core.Option.{orElse}
 use mathlib.Core.Path.{_≡_, refl, subst}
-use mathlib.Core.Logic.{inl}
+use mathlib.Core.Logic.{inl, inr}
 use mathlib.Core.List.{List, [], _∷_}
 use Prim.Native.Nat.{ℕ, _<_}
 use native.Mathlib.Omega.{arith}
-use lib.ListN.{length-replicate}
+use lib.ListN.{length, length-replicate}
 use Rattle.lists.specs.Lists.{range}
 use Rattle.automaton.specs.Joint.{both, join, idle, joint, sizes, jointState}
 use Rattle.automaton.specs.Pruning.{keep, prunedSet, size, passesFrom, passes, live}
@@ -13,12 +14,12 @@ use Rattle.automaton.specs.Counting.{N}
 use Rattle.automaton.specs.Ranking.{choose, unrank, firstViolation}
 use Rattle.automaton.proofs.Counting.{scenarios-sound, stays-live, stays-events}
 use Rattle.automaton.proofs.Ranking.{index-belongs, firstViolation-none}
-use Rattle.promises.specs.Text.{onto, splitOn, init, lastOf, lines, unended, fields, digitsValue, number, same, numbers, one, three, form, decode, decoded, role, addLine, extended, monitorsFrom, monitors, statesOf, startOf, latest, product, eventsOf, Readable, Fault, Case1, Case7}
+use Rattle.promises.specs.Text.{onto, splitOn, init, lastOf, lines, unended, fields, digitsValue, number, same, field, end, one, two, three, form, decode, decoded, addPart, extended, monitorsFrom, monitors, statesOf, startOf, latest, product, eventsOf, Readable, Fault, Case1, Case7}
 use Rattle.promises.specs.Answer.{served, refused, Served}
 use Rattle.promises.specs.Meaning.{Belongs}
-use Rattle.promises.specs.Reading.{goOut, isMove, moves, goAgain, tests, isOther, lineCase, readingFrom, reading}
-use Rattle.promises.specs.Rig.{leadsTo, target, monitorOf, standing, linesAutomaton, linesStart, rigAutomaton, start}
-use Rattle.promises.specs.Examples.{A, B, most-joint-states, Words, mon-without-S, last-line-unended, leading-zero, six-digits, doubled-tab, seventeen-events, fifth-monitor, go-again, nothing, rig-later, go-before-mon, too-many-joint-states}
+use Rattle.promises.specs.Reading.{leadsTo, moveBy, testBeginning, ofLatest, testContinuing, tests, lineCase, readingFrom, reading}
+use Rattle.promises.specs.Rig.{nextOf, monitorOf, standing, linesAutomaton, linesStart, rigAutomaton, start}
+use Rattle.promises.specs.Examples.{A, B, most-events, most-joint-states, Words, mon-without-S, last-line-unended, leading-zero, six-digits, empty-field, seventeen-events, five-digits, fifth-monitor, go-again-out-of-range, go-again, nothing, rig-alone, rig-later, go-before-mon, too-many-joint-states}
 use Rattle.promises.proofs.Reading.{reading-refuses, reading-serves}
 use Rattle.promises.proofs.Meaning.{text-belongs}
 use Rattle.promises.proofs.Answers.{belongs-listed}
@@ -26,35 +27,43 @@ use Rattle.promises.proofs.Answers.{belongs-listed}
 record Readings : Type 0 where
   of-A : reading A ≡ served []
   of-B : reading B ≡ served []
-  of-most : reading most-joint-states ≡ served []
+  of-most-events : reading most-events ≡ served []
+  of-most-joint-states : reading most-joint-states ≡ served []
   of-mon-without-S : reading mon-without-S ≡ refused 2 2
   of-last-line-unended : reading last-line-unended ≡ refused 2 2
   of-leading-zero : reading leading-zero ≡ refused 2 1
   of-six-digits : reading six-digits ≡ refused 2 1
-  of-doubled-tab : reading doubled-tab ≡ refused 2 1
+  of-empty-field : reading empty-field ≡ refused 2 1
   of-seventeen-events : reading seventeen-events ≡ refused 3 1
+  of-five-digits : reading five-digits ≡ refused 3 1
   of-fifth-monitor : reading fifth-monitor ≡ refused 3 6
+  of-go-again-out-of-range : reading go-again-out-of-range ≡ refused 3 4
   of-go-again : reading go-again ≡ refused 4 4
   of-nothing : reading nothing ≡ refused 5 1
+  of-rig-alone : reading rig-alone ≡ refused 5 2
   of-rig-later : reading rig-later ≡ refused 5 2
   of-go-before-mon : reading go-before-mon ≡ refused 5 2
   of-too-many-joint-states : reading too-many-joint-states ≡ refused 6 4
 
 readings : Readings
-unfolding reading readingFrom lineCase isOther tests goOut goAgain moves isMove decoded lines unended splitOn onto init lastOf decode fields form one three numbers number digitsValue same monitors monitorsFrom extended role addLine latest statesOf product eventsOf
+unfolding reading readingFrom lineCase tests testBeginning testContinuing ofLatest moveBy leadsTo orElse decoded lines unended splitOn onto init lastOf decode fields form one two three field end number digitsValue same monitors monitorsFrom extended addPart latest statesOf product eventsOf
 readings = record {
   of-A = refl;
   of-B = refl;
-  of-most = refl;
+  of-most-events = refl;
+  of-most-joint-states = refl;
   of-mon-without-S = refl;
   of-last-line-unended = refl;
   of-leading-zero = refl;
   of-six-digits = refl;
-  of-doubled-tab = refl;
+  of-empty-field = refl;
   of-seventeen-events = refl;
+  of-five-digits = refl;
   of-fifth-monitor = refl;
+  of-go-again-out-of-range = refl;
   of-go-again = refl;
   of-nothing = refl;
+  of-rig-alone = refl;
   of-rig-later = refl;
   of-go-before-mon = refl;
   of-too-many-joint-states = refl;
@@ -65,39 +74,49 @@ unfolding Served
 readable t q = reading-serves t .0 ([], q)
 
 -- index 4 of A at horizon 3, and where 0 1 1 leaves the live states
-four-below : 4 < N (rigAutomaton A) 3 (start A)
-unfolding reading readingFrom lineCase isOther tests goOut goAgain moves isMove decoded lines unended splitOn onto init lastOf decode fields form one three numbers number digitsValue same monitors monitorsFrom extended role addLine latest statesOf product eventsOf startOf leadsTo target monitorOf standing linesAutomaton linesStart rigAutomaton start range both join idle joint sizes jointState keep prunedSet size passesFrom passes live N choose unrank firstViolation
-four-below = omega arith
+record Scenarios-A : Type 0 where
+  four-below : 4 < N (rigAutomaton A) 3 (start A)
+  four-is : unrank (rigAutomaton A) 3 (start A) 4 ≡ 1 ∷ 0 ∷ 1 ∷ []
+  leaves-at : firstViolation (rigAutomaton A) (start A) (0 ∷ 1 ∷ 1 ∷ []) ≡ 2
 
-four-is : unrank (rigAutomaton A) 3 (start A) 4 ≡ 1 ∷ 0 ∷ 1 ∷ []
-unfolding reading readingFrom lineCase isOther tests goOut goAgain moves isMove decoded lines unended splitOn onto init lastOf decode fields form one three numbers number digitsValue same monitors monitorsFrom extended role addLine latest statesOf product eventsOf startOf leadsTo target monitorOf standing linesAutomaton linesStart rigAutomaton start range both join idle joint sizes jointState keep prunedSet size passesFrom passes live N choose unrank firstViolation
-four-is = refl
+scenarios-A : Scenarios-A
+unfolding decoded lines unended splitOn onto init lastOf decode fields form one two three field end number digitsValue same monitors monitorsFrom extended addPart latest statesOf product eventsOf startOf moveBy leadsTo orElse nextOf monitorOf standing linesAutomaton linesStart rigAutomaton start range both join idle joint sizes jointState keep prunedSet size passesFrom passes live N choose unrank firstViolation
+scenarios-A = record { four-below = omega arith; four-is = refl; leaves-at = refl }
 
-leaves-at : firstViolation (rigAutomaton A) (start A) (0 ∷ 1 ∷ 1 ∷ []) ≡ 2
-unfolding reading readingFrom lineCase isOther tests goOut goAgain moves isMove decoded lines unended splitOn onto init lastOf decode fields form one three numbers number digitsValue same monitors monitorsFrom extended role addLine latest statesOf product eventsOf startOf leadsTo target monitorOf standing linesAutomaton linesStart rigAutomaton start range both join idle joint sizes jointState keep prunedSet size passesFrom passes live N choose unrank firstViolation
-leaves-at = refl
+-- the limit is met by 65,535 bytes: the other cases have a line as their place
+long-enough : (t : List ℕ) → length t ≡ 65535 → Fault t 1 0 → ⊥
+unfolding Fault Case1
+long-enough t q (inl (c, a, b)) = omega arith
+long-enough t q (inr (inl (c, (front, l, back, e, s, f, p)))) = omega arith
+long-enough t q (inr (inr (inl (c, s, u, n, p)))) = omega arith
+long-enough t q (inr (inr (inr (c, s, u, m, n, p)))) = omega arith
 
 pub words : Words
 unfolding Fault Case1 Case7
 words = record {
   readable-A = r;
   readable-B = readable B (readings .of-B);
-  readable-most = readable most-joint-states (readings .of-most);
-  belongs = subst (Belongs A 3) four-is (text-belongs A r 3 (unrank (rigAutomaton A) 3 (start A) 4) .1 (index-belongs (rigAutomaton A) 3 (start A) 4 four-below));
+  readable-most-events = readable most-events (readings .of-most-events);
+  readable-most-joint-states = readable most-joint-states (readings .of-most-joint-states);
+  belongs = subst (Belongs A 3) (scenarios-A .four-is) (text-belongs A r 3 (unrank (rigAutomaton A) 3 (start A) 4) .1 (index-belongs (rigAutomaton A) 3 (start A) 4 (scenarios-A .four-below)));
   not-belongs = λ b.
       let w = scenarios-sound (rigAutomaton A) 3 (start A) (0 ∷ 1 ∷ 1 ∷ []) (belongs-listed A 3 r (λ c. omega arith) (0 ∷ 1 ∷ 1 ∷ []) .0 b) .1 in
       let q : firstViolation (rigAutomaton A) (start A) (0 ∷ 1 ∷ 1 ∷ []) ≡ 3 = firstViolation-none (rigAutomaton A) (start A) (0 ∷ 1 ∷ 1 ∷ []) (stays-live (rigAutomaton A) (start A) (0 ∷ 1 ∷ 1 ∷ []) w) (stays-events (rigAutomaton A) (start A) (0 ∷ 1 ∷ 1 ∷ []) w) .1 w in
-      omega (arith, leaves-at);
+      omega (arith, scenarios-A .leaves-at);
   fault-too-long = inl (omega (arith, length-replicate {A = ℕ} 65536 10), refl, refl);
+  never-too-long = long-enough;
   fault-mon-without-S = reading-refuses mon-without-S 2 2 .0 (readings .of-mon-without-S);
   fault-last-line-unended = reading-refuses last-line-unended 2 2 .0 (readings .of-last-line-unended);
   fault-leading-zero = reading-refuses leading-zero 2 1 .0 (readings .of-leading-zero);
   fault-six-digits = reading-refuses six-digits 2 1 .0 (readings .of-six-digits);
-  fault-doubled-tab = reading-refuses doubled-tab 2 1 .0 (readings .of-doubled-tab);
+  fault-empty-field = reading-refuses empty-field 2 1 .0 (readings .of-empty-field);
   fault-seventeen-events = reading-refuses seventeen-events 3 1 .0 (readings .of-seventeen-events);
+  fault-five-digits = reading-refuses five-digits 3 1 .0 (readings .of-five-digits);
   fault-fifth-monitor = reading-refuses fifth-monitor 3 6 .0 (readings .of-fifth-monitor);
+  fault-go-again-out-of-range = reading-refuses go-again-out-of-range 3 4 .0 (readings .of-go-again-out-of-range);
   fault-go-again = reading-refuses go-again 4 4 .0 (readings .of-go-again);
   fault-nothing = reading-refuses nothing 5 1 .0 (readings .of-nothing);
+  fault-rig-alone = reading-refuses rig-alone 5 2 .0 (readings .of-rig-alone);
   fault-rig-later = reading-refuses rig-later 5 2 .0 (readings .of-rig-later);
   fault-go-before-mon = reading-refuses go-before-mon 5 2 .0 (readings .of-go-before-mon);
   fault-too-many-joint-states = reading-refuses too-many-joint-states 6 4 .0 (readings .of-too-many-joint-states);

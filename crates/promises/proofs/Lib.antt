@@ -1,5 +1,7 @@
 -- The theorems over the definitions of specs/.
 pub mod Lines
+pub mod Pieces
+pub mod Spelling
 pub mod Reading
 pub mod Meaning
 pub mod Order

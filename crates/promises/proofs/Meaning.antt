@@ -1,55 +1,29 @@
 -- What belongs by the rig's lines is what belongs by the joint automaton of the text.
 -- Why: on a readable text a monitor's automaton moves exactly along its `go` lines, and the joint automaton admits what every monitor does.
 -- Assumes nothing.
-use mathlib.Core.Path.{_≡_, refl, sym, ap, _∙_, subst}
-use mathlib.Core.Logic.{_⊎_, inl, inr, _≢_, _↔_, ⊎-elim}
+use mathlib.Core.Path.{_≡_, refl, ap, _∙_}
+use mathlib.Core.Logic.{inl, _≢_, _↔_}
 use mathlib.Core.Bool.{false}
+use mathlib.Core.Option.{Option, none, some, Option·getD}
 use mathlib.Core.List.{List, [], _∷_, _++_, append-nil, List·Memᴰ as In, List·Memᴰ·head as here, List·Memᴰ·tail as there, List·Memᴰ·not-nil}
 use Prim.Native.Nat.{ℕ, _*_, _≤_, _<_}
 use native.Mathlib.Omega.{arith}
 use lib.ListN.{length}
 use Rattle.lists.specs.Lists.{range, Pairwise}
-use Rattle.lists.proofs.Tests.{case}
 use Rattle.lists.proofs.Ordered.{range-in, range-ordered, pairwise-imp}
 use Rattle.automaton.specs.Automaton as automaton
 use Rattle.automaton.specs.Automaton.{Automaton}
 use Rattle.automaton.specs.Joint.{idle, joint, sizes, jointState, Fit, EachAdmits}
 use Rattle.automaton.proofs.Joint.{joint-admits, joint-states, joint-events, joint-state, join-never}
 use Rattle.automaton.proofs.Counting.{carried-plain}
-use Rattle.promises.specs.Text.{Line, go, Monitor, monitors, statesOf, startOf, product, eventsOf, decoded, Readable, jointStates}
-use Rattle.promises.specs.Meaning.{Admits, AllAdmit, CarriedOn, Belongs}
-use Rattle.promises.specs.Reading.{isMove}
-use Rattle.promises.specs.Rig.{leadsTo, target, monitorOf, standing, linesAutomaton, linesStart, rigAutomaton, start}
-use Rattle.promises.proofs.Lines.{WellFormed, readable-formed}
-use Rattle.promises.proofs.Reading.{is-move}
+use Rattle.promises.specs.Text.{Kind, mon, Part, go, Monitor, monitors, statesOf, startOf, product, eventsOf, decoded, Readable, jointStates}
+use Rattle.promises.specs.Meaning.{Follows, Says, Admits, AllAdmit, CarriedOn, Belongs}
+use Rattle.promises.specs.Reading.{moveBy}
+use Rattle.promises.specs.Rig.{nextOf, monitorOf, standing, linesAutomaton, linesStart, rigAutomaton, start}
+use Rattle.promises.proofs.Lines.{Once, PartRanged, Kept, WellFormed, start-below, readable-formed}
+use Rattle.promises.proofs.Reading.{moved, moves}
 
 -- ---- one monitor
-
-leads-to : (s e : ℕ) (l : Line) (u : ℕ) → go s e u ≡ l → leadsTo l ≡ u
-unfolding leadsTo
-leads-to s e l u q = subst (λ k. leadsTo k ≡ u) q refl
-
--- where the body has a line for s and e, and just one target, the automaton moves there
-target-in : (z : ℕ) (ls : List Line) (s e t : ℕ) → ((u : ℕ) → In (go s e u) ls → t ≡ u) → In (go s e t) ls → target z ls s e ≡ t
-unfolding target
-target-in z [] s e t one i = absurd (List·Memᴰ·not-nil i)
-target-in z (l ∷ ls) s e t one i =
-    case (isMove s e l)
-    (λ q. let (u, r) = is-move s e l .yes q in rw q (leads-to s e l u r ∙ sym (one u (here r))))
-    (λ q. rw q (later (is-move s e l .no q) i (target-in z ls s e t (λ u j. one u (there j)))))
-  where
-    later : ((u : ℕ) × (go s e u ≡ l) → ⊥) → In (go s e t) (l ∷ ls) → (In (go s e t) ls → target z ls s e ≡ t) → target z ls s e ≡ t
-    later n (here q) ih = absurd (n (t, q))
-    later n (there j) ih = ih j
-
--- where the automaton moves to a state, the body has that line
-target-found : (z : ℕ) (ls : List Line) (s e : ℕ) → (target z ls s e ≡ z) ⊎ In (go s e (target z ls s e)) ls
-unfolding target
-target-found z [] s e = inl refl
-target-found z (l ∷ ls) s e =
-    case (isMove s e l)
-    (λ q. let (u, r) = is-move s e l .yes q in let here-is : go s e (leadsTo l) ≡ l = rw (leads-to s e l u r) r in rw q (inr (here here-is)))
-    (λ q. rw q (⊎-elim (λ r. inl r) (λ i. inr (there i)) (target-found z ls s e)))
 
 admits-state : (A : Automaton) (x : ℕ) (v : List ℕ) → automaton.Admits A x v → x < A .states
 unfolding automaton.Admits
@@ -62,66 +36,89 @@ unfolding automaton.Admits idle
 idle-admits A x [] a = omega arith
 idle-admits A x (e ∷ v) a = (omega arith, a .1, idle-admits A (A .next x e) v (a .2))
 
-module _ (E : ℕ) (ms : List Monitor) (w : WellFormed E ms) where
-  -- a monitor admits a sequence exactly when its automaton does
-  pub monitor-admits : (m : Monitor) → In m ms → (s : ℕ) (v : List ℕ) → s < statesOf (m .head) → Admits m s v ↔ automaton.Admits (monitorOf E m) s v
-  unfolding Admits automaton.Admits monitorOf
-  monitor-admits m i s [] h = (λ a. h, λ a. tt)
-  monitor-admits m i s (e ∷ v) h = (λ (t, j, a). onward t j (w .ranged m i s e t j) (monitor-admits m i t v) a, λ a. back a (monitor-admits m i (target (statesOf (m .head)) (m .body) s e) v) (target-found (statesOf (m .head)) (m .body) s e))
+-- where the lines of a monitor move, they move to one state only
+pub move-is : (E : ℕ) (m : Monitor) → Kept E m → (s e t : ℕ) → In (go s e t) (m .parts) → moveBy (m .parts) s e ≡ some t
+unfolding Once
+move-is E m k s e t i = let (u, q) = moves (m .parts) s e t i in q ∙ ap some (k .move-once s e u t (moved (m .parts) s e u q) i)
+
+-- a `mon` monitor admits just the sequences that its `go` lines lead on
+module _ (E S : ℕ) (ps : List Part) (k : Kept E (record { kind = mon S; parts = ps })) where
+  in-range : (s e t : ℕ) → In (go s e t) ps → (s < S) × (e < E) × (t < S)
+  unfolding PartRanged statesOf
+  in-range s e t i = k .parts-ranged (go s e t) i
+
+  abbrev table : Automaton
+  table = monitorOf E (record { kind = mon S; parts = ps })
+
+  mon-admits : (s : ℕ) (v : List ℕ) → s < S → Follows ps s v ↔ automaton.Admits table s v
+  unfolding Follows automaton.Admits monitorOf nextOf statesOf
+  mon-admits s [] h = (λ a. h, λ a. tt)
+  mon-admits s (e ∷ v) h = (λ (t, j, a). onward t j (in-range s e t j) (mon-admits t v) a, λ a. back a (mon-admits (table .next s e) v) (moveBy ps s e) refl)
     where
-      onward : (t : ℕ) → In (go s e t) (m .body) → (s < statesOf (m .head)) × (e < E) × (t < statesOf (m .head))
-          → (t < statesOf (m .head) → Admits m t v ↔ automaton.Admits (monitorOf E m) t v) → Admits m t v
-          → (s < statesOf (m .head)) × In e (range E) × automaton.Admits (monitorOf E m) (target (statesOf (m .head)) (m .body) s e) v
-      onward t j (a, b, c) ih k = (a, range-in E e .1 b, rw (target-in (statesOf (m .head)) (m .body) s e t (λ u. w .once m i s e t u j) j) (ih c .0 k))
+      onward : (t : ℕ) → In (go s e t) ps → (s < S) × (e < E) × (t < S) → (t < S → Follows ps t v ↔ automaton.Admits table t v) → Follows ps t v
+          → (s < S) × In e (range E) × automaton.Admits table (Option·getD (moveBy ps s e) S) v
+      onward t j (a, b, c) ih f = (a, range-in E e .1 b, rw (move-is E (record { kind = mon S; parts = ps }) k s e t j) (ih c .0 f))
 
-      back : (s < statesOf (m .head)) × In e (range E) × automaton.Admits (monitorOf E m) (target (statesOf (m .head)) (m .body) s e) v
-          → (target (statesOf (m .head)) (m .body) s e < statesOf (m .head) → Admits m (target (statesOf (m .head)) (m .body) s e) v ↔ automaton.Admits (monitorOf E m) (target (statesOf (m .head)) (m .body) s e) v)
-          → (target (statesOf (m .head)) (m .body) s e ≡ statesOf (m .head)) ⊎ In (go s e (target (statesOf (m .head)) (m .body) s e)) (m .body)
-          → (t : ℕ) × In (go s e t) (m .body) × Admits m t v
-      back (a, b, c) ih (inl q) = let lt : target (statesOf (m .head)) (m .body) s e < statesOf (m .head) = admits-state (monitorOf E m) _ v c in absurd (omega arith)
-      back (a, b, c) ih (inr j) = (target (statesOf (m .head)) (m .body) s e, j, ih (w .ranged m i s e _ j .2) .1 c)
+      back : (s < S) × In e (range E) × automaton.Admits table (Option·getD (moveBy ps s e) S) v
+          → (Option·getD (moveBy ps s e) S < S → Follows ps (Option·getD (moveBy ps s e) S) v ↔ automaton.Admits table (Option·getD (moveBy ps s e) S) v)
+          → (o : Option ℕ) → moveBy ps s e ≡ o → (t : ℕ) × In (go s e t) ps × Follows ps t v
+      back (a, b, c) ih none q = let lt : S < S = rw q at (admits-state table _ v c) in absurd (omega arith)
+      back (a, b, c) ih (some t) q = let j = moved ps s e t q in let f = ih (rw q (in-range s e t j .2)) .1 c in (t, j, rw q at f)
 
-  start-below : (m : Monitor) → In m ms → startOf (m .head) < statesOf (m .head)
-  unfolding startOf
-  start-below m i = w .some-state m i
+-- a monitor admits a sequence exactly when its automaton does: one clause a kind
+kind-admits : (E : ℕ) (k : Kind) (ps : List Part) → Kept E (record { kind = k; parts = ps }) → (s : ℕ) (v : List ℕ) → s < statesOf k
+    → Says k ps s v ↔ automaton.Admits (monitorOf E (record { kind = k; parts = ps })) s v
+unfolding Says statesOf
+kind-admits E (mon S) ps k s v h = mon-admits E S ps k s v h
+
+pub monitor-admits : (E : ℕ) (m : Monitor) → Kept E m → (s : ℕ) (v : List ℕ) → s < statesOf (m .kind) → Admits m s v ↔ automaton.Admits (monitorOf E m) s v
+unfolding Admits
+monitor-admits E m k s v h = kind-admits E (m .kind) (m .parts) k s v h
+
+module _ (E : ℕ) (ms : List Monitor) (w : WellFormed E ms) where
+  starts : (m : Monitor) → In m ms → startOf (m .kind) < statesOf (m .kind)
+  starts m i = start-below (m .kind) (w .each m i .ranged)
+
+  from-start : (m : Monitor) → In m ms → (v : List ℕ) → Admits m (startOf (m .kind)) v ↔ automaton.Admits (monitorOf E m) (startOf (m .kind)) v
+  from-start m i v = monitor-admits E m (w .each m i) (startOf (m .kind)) v (starts m i)
 
   pub standing-fits : (ks : List Monitor) → ((m : Monitor) → In m ks → In m ms) → Fit (range E) (standing E ks)
   unfolding Fit standing monitorOf
   standing-fits [] sub = tt
-  standing-fits (m ∷ ks) sub = (refl, start-below m (sub m (here refl)), standing-fits ks (λ k i. sub k (there i)))
+  standing-fits (m ∷ ks) sub = (refl, starts m (sub m (here refl)), standing-fits ks (λ k i. sub k (there i)))
 
   each-admits : (ks : List Monitor) → ((m : Monitor) → In m ks → In m ms) → (v : List ℕ)
-      → EachAdmits (range E) (standing E ks) v ↔ (((m : Monitor) → In m ks → Admits m (startOf (m .head)) v) × automaton.Admits (idle (range E)) 0 v)
+      → EachAdmits (range E) (standing E ks) v ↔ (((m : Monitor) → In m ks → Admits m (startOf (m .kind)) v) × automaton.Admits (idle (range E)) 0 v)
   unfolding EachAdmits standing
   each-admits [] sub v = (λ a. (λ m i. absurd (List·Memᴰ·not-nil i), a), λ a. a .1)
   each-admits (m ∷ ks) sub v =
-      let one = monitor-admits m (sub m (here refl)) (startOf (m .head)) v (start-below m (sub m (here refl))) in
+      let one = from-start m (sub m (here refl)) v in
       let rest = each-admits ks (λ k i. sub k (there i)) v in
       (λ (a, b). (all (one .1 a) (rest .0 b .0), rest .0 b .1), λ (a, b). (one .0 (a m (here refl)), rest .1 (λ k i. a k (there i), b)))
     where
-      all : Admits m (startOf (m .head)) v → ((k : Monitor) → In k ks → Admits k (startOf (k .head)) v) → (k : Monitor) → In k (m ∷ ks) → Admits k (startOf (k .head)) v
+      all : Admits m (startOf (m .kind)) v → ((k : Monitor) → In k ks → Admits k (startOf (k .kind)) v) → (k : Monitor) → In k (m ∷ ks) → Admits k (startOf (k .kind)) v
       all a b k (here q) = rw q a
       all a b k (there i) = b k i
 
   -- every monitor admits a sequence exactly when the joint automaton does from the start
   pub all-admit : ms ≢ [] → (v : List ℕ)
-      → ((m : Monitor) → In m ms → Admits m (startOf (m .head)) v) ↔ automaton.Admits (joint (range E) (standing E ms)) (jointState (standing E ms)) v
+      → ((m : Monitor) → In m ms → Admits m (startOf (m .kind)) v) ↔ automaton.Admits (joint (range E) (standing E ms)) (jointState (standing E ms)) v
   unfolding monitorOf
-  all-admit some v =
+  all-admit full v =
       let jointly = joint-admits (range E) (standing E ms) v (standing-fits ms (λ m i. i)) in
-      let concatMap = each-admits ms (λ m i. i) v in
-      (λ a. jointly .1 (concatMap .1 (a, of-events ms some (λ m i. i) a)), λ a. concatMap .0 (jointly .0 a) .0)
+      let each = each-admits ms (λ m i. i) v in
+      (λ a. jointly .1 (each .1 (a, of-events ms full (λ m i. i) a)), λ a. each .0 (jointly .0 a) .0)
     where
-      of-events : (ks : List Monitor) → ks ≢ [] → ((m : Monitor) → In m ks → In m ms) → ((m : Monitor) → In m ks → Admits m (startOf (m .head)) v) → automaton.Admits (idle (range E)) 0 v
-      of-events [] none sub a = absurd (none refl)
-      of-events (m ∷ ks) none sub a = idle-admits (monitorOf E m) (startOf (m .head)) v (monitor-admits m (sub m (here refl)) (startOf (m .head)) v (start-below m (sub m (here refl))) .0 (a m (here refl)))
+      of-events : (ks : List Monitor) → ks ≢ [] → ((m : Monitor) → In m ks → In m ms) → ((m : Monitor) → In m ks → Admits m (startOf (m .kind)) v) → automaton.Admits (idle (range E)) 0 v
+      of-events [] full sub a = absurd (full refl)
+      of-events (m ∷ ks) full sub a = idle-admits (monitorOf E m) (startOf (m .kind)) v (from-start m (sub m (here refl)) v .0 (a m (here refl)))
 
 -- ---- the text
 
-sizes-standing : (E : ℕ) (ms : List Monitor) → sizes (standing E ms) ≡ product ms
+pub sizes-standing : (E : ℕ) (ms : List Monitor) → sizes (standing E ms) ≡ product ms
 unfolding sizes standing product monitorOf
 sizes-standing E [] = refl
-sizes-standing E (m ∷ ms) = ap (λ p. statesOf (m .head) * p) (sizes-standing E ms)
+sizes-standing E (m ∷ ms) = ap (λ p. statesOf (m .kind) * p) (sizes-standing E ms)
 
 -- P of the automaton is P of the lines, on any text
 pub rig-states : (t : List ℕ) → rigAutomaton t .states ≡ jointStates t
@@ -130,8 +127,8 @@ rig-states t = joint-states (range (eventsOf (decoded t))) (standing (eventsOf (
 
 never-stops : (E : ℕ) (es : List ℕ) (ms : List Monitor) → ms ≢ [] → (x : ℕ) → joint es (standing E ms) .stop x ≡ false
 unfolding joint standing monitorOf
-never-stops E es [] some x = absurd (some refl)
-never-stops E es (m ∷ ms) some x = join-never (monitorOf E m) (joint es (standing E ms)) (inl (λ s. refl)) x
+never-stops E es [] full x = absurd (full refl)
+never-stops E es (m ∷ ms) full x = join-never (monitorOf E m) (joint es (standing E ms)) (inl (λ s. refl)) x
 
 module _ (t : List ℕ) (r : Readable t) where
   well-formed : WellFormed (eventsOf (decoded t)) (monitors (decoded t))

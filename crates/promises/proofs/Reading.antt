@@ -2,18 +2,20 @@
 -- Why: each test tells its case, line by line; after sound lines the search stands where the first bad line is. Assumes nothing.
 use mathlib.Core.Path.{_≡_, refl, sym, ap, _∙_, subst}
 use mathlib.Core.Logic.{_⊎_, inl, inr, _≢_, _↔_}
-use mathlib.Core.Bool.{not, _&&_}
-use mathlib.Core.List.{List, [], _∷_, _++_, append-nil, append-assoc, List·Memᴰ as In, List·Memᴰ·head as here, List·Memᴰ·tail as there, List·Memᴰ·not-nil}
-use mathlib.Core.Option.{Option, none, some}
+use mathlib.Core.Bool.{Bool, not, _&&_}
+use mathlib.Core.List.{List, [], _∷_, _++_, append-nil, append-assoc, List·Memᴰ as In, List·Memᴰ·head as here, List·Memᴰ·tail as there}
+use mathlib.Core.Option.{Option, none, some, orElse, Option·none-ne-some}
 use Prim.Native.Nat.{ℕ, suc, _*_, _≤_, _<_}
 use native.Mathlib.Omega.{arith}
 use lib.ListN.{length}
 use lib.Dec.{ltb, eqb}
+use borrow.Author.Tests.{eq-eqb}
+use Rattle.lists.specs.Lists.{pick}
 use Rattle.lists.proofs.Tests.{contra, case}
-use Rattle.lists.proofs.Tells.{Tells, tells-true, tells-false, tells-lt, tells-le, tells-eq, tells-never, tells-not, tells-or, tells-and}
+use Rattle.lists.proofs.Tells.{Tells, tells-true, tells-false, tells-lt, tells-le, tells-eq, tells-never, tells-always, tells-not, tells-or, tells-and}
 use Rattle.promises.specs.Answer.{served, refused, Served, unless}
-use Rattle.promises.specs.Text.{Line, rig, mon, go, other, Monitor, monitors, latest, statesOf, eventsOf, product, decoded, unended, GoOut, GoAgain, cases, Case1, Case2, Case3, Case4, Case5, Case6, Sound, AllSound, Readable, LineFault, Fault}
-use Rattle.promises.specs.Reading.{empty, goOut, isMove, moves, goAgain, tests, isOther, lineCase, readingFrom, reading}
+use Rattle.promises.specs.Text.{Kind, mon, Part, go, Line, rig, begins, continues, other, Monitor, monitors, latest, statesOf, eventsOf, product, decoded, unended, Outside, Cases, beginning, OfLatest, continuing, cases, Case1, Case2, Case3, Case4, Case5, Case6, Sound, AllSound, Readable, LineFault, Fault}
+use Rattle.promises.specs.Reading.{empty, isSome, leadsTo, moveBy, Tests, outside, testBeginning, ofLatest, testContinuing, tests, lineCase, readingFrom, reading}
 use Rattle.promises.proofs.Lines.{not-empty}
 
 -- ---- each test tells its case
@@ -22,114 +24,139 @@ pub tells-empty : {A : Type 0} (l : List A) → Tells (empty l) (l ≡ [])
 tells-empty [] = record { yes = λ q. refl; no = λ q h. contra refl q }
 tells-empty (x ∷ l) = record { yes = λ q. contra q refl; no = λ q. not-empty x l }
 
-tells-other : (l : Line) → Tells (isOther l) (l ≡ other)
-unfolding isOther
-tells-other (rig e) = record { yes = λ q. contra q refl; no = λ q h. let z : _≡_ {A = ℕ} 0 1 = cc in omega arith }
-tells-other (mon s) = record { yes = λ q. contra q refl; no = λ q h. let z : _≡_ {A = ℕ} 0 1 = cc in omega arith }
-tells-other (go s e t) = record { yes = λ q. contra q refl; no = λ q h. let z : _≡_ {A = ℕ} 0 1 = cc in omega arith }
-tells-other other = record { yes = λ q. refl; no = λ q h. contra refl q }
+tells-outside : (lo hi n : ℕ) → Tells (outside lo hi n) (Outside lo hi n)
+tells-outside lo hi n = tells-or (tells-lt n lo) (tells-lt hi n)
 
-tells-goOut : (E s e t : ℕ) (m : Option Monitor) → Tells (goOut E s e t m) (GoOut E s e t m)
-unfolding goOut GoOut
-tells-goOut E s e t none = tells-never
-tells-goOut E s e t (some m) = tells-or (tells-le (statesOf (m .head)) s) (tells-or (tells-le E e) (tells-le (statesOf (m .head)) t))
-
--- a line that moves from s on e is `go` s e u for some u
-pub is-move : (s e : ℕ) (l : Line) → Tells (isMove s e l) ((u : ℕ) × (go s e u ≡ l))
-unfolding isMove
-is-move s e (rig a) = record { yes = λ q. contra q refl; no = λ q h. let w : go s e (h .0) ≡ rig a = h .1 in let z : _≡_ {A = ℕ} 0 1 = cc in omega arith }
-is-move s e (mon a) = record { yes = λ q. contra q refl; no = λ q h. let w : go s e (h .0) ≡ mon a = h .1 in let z : _≡_ {A = ℕ} 0 1 = cc in omega arith }
-is-move s e (go a b c) =
-    let both : Tells (eqb a s && eqb b e) ((a ≡ s) × (b ≡ e)) = tells-and (tells-eq a s) (tells-eq b e) in
-    record {
-      yes = λ q. let (x, y) = both .yes q in (c, rw (x, y) refl);
-      no = λ q h. let w : go s e (h .0) ≡ go a b c = h .1 in let x : a ≡ s = cc in let y : b ≡ e = cc in both .no q (x, y);
-    }
-is-move s e other = record { yes = λ q. contra q refl; no = λ q h. let w : go s e (h .0) ≡ other = h .1 in let z : _≡_ {A = ℕ} 0 1 = cc in omega arith }
-
-pub tells-moves : (s e : ℕ) (ls : List Line) → Tells (moves s e ls) ((u : ℕ) × In (go s e u) ls)
-unfolding moves
-tells-moves s e [] = record { yes = λ q. contra q refl; no = λ q h. List·Memᴰ·not-nil (h .1) }
-tells-moves s e (l ∷ ls) =
-    let t = tells-or (is-move s e l) (tells-moves s e ls) in
-    record { yes = λ q. found (t .yes q); no = λ q h. t .no q (where-is h) }
+-- a line that moves from s on e to u is `go` s e u
+leads-is : (s e : ℕ) (p : Part) (u : ℕ) → (leadsTo s e p ≡ some u) ↔ (p ≡ go s e u)
+unfolding leadsTo
+leads-is s e (go a b c) u = (to, from)
   where
-    found : ((u : ℕ) × (go s e u ≡ l)) ⊎ ((u : ℕ) × In (go s e u) ls) → (u : ℕ) × In (go s e u) (l ∷ ls)
-    found (inl (u, q)) = (u, here q)
-    found (inr (u, i)) = (u, there i)
+    to : pick (eqb a s && eqb b e) (some c) none ≡ some u → go a b c ≡ go s e u
+    to q =
+        case (eqb a s && eqb b e)
+        (λ t. let z : some c ≡ some u = rw t at q in let w : c ≡ u = cc in let (x, y) = tells-and (tells-eq a s) (tells-eq b e) .yes t in rw (x, y, w))
+        (λ t. absurd (Option·none-ne-some u (rw t at q)))
 
-    where-is : (u : ℕ) × In (go s e u) (l ∷ ls) → ((u : ℕ) × (go s e u ≡ l)) ⊎ ((u : ℕ) × In (go s e u) ls)
-    where-is (u, here q) = inl (u, q)
-    where-is (u, there i) = inr (u, i)
+    from : go a b c ≡ go s e u → pick (eqb a s && eqb b e) (some c) none ≡ some u
+    from q =
+        let x : a ≡ s = cc in
+        let y : b ≡ e = cc in
+        let z : c ≡ u = cc in
+        rw (x, y, z, eq-eqb s s refl, eq-eqb e e refl)
 
-tells-goAgain : (s e : ℕ) (m : Option Monitor) → Tells (goAgain s e m) (GoAgain s e m)
-unfolding goAgain GoAgain
-tells-goAgain s e none = tells-never
-tells-goAgain s e (some m) = tells-moves s e (m .body)
+-- the lines move where one of them does
+pub moved : (ps : List Part) (s e u : ℕ) → moveBy ps s e ≡ some u → In (go s e u) ps
+unfolding moveBy orElse
+moved [] s e u q = absurd (Option·none-ne-some u q)
+moved (p ∷ ps) s e u q = step (leadsTo s e p) refl (moved ps s e u)
+  where
+    step : (o : Option ℕ) → leadsTo s e p ≡ o → (moveBy ps s e ≡ some u → In (go s e u) ps) → In (go s e u) (p ∷ ps)
+    step none t ih = there (ih (rw t at q))
+    step (some v) t ih = here (sym (leads-is s e p u .0 (t ∙ (rw t at q))))
 
--- the tests of a line, one clause a form
-record Told (ls : List Line) (l : Line) : Type 0 where
-  misplaced : Tells (tests ls l .misplaced) (Case5 ls l)
-  out-of-range : Tells (tests ls l .out-of-range) (Case3 ls l)
-  again : Tells (tests ls l .again) (Case4 ls l)
-  too-many : Tells (tests ls l .too-many) (Case6 ls l)
+pub moves : (ps : List Part) (s e t : ℕ) → In (go s e t) ps → (u : ℕ) × (moveBy ps s e ≡ some u)
+unfolding moveBy orElse
+moves (p ∷ ps) s e t (here r) = (t, rw (leads-is s e p t .1 (sym r)))
+moves (p ∷ ps) s e t (there i) = step (leadsTo s e p) (moves ps s e t i)
+  where
+    step : (o : Option ℕ) → (u : ℕ) × (moveBy ps s e ≡ some u) → (u : ℕ) × (orElse o (moveBy ps s e) ≡ some u)
+    step none ih = ih
+    step (some v) ih = (v, refl)
 
-told : (ls : List Line) (l : Line) → Told ls l
-unfolding tests Case5 Case3 Case4 Case6 cases
-told ls (rig e) = record {
-  misplaced = tells-not (tells-empty ls);
-  out-of-range = tells-or (tells-lt e 1) (tells-lt 16 e);
-  again = tells-never;
-  too-many = tells-never;
-}
-told ls (mon s) = record {
+tells-moves : (ps : List Part) (s e : ℕ) → Tells (isSome (moveBy ps s e)) ((u : ℕ) × In (go s e u) ps)
+tells-moves ps s e = step (moveBy ps s e) refl
+  where
+    step : (o : Option ℕ) → moveBy ps s e ≡ o → Tells (isSome o) ((u : ℕ) × In (go s e u) ps)
+    step none q = record { yes = λ t. contra t refl; no = λ t (u, i). let (v, r) = moves ps s e u i in Option·none-ne-some v (sym q ∙ r) }
+    step (some u) q = record { yes = λ t. (u, moved ps s e u q); no = λ t h. contra refl t }
+
+tells-latest : (f : Monitor → Bool) (P : Monitor → Type 0) → ((m : Monitor) → Tells (f m) (P m)) → (m : Option Monitor) → Tells (ofLatest f m) (OfLatest P m)
+unfolding ofLatest OfLatest
+tells-latest f P t none = tells-never
+tells-latest f P t (some m) = t m
+
+-- each of the tests tells its case
+record Told (t : Tests) (c : Cases) : Type 0 where
+  misformed : Tells (t .misformed) (c .misformed)
+  misplaced : Tells (t .misplaced) (c .misplaced)
+  out-of-range : Tells (t .out-of-range) (c .out-of-range)
+  again : Tells (t .again) (c .again)
+  too-many : Tells (t .too-many) (c .too-many)
+
+told-beginning : (ls : List Line) (k : Kind) (f : Bool) (P : Type 0) → Tells f P → Told (testBeginning ls k f) (beginning ls k P)
+unfolding testBeginning beginning
+told-beginning ls k f P out = record {
+  misformed = tells-never;
   misplaced = tells-empty ls;
-  out-of-range = tells-or (tells-lt s 1) (tells-or (tells-lt 32 s) (tells-le 4 (length (monitors ls))));
+  out-of-range = tells-or out (tells-le 4 (length (monitors ls)));
   again = tells-never;
-  too-many = tells-lt 1024 (product (monitors ls) * s);
+  too-many = tells-lt 1024 (product (monitors ls) * statesOf k);
 }
-told ls (go s e t) = record {
+
+told-continuing : (ls : List Line) (f g : Monitor → Bool) (P Q : Monitor → Type 0) → ((m : Monitor) → Tells (f m) (P m)) → ((m : Monitor) → Tells (g m) (Q m))
+    → Told (testContinuing ls f g) (continuing ls P Q)
+unfolding testContinuing continuing
+told-continuing ls f g P Q out again = record {
+  misformed = tells-never;
   misplaced = tells-or (tells-empty ls) (tells-empty (monitors ls));
-  out-of-range = tells-goOut (eventsOf ls) s e t (latest (monitors ls));
-  again = tells-goAgain s e (latest (monitors ls));
+  out-of-range = tells-latest f P out (latest (monitors ls));
+  again = tells-latest g Q again (latest (monitors ls));
   too-many = tells-never;
 }
-told ls other = record { misplaced = tells-empty ls; out-of-range = tells-never; again = tells-never; too-many = tells-never }
+
+-- one clause a form
+told : (ls : List Line) (l : Line) → Told (tests ls l) (cases ls l)
+unfolding tests cases
+told ls (rig E) = record {
+  misformed = tells-never;
+  misplaced = tells-not (tells-empty ls);
+  out-of-range = tells-outside 1 16 E;
+  again = tells-never;
+  too-many = tells-never;
+}
+told ls (begins (mon S)) = told-beginning ls (mon S) _ _ (tells-outside 1 32 S)
+told ls (continues (go s e t)) =
+    told-continuing ls _ _ _ _
+    (λ m. tells-or (tells-le (statesOf (m .kind)) s) (tells-or (tells-le (eventsOf ls) e) (tells-le (statesOf (m .kind)) t)))
+    (λ m. tells-moves (m .parts) s e)
+told ls other = record { misformed = tells-always; misplaced = tells-empty ls; out-of-range = tells-never; again = tells-never; too-many = tells-never }
 
 -- ---- one line
 
 pub sound-case : (ls : List Line) (l : Line) → Sound ls l → lineCase ls l ≡ 0
-unfolding lineCase Case2
+unfolding lineCase Case2 Case5 Case3 Case4 Case6
 sound-case ls l s =
     let t = told ls l in
-    rw (tells-false (tells-other l) (s .formed), tells-false (t .misplaced) (s .placed), tells-false (t .out-of-range) (s .ranged), tells-false (t .again) (s .new), tells-false (t .too-many) (s .fits))
+    rw (tells-false (t .misformed) (s .formed), tells-false (t .misplaced) (s .placed), tells-false (t .out-of-range) (s .ranged), tells-false (t .again) (s .new), tells-false (t .too-many) (s .fits))
 
 pub fault-case : (ls : List Line) (l : Line) (n : ℕ) → LineFault ls l n → (lineCase ls l ≡ n) × (n ≢ 0)
-unfolding LineFault lineCase Case2
-fault-case ls l n (inl (c, q)) = rw (q, tells-true (tells-other l) c) (refl, omega arith)
-fault-case ls l n (inr (inl (a, c, q))) =
-    rw (q, tells-false (tells-other l) a, tells-true (told ls l .misplaced) c) (refl, omega arith)
-fault-case ls l n (inr (inr (inl (a, b, c, q)))) =
-    rw (q, tells-false (tells-other l) a, tells-false (told ls l .misplaced) b, tells-true (told ls l .out-of-range) c) (refl, omega arith)
-fault-case ls l n (inr (inr (inr (inl (a, b, d, c, q))))) =
-    rw (q, tells-false (tells-other l) a, tells-false (told ls l .misplaced) b, tells-false (told ls l .out-of-range) d, tells-true (told ls l .again) c) (refl, omega arith)
-fault-case ls l n (inr (inr (inr (inr (a, b, d, f, c, q))))) =
-    rw (q, tells-false (tells-other l) a, tells-false (told ls l .misplaced) b, tells-false (told ls l .out-of-range) d, tells-false (told ls l .again) f, tells-true (told ls l .too-many) c) (refl, omega arith)
+unfolding LineFault lineCase Case2 Case5 Case3 Case4 Case6
+fault-case ls l n (inl (c, q)) = rw (q, tells-true (told ls l .misformed) c) (refl, omega arith)
+fault-case ls l n (inr (a, inl (c, q))) = rw (q, tells-false (told ls l .misformed) a, tells-true (told ls l .misplaced) c) (refl, omega arith)
+fault-case ls l n (inr (a, inr (b, inl (c, q)))) =
+    rw (q, tells-false (told ls l .misformed) a, tells-false (told ls l .misplaced) b, tells-true (told ls l .out-of-range) c) (refl, omega arith)
+fault-case ls l n (inr (a, inr (b, inr (d, inl (c, q))))) =
+    rw (q, tells-false (told ls l .misformed) a, tells-false (told ls l .misplaced) b, tells-false (told ls l .out-of-range) d, tells-true (told ls l .again) c) (refl, omega arith)
+fault-case ls l n (inr (a, inr (b, inr (d, inr (f, inl (c, q)))))) =
+    rw (q, tells-false (told ls l .misformed) a, tells-false (told ls l .misplaced) b, tells-false (told ls l .out-of-range) d, tells-false (told ls l .again) f, tells-true (told ls l .too-many) c) (refl, omega arith)
+fault-case ls l n (inr (a, inr (b, inr (d, inr (f, inr (g, never)))))) = absurd never
 
 -- every line is sound, or some case is the first that holds of it
-pub judged : (ls : List Line) (l : Line) → Sound ls l ⊎ ((n : ℕ) × LineFault ls l n)
-unfolding LineFault Case2
+judged : (ls : List Line) (l : Line) → Sound ls l ⊎ ((n : ℕ) × LineFault ls l n)
+unfolding LineFault Case2 Case5 Case3 Case4 Case6
 judged ls l =
-    case (isOther l) (λ q. inr (2, inl (tells-other l .yes q, refl))) (λ q.
-    let a = tells-other l .no q in
-    case (tests ls l .misplaced) (λ q. inr (5, inr (inl (a, told ls l .misplaced .yes q, refl)))) (λ q.
-    let b = told ls l .misplaced .no q in
-    case (tests ls l .out-of-range) (λ q. inr (3, inr (inr (inl (a, b, told ls l .out-of-range .yes q, refl))))) (λ q.
-    let c = told ls l .out-of-range .no q in
-    case (tests ls l .again) (λ q. inr (4, inr (inr (inr (inl (a, b, c, told ls l .again .yes q, refl)))))) (λ q.
-    let d = told ls l .again .no q in
-    case (tests ls l .too-many) (λ q. inr (6, inr (inr (inr (inr (a, b, c, d, told ls l .too-many .yes q, refl)))))) (λ q.
-    inl (record { formed = a; placed = b; ranged = c; new = d; fits = told ls l .too-many .no q }))))))
+    let t = told ls l in
+    case (tests ls l .misformed) (λ q. inr (2, inl (t .misformed .yes q, refl))) (λ q.
+    let a = t .misformed .no q in
+    case (tests ls l .misplaced) (λ q. inr (5, inr (a, inl (t .misplaced .yes q, refl)))) (λ q.
+    let b = t .misplaced .no q in
+    case (tests ls l .out-of-range) (λ q. inr (3, inr (a, inr (b, inl (t .out-of-range .yes q, refl))))) (λ q.
+    let c = t .out-of-range .no q in
+    case (tests ls l .again) (λ q. inr (4, inr (a, inr (b, inr (c, inl (t .again .yes q, refl)))))) (λ q.
+    let d = t .again .no q in
+    case (tests ls l .too-many) (λ q. inr (6, inr (a, inr (b, inr (c, inr (d, inl (t .too-many .yes q, refl))))))) (λ q.
+    inl (record { formed = a; placed = b; ranged = c; new = d; fits = t .too-many .no q }))))))
 
 -- ---- all lines
 
@@ -190,15 +217,20 @@ fault-said t n p (inr (inr (inl (c, s, u, a, b)))) =
 fault-said t n p (inr (inr (inr (c, s, u, m, a, b)))) =
     rw (tells-false (tells-lt 65535 (length t)) c, ended-reading (decoded t) (unended t) s, u, m, a, b)
 
+line-number : (ls : List Line) (l : Line) (n : ℕ) → LineFault ls l n → n ≤ 6
+unfolding LineFault
+line-number ls l n (inl (c, q)) = omega arith
+line-number ls l n (inr (a, inl (c, q))) = omega arith
+line-number ls l n (inr (a, inr (b, inl (c, q)))) = omega arith
+line-number ls l n (inr (a, inr (b, inr (d, inl (c, q))))) = omega arith
+line-number ls l n (inr (a, inr (b, inr (d, inr (f, inl (c, q)))))) = omega arith
+line-number ls l n (inr (a, inr (b, inr (d, inr (f, inr (g, never)))))) = absurd never
+
 -- the numbers of the checks on a text are 1 to 6
 pub fault-number : (t : List ℕ) (n p : ℕ) → Fault t n p → n ≤ 6
-unfolding Fault LineFault
+unfolding Fault
 fault-number t n p (inl (c, q, r)) = omega arith
-fault-number t n p (inr (inl (c, (front, l, back, e, s, inl (a, q), r)))) = omega arith
-fault-number t n p (inr (inl (c, (front, l, back, e, s, inr (inl (a, b, q)), r)))) = omega arith
-fault-number t n p (inr (inl (c, (front, l, back, e, s, inr (inr (inl (a, b, d, q))), r)))) = omega arith
-fault-number t n p (inr (inl (c, (front, l, back, e, s, inr (inr (inr (inl (a, b, d, f, q)))), r)))) = omega arith
-fault-number t n p (inr (inl (c, (front, l, back, e, s, inr (inr (inr (inr (a, b, d, f, g, q)))), r)))) = omega arith
+fault-number t n p (inr (inl (c, (front, l, back, e, s, f, r)))) = line-number front l n f
 fault-number t n p (inr (inr (inl (c, s, u, q, r)))) = omega arith
 fault-number t n p (inr (inr (inr (c, s, u, m, q, r)))) = omega arith
 

@@ -1,85 +1,102 @@
--- The rigs A and B of paper 01 and small texts for the table of refusals, as bytes; and that the words of demand 3 are not empty.
---   Words              == what is readable, what belongs and what does not, and a fault for each number from 1 to 6
+-- The rigs A and B of paper 01 and small texts for the table of refusals, each written as its characters; and that the words of demand 3 are not empty.
+--   Words              == what is readable, what belongs and what does not, and faults at the ends of the limits
 -- Assumes nothing.
+use mathlib.Core.Path.{_≡_}
 use mathlib.Core.List.{List, [], _∷_}
 use Prim.Native.Nat.{ℕ}
-use lib.ListN.{replicate}
-use Rattle.promises.specs.Text.{Readable, Fault}
+use lib.ListN.{length, replicate}
+use Rattle.promises.specs.Text.{bytes, Readable, Fault}
 use Rattle.promises.specs.Meaning.{Belongs}
 
 -- 'A: E 2, one monitor, S 2, go 0 0 0, 0 1 1, 1 0 0 (no two 1s together).'
 abbrev pub A : List ℕ
-A = 114 ∷ 105 ∷ 103 ∷ 9 ∷ 50 ∷ 10 ∷ 109 ∷ 111 ∷ 110 ∷ 9 ∷ 50 ∷ 10 ∷ 103 ∷ 111 ∷ 9 ∷ 48 ∷ 9 ∷ 48 ∷ 9 ∷ 48 ∷ 10 ∷ 103 ∷ 111 ∷ 9 ∷ 48 ∷ 9 ∷ 49 ∷ 9 ∷ 49 ∷ 10 ∷ 103 ∷ 111 ∷ 9 ∷ 49 ∷ 9 ∷ 48 ∷ 9 ∷ 48 ∷ 10 ∷ []
+A = bytes "rig\t2\nmon\t2\ngo\t0\t0\t0\ngo\t0\t1\t1\ngo\t1\t0\t0\n"
 
 -- 'B: A and a second monitor, S 2, go 0 0 0, 0 1 1, 1 1 1.'
 abbrev pub B : List ℕ
-B = 114 ∷ 105 ∷ 103 ∷ 9 ∷ 50 ∷ 10 ∷ 109 ∷ 111 ∷ 110 ∷ 9 ∷ 50 ∷ 10 ∷ 103 ∷ 111 ∷ 9 ∷ 48 ∷ 9 ∷ 48 ∷ 9 ∷ 48 ∷ 10 ∷ 103 ∷ 111 ∷ 9 ∷ 48 ∷ 9 ∷ 49 ∷ 9 ∷ 49 ∷ 10 ∷ 103 ∷ 111 ∷ 9 ∷ 49 ∷ 9 ∷ 48 ∷ 9 ∷ 48 ∷ 10 ∷ 109 ∷ 111 ∷ 110 ∷ 9 ∷ 50 ∷ 10 ∷ 103 ∷ 111 ∷ 9 ∷ 48 ∷ 9 ∷ 48 ∷ 9 ∷ 48 ∷ 10 ∷ 103 ∷ 111 ∷ 9 ∷ 48 ∷ 9 ∷ 49 ∷ 9 ∷ 49 ∷ 10 ∷ 103 ∷ 111 ∷ 9 ∷ 49 ∷ 9 ∷ 49 ∷ 9 ∷ 49 ∷ 10 ∷ []
+B = bytes "rig\t2\nmon\t2\ngo\t0\t0\t0\ngo\t0\t1\t1\ngo\t1\t0\t0\nmon\t2\ngo\t0\t0\t0\ngo\t0\t1\t1\ngo\t1\t1\t1\n"
 
--- ---- the largest number of joint states
+-- ---- the largest rigs
 
--- 'P 1,024 by S 32, 32 is read': rig 1 / mon 32 / mon 32
+-- 'E from 1 to 16'
+abbrev pub most-events : List ℕ
+most-events = bytes "rig\t16\nmon\t1\n"
+
+-- 'P 1,024 by S 32, 32 is read'
 abbrev pub most-joint-states : List ℕ
-most-joint-states = 114 ∷ 105 ∷ 103 ∷ 9 ∷ 49 ∷ 10 ∷ 109 ∷ 111 ∷ 110 ∷ 9 ∷ 51 ∷ 50 ∷ 10 ∷ 109 ∷ 111 ∷ 110 ∷ 9 ∷ 51 ∷ 50 ∷ 10 ∷ []
+most-joint-states = bytes "rig\t1\nmon\t32\nmon\t32\n"
 
 -- ---- rigs on which a wrong generator shows
 
--- 9: 'one state, no `go`': rig 1 / mon 1
+-- 9: 'one state, no `go`'
 abbrev pub one-state : List ℕ
-one-state = 114 ∷ 105 ∷ 103 ∷ 9 ∷ 49 ∷ 10 ∷ 109 ∷ 111 ∷ 110 ∷ 9 ∷ 49 ∷ 10 ∷ []
+one-state = bytes "rig\t1\nmon\t1\n"
 
--- 'a cell is full that no scenario passes': rig 2 / mon 2 / go 0 0 0 / go 1 0 1 / go 1 1 1, where state 1 is never reached
+-- 'a cell is full that no scenario passes': state 1 is never reached
 abbrev pub full-cell : List ℕ
-full-cell = 114 ∷ 105 ∷ 103 ∷ 9 ∷ 50 ∷ 10 ∷ 109 ∷ 111 ∷ 110 ∷ 9 ∷ 50 ∷ 10 ∷ 103 ∷ 111 ∷ 9 ∷ 48 ∷ 9 ∷ 48 ∷ 9 ∷ 48 ∷ 10 ∷ 103 ∷ 111 ∷ 9 ∷ 49 ∷ 9 ∷ 48 ∷ 9 ∷ 49 ∷ 10 ∷ 103 ∷ 111 ∷ 9 ∷ 49 ∷ 9 ∷ 49 ∷ 9 ∷ 49 ∷ 10 ∷ []
+full-cell = bytes "rig\t2\nmon\t2\ngo\t0\t0\t0\ngo\t1\t0\t1\ngo\t1\t1\t1\n"
 
--- ---- a text for each number of refusal, with its place
+-- ---- texts for the numbers of refusal, each with its place
 
 -- 2, place 2: '`mon` with no S'
 abbrev pub mon-without-S : List ℕ
-mon-without-S = 114 ∷ 105 ∷ 103 ∷ 9 ∷ 50 ∷ 10 ∷ 109 ∷ 111 ∷ 110 ∷ 10 ∷ []
+mon-without-S = bytes "rig\t2\nmon\n"
 
 -- 2, place 2: 'last line unended'
 abbrev pub last-line-unended : List ℕ
-last-line-unended = 114 ∷ 105 ∷ 103 ∷ 9 ∷ 50 ∷ 10 ∷ 109 ∷ 111 ∷ 110 ∷ 9 ∷ 50 ∷ []
+last-line-unended = bytes "rig\t2\nmon\t2"
 
 -- 2, place 1: 'no leading zero except 0 itself'
 abbrev pub leading-zero : List ℕ
-leading-zero = 114 ∷ 105 ∷ 103 ∷ 9 ∷ 48 ∷ 50 ∷ 10 ∷ []
+leading-zero = bytes "rig\t02\n"
 
 -- 2, place 1: 'one to five digits'
 abbrev pub six-digits : List ℕ
-six-digits = 114 ∷ 105 ∷ 103 ∷ 9 ∷ 49 ∷ 48 ∷ 48 ∷ 48 ∷ 48 ∷ 48 ∷ 10 ∷ []
+six-digits = bytes "rig\t100000\n"
 
--- 2, place 1: 'fields are parted by one byte 9'
-abbrev pub doubled-tab : List ℕ
-doubled-tab = 114 ∷ 105 ∷ 103 ∷ 9 ∷ 9 ∷ 50 ∷ 10 ∷ []
+-- 2, place 1: 'one to five digits', so a field with none is no number
+abbrev pub empty-field : List ℕ
+empty-field = bytes "rig\t\n"
 
 -- 3, place 1: '`rig`, 17'
 abbrev pub seventeen-events : List ℕ
-seventeen-events = 114 ∷ 105 ∷ 103 ∷ 9 ∷ 49 ∷ 55 ∷ 10 ∷ []
+seventeen-events = bytes "rig\t17\n"
+
+-- 3, place 1: five digits are a number, which is out of its range
+abbrev pub five-digits : List ℕ
+five-digits = bytes "rig\t10000\n"
 
 -- 3, place 6: 'a fifth `mon`'
 abbrev pub fifth-monitor : List ℕ
-fifth-monitor = 114 ∷ 105 ∷ 103 ∷ 9 ∷ 49 ∷ 10 ∷ 109 ∷ 111 ∷ 110 ∷ 9 ∷ 49 ∷ 10 ∷ 109 ∷ 111 ∷ 110 ∷ 9 ∷ 49 ∷ 10 ∷ 109 ∷ 111 ∷ 110 ∷ 9 ∷ 49 ∷ 10 ∷ 109 ∷ 111 ∷ 110 ∷ 9 ∷ 49 ∷ 10 ∷ 109 ∷ 111 ∷ 110 ∷ 9 ∷ 49 ∷ 10 ∷ []
+fifth-monitor = bytes "rig\t1\nmon\t1\nmon\t1\nmon\t1\nmon\t1\nmon\t1\n"
+
+-- 3, place 4: t out of range, though s and e stand again: 'on one line 2, 5, 3, 4, 6'
+abbrev pub go-again-out-of-range : List ℕ
+go-again-out-of-range = bytes "rig\t1\nmon\t1\ngo\t0\t0\t0\ngo\t0\t0\t9\n"
 
 -- 4, place 4: '`go` 0 0 0 twice'
 abbrev pub go-again : List ℕ
-go-again = 114 ∷ 105 ∷ 103 ∷ 9 ∷ 49 ∷ 10 ∷ 109 ∷ 111 ∷ 110 ∷ 9 ∷ 49 ∷ 10 ∷ 103 ∷ 111 ∷ 9 ∷ 48 ∷ 9 ∷ 48 ∷ 9 ∷ 48 ∷ 10 ∷ 103 ∷ 111 ∷ 9 ∷ 48 ∷ 9 ∷ 48 ∷ 9 ∷ 48 ∷ 10 ∷ []
+go-again = bytes "rig\t1\nmon\t1\ngo\t0\t0\t0\ngo\t0\t0\t0\n"
 
 -- 5, place 1: 'empty text, place 1'
 abbrev pub nothing : List ℕ
 nothing = []
 
+-- 5, place 2: 'no `mon` by the end', 'at the end, lines + 1'
+abbrev pub rig-alone : List ℕ
+rig-alone = bytes "rig\t2\n"
+
 -- 5, place 2: '`rig` later', though out of range: 'on one line 2, 5, 3, 4, 6'
 abbrev pub rig-later : List ℕ
-rig-later = 114 ∷ 105 ∷ 103 ∷ 9 ∷ 49 ∷ 10 ∷ 114 ∷ 105 ∷ 103 ∷ 9 ∷ 49 ∷ 55 ∷ 10 ∷ []
+rig-later = bytes "rig\t1\nrig\t17\n"
 
 -- 5, place 2: '`go` before `mon`'
 abbrev pub go-before-mon : List ℕ
-go-before-mon = 114 ∷ 105 ∷ 103 ∷ 9 ∷ 49 ∷ 10 ∷ 103 ∷ 111 ∷ 9 ∷ 48 ∷ 9 ∷ 48 ∷ 9 ∷ 48 ∷ 10 ∷ []
+go-before-mon = bytes "rig\t1\ngo\t0\t0\t0\n"
 
 -- 6, place 4: 'S of 32, 32, 2'
 abbrev pub too-many-joint-states : List ℕ
-too-many-joint-states = 114 ∷ 105 ∷ 103 ∷ 9 ∷ 49 ∷ 10 ∷ 109 ∷ 111 ∷ 110 ∷ 9 ∷ 51 ∷ 50 ∷ 10 ∷ 109 ∷ 111 ∷ 110 ∷ 9 ∷ 51 ∷ 50 ∷ 10 ∷ 109 ∷ 111 ∷ 110 ∷ 9 ∷ 50 ∷ 10 ∷ []
+too-many-joint-states = bytes "rig\t1\nmon\t32\nmon\t32\nmon\t2\n"
 
 -- 1, place 0: '65,536 line ends'
 abbrev pub too-long : List ℕ
@@ -88,20 +105,26 @@ too-long = replicate 65536 10
 pub record Words : Type 0 where
   pub readable-A : Readable A
   pub readable-B : Readable B
-  pub readable-most : Readable most-joint-states
+  pub readable-most-events : Readable most-events
+  pub readable-most-joint-states : Readable most-joint-states
   -- A's scenario of index 4 belongs; '0 1 1' does not
   pub belongs : Belongs A 3 (1 ∷ 0 ∷ 1 ∷ [])
   pub not-belongs : Belongs A 3 (0 ∷ 1 ∷ 1 ∷ []) → ⊥
   pub fault-too-long : Fault too-long 1 0
+  -- 'At most 65,535 bytes.'
+  pub never-too-long : (t : List ℕ) → length t ≡ 65535 → Fault t 1 0 → ⊥
   pub fault-mon-without-S : Fault mon-without-S 2 2
   pub fault-last-line-unended : Fault last-line-unended 2 2
   pub fault-leading-zero : Fault leading-zero 2 1
   pub fault-six-digits : Fault six-digits 2 1
-  pub fault-doubled-tab : Fault doubled-tab 2 1
+  pub fault-empty-field : Fault empty-field 2 1
   pub fault-seventeen-events : Fault seventeen-events 3 1
+  pub fault-five-digits : Fault five-digits 3 1
   pub fault-fifth-monitor : Fault fifth-monitor 3 6
+  pub fault-go-again-out-of-range : Fault go-again-out-of-range 3 4
   pub fault-go-again : Fault go-again 4 4
   pub fault-nothing : Fault nothing 5 1
+  pub fault-rig-alone : Fault rig-alone 5 2
   pub fault-rig-later : Fault rig-later 5 2
   pub fault-go-before-mon : Fault go-before-mon 5 2
   pub fault-too-many-joint-states : Fault too-many-joint-states 6 4

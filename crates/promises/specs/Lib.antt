@@ -1,6 +1,7 @@
 -- What a reader must believe. First the words of demand 3, read from the rig's lines; then what each call answers and leaves; then the demands.
 pub mod Answer
 pub mod Text
+pub mod Spelling
 pub mod Meaning
 pub mod Order
 pub mod Reading

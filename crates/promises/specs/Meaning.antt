@@ -1,24 +1,33 @@
 -- What a readable rig's lines say of sequences of events: the words of demand 3. No cell, set, count or record is named here.
+--   Follows ps s w      == the `go` lines of ps lead w on from the state s
+--   Says k ps s w       == what a monitor of the kind k with the further lines ps says of w in state s
 --   Admits m s w        == the monitor m, in state s, admits the sequence w
 --   AllAdmit t w        == every monitor of the text t admits w from its start state
 --   CarriedOn t w k     == w can be carried on by k events
 --   Belongs t h w       == w has h events, every monitor admits it, and it can be carried on by any further number of events
 --   Comes v w           == v comes before w in the order of their events
--- Assumes nothing.
+-- A new Kind is one clause of Says. Assumes nothing.
 use mathlib.Core.Path.{_≡_}
 use mathlib.Core.Logic.{_⊎_}
 use mathlib.Core.List.{List, [], _∷_, _++_, List·Memᴰ as In}
 use Prim.Native.Nat.{ℕ, _<_}
 use lib.ListN.{length}
-use Rattle.promises.specs.Text.{go, Monitor, monitors, startOf, decoded}
+use Rattle.promises.specs.Text.{Kind, mon, Part, go, Monitor, monitors, startOf, decoded}
+
+-- '`go`, s, e, t: the latest monitor moves from s to t on event e. Without such a line it doesn't admit e in s.'
+unfoldable pub Follows : List Part → ℕ → List ℕ → Type 0
+Follows ps s [] = Unit {0}
+Follows ps s (e ∷ w) = (t : ℕ) × In (go s e t) ps × Follows ps t w
+
+unfoldable pub Says : Kind → List Part → ℕ → List ℕ → Type 0
+Says (mon S) ps s w = Follows ps s w
 
 -- 'A monitor admits a sequence if, from its start state, it admits each event in the state that the events before it led to.'
 unfoldable pub Admits : Monitor → ℕ → List ℕ → Type 0
-Admits m s [] = Unit {0}
-Admits m s (e ∷ w) = (t : ℕ) × In (go s e t) (m .body) × Admits m t w
+Admits m s w = Says (m .kind) (m .parts) s w
 
 unfoldable pub AllAdmit : List ℕ → List ℕ → Type 0
-AllAdmit t w = (m : Monitor) → In m (monitors (decoded t)) → Admits m (startOf (m .head)) w
+AllAdmit t w = (m : Monitor) → In m (monitors (decoded t)) → Admits m (startOf (m .kind)) w
 
 -- 'some k events can be put after it so that every monitor admits the whole'
 unfoldable pub CarriedOn : List ℕ → List ℕ → ℕ → Type 0

@@ -1,73 +1,84 @@
 -- Reading a text: the first bad line, and the first case on it. What the reader's contract cites; that it agrees with the words of Text is a theorem.
---   tests ls l         == the cases 5, 3, 4 and 6 of the line l after the lines ls, as tests
+--   leadsTo s e p      == where the line p moves from s on e, if it does
+--   moveBy ps s e      == where the first of the lines ps that does so moves
+--   tests ls l         == the cases 2, 5, 3, 4 and 6 of the line l after the lines ls, as tests
 --   lineCase ls l      == the number of the first case that holds of l, 0 where none does
 --   reading t          == served where t is readable, else refused by a number from 1 to 6 and its place
--- Assumes nothing.
+-- A new line form is one clause of `tests`; a new Part also one of `leadsTo`. Assumes nothing.
 use mathlib.Core.Bool.{Bool, true, false, not, _&&_, _||_}
 use mathlib.Core.List.{List, [], _∷_, _++_}
-use mathlib.Core.Option.{Option, none, some}
+use mathlib.Core.Option.{Option, none, some, orElse}
 use Prim.Native.Nat.{ℕ, suc, _*_}
 use lib.ListN.{length}
 use lib.Dec.{ltb, leb, eqb}
 use Rattle.lists.specs.Lists.{pick}
 use Rattle.promises.specs.Answer.{Answer, served, unless}
-use Rattle.promises.specs.Text.{Line, rig, mon, go, other, Monitor, monitors, latest, statesOf, eventsOf, product, decoded, unended}
+use Rattle.promises.specs.Text.{Kind, mon, Part, go, Line, rig, begins, continues, other, Monitor, monitors, latest, statesOf, eventsOf, product, decoded, unended}
 
 abbrev pub empty : {A : Type 0} → List A → Bool
 empty [] = true
 empty (x ∷ l) = false
 
-unfoldable pub goOut : ℕ → ℕ → ℕ → ℕ → Option Monitor → Bool
-goOut E s e t none = false
-goOut E s e t (some m) = leb (statesOf (m .head)) s || (leb E e || leb (statesOf (m .head)) t)
+abbrev pub isSome : {A : Type 0} → Option A → Bool
+isSome none = false
+isSome (some a) = true
 
--- the line moves from s on e
-unfoldable pub isMove : ℕ → ℕ → Line → Bool
-isMove s e (rig a) = false
-isMove s e (mon a) = false
-isMove s e (go a b c) = eqb a s && eqb b e
-isMove s e other = false
+-- '`go`, s, e, t: the latest monitor moves from s to t on event e'
+unfoldable pub leadsTo : ℕ → ℕ → Part → Option ℕ
+leadsTo s e (go a b c) = pick (eqb a s && eqb b e) (some c) none
 
-unfoldable pub moves : ℕ → ℕ → List Line → Bool
-moves s e [] = false
-moves s e (l ∷ ls) = isMove s e l || moves s e ls
-
-unfoldable pub goAgain : ℕ → ℕ → Option Monitor → Bool
-goAgain s e none = false
-goAgain s e (some m) = moves s e (m .body)
+unfoldable pub moveBy : List Part → ℕ → ℕ → Option ℕ
+moveBy [] s e = none
+moveBy (p ∷ ps) s e = orElse (leadsTo s e p) (moveBy ps s e)
 
 pub record Tests : Type 0 where
+  pub misformed : Bool
   pub misplaced : Bool
   pub out-of-range : Bool
   pub again : Bool
   pub too-many : Bool
 
-unfoldable pub tests : List Line → Line → Tests
-tests ls (rig e) = record { misplaced = not (empty ls); out-of-range = ltb e 1 || ltb 16 e; again = false; too-many = false }
-tests ls (mon s) = record {
+abbrev pub outside : ℕ → ℕ → ℕ → Bool
+outside lo hi n = ltb n lo || ltb hi n
+
+-- a line that begins a monitor of the kind k, its own numbers being out of range by `out`
+unfoldable pub testBeginning : List Line → Kind → Bool → Tests
+testBeginning ls k out = record {
+  misformed = false;
   misplaced = empty ls;
-  out-of-range = ltb s 1 || (ltb 32 s || leb 4 (length (monitors ls)));
+  out-of-range = out || leb 4 (length (monitors ls));
   again = false;
-  too-many = ltb 1024 (product (monitors ls) * s);
+  too-many = ltb 1024 (product (monitors ls) * statesOf k);
 }
-tests ls (go s e t) = record {
+
+-- there is a latest monitor, and it passes the test f
+unfoldable pub ofLatest : (Monitor → Bool) → Option Monitor → Bool
+ofLatest f none = false
+ofLatest f (some m) = f m
+
+-- a line of the latest monitor
+unfoldable pub testContinuing : List Line → (Monitor → Bool) → (Monitor → Bool) → Tests
+testContinuing ls out again = record {
+  misformed = false;
   misplaced = empty ls || empty (monitors ls);
-  out-of-range = goOut (eventsOf ls) s e t (latest (monitors ls));
-  again = goAgain s e (latest (monitors ls));
+  out-of-range = ofLatest out (latest (monitors ls));
+  again = ofLatest again (latest (monitors ls));
   too-many = false;
 }
-tests ls other = record { misplaced = empty ls; out-of-range = false; again = false; too-many = false }
 
-unfoldable pub isOther : Line → Bool
-isOther (rig e) = false
-isOther (mon s) = false
-isOther (go s e t) = false
-isOther other = true
+unfoldable pub tests : List Line → Line → Tests
+tests ls (rig E) = record { misformed = false; misplaced = not (empty ls); out-of-range = outside 1 16 E; again = false; too-many = false }
+tests ls (begins (mon S)) = testBeginning ls (mon S) (outside 1 32 S)
+tests ls (continues (go s e t)) =
+    testContinuing ls
+    (λ m. leb (statesOf (m .kind)) s || (leb (eventsOf ls) e || leb (statesOf (m .kind)) t))
+    (λ m. isSome (moveBy (m .parts) s e))
+tests ls other = record { misformed = true; misplaced = empty ls; out-of-range = false; again = false; too-many = false }
 
 -- 'on one line 2, 5, 3, 4, 6'
 unfoldable pub lineCase : List Line → Line → ℕ
 lineCase ls l =
-    pick (isOther l) 2
+    pick (tests ls l .misformed) 2
     (pick (tests ls l .misplaced) 5
     (pick (tests ls l .out-of-range) 3
     (pick (tests ls l .again) 4

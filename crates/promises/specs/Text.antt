@@ -2,21 +2,27 @@
 --   lines t            == the lines of t that end, without their line ends
 --   unended t          == what stands after the last line end
 --   number f           == the number that the field f is, if it is one
+--   Kind               == a line that begins a monitor, with its numbers
+--   Part               == a line of the latest monitor, with its numbers
 --   decode l           == the line form that l is, with its numbers, or `other` where it is none
 --   decoded t          == the forms of t's lines
---   role l             == what a line is to the monitors: it begins one, it is a line of the latest, or neither
---   monitors ls        == the monitors of the lines ls, first to last, each its head line and its body
---   cases ls l         == what each of the cases 5, 3, 4 and 6 says of the line l after the lines ls
+--   monitors ls        == the monitors of the lines ls, first to last, each the line that begins it and its further lines
+--   statesOf k         == how many states a monitor of the kind k has
+--   startOf k          == the state in which it starts
+--   cases ls l         == what each of the cases 2, 5, 3, 4 and 6 says of the line l after the lines ls
 --   Readable t         == no case of a check on the text holds of it
 --   Fault t n p        == the checks on the text, in their order, refuse t with number n and place p
 --   Case7 .. Case13    == the case holds of a horizon, of lent buffers, of a sequence
--- A new line form is one constructor of Line, its words in `form`, its `role`, and one clause of `cases`. Assumes nothing.
+-- A new line form is one constructor of Kind, Part or Line, its word in `form` and one clause of `cases`; a new Kind also has its states and its start.
+-- How each form is written is fixed by the theorem of Spelling. Assumes nothing.
 use mathlib.Core.Path.{_≡_}
 use mathlib.Core.Logic.{_⊎_, _≢_}
 use mathlib.Core.Bool.{Bool, true, false, _&&_}
 use mathlib.Core.List.{List, [], _∷_, _++_, map, List·Memᴰ as In}
 use mathlib.Core.Option.{Option, none, some}
 use Prim.Native.Nat.{ℕ, suc, _+_, _-_, _*_, _≤_, _<_}
+use Prim.Native.Char.{code}
+use Prim.Native.String.{String, [] as no-character, _∷_ as _before_}
 use lib.ListN.{length, getD}
 use lib.Dec.{eqb, leb}
 use Rattle.lists.specs.Lists.{pick}
@@ -72,43 +78,56 @@ same (a ∷ as′) (b ∷ bs) = eqb a b && same as′ bs
 
 -- ---- line forms
 
+-- a line that begins a monitor
+pub data Kind : Type 0 where
+  mon : ℕ → Kind  -- `mon`, S
+
+-- a line of 'the latest monitor'
+pub data Part : Type 0 where
+  go : ℕ → ℕ → ℕ → Part  -- `go`, s, e, t
+
 pub data Line : Type 0 where
   rig : ℕ → Line  -- `rig`, E
-  mon : ℕ → Line  -- `mon`, S
-  go : ℕ → ℕ → ℕ → Line  -- `go`, s, e, t
+  begins : Kind → Line
+  continues : Part → Line
   other : Line  -- 'no such line form; a field that isn't a number as above'
 
--- the fields as numbers, where each is one
-unfoldable pub numbers : List (List ℕ) → Option (List ℕ)
-numbers [] = some []
-numbers (f ∷ fs) = joined (number f) (numbers fs)
+-- the first of the fields, as `read` reads it, then what `rest` makes of it and of the other fields
+unfoldable pub field : {A : Type 0} → (List ℕ → Option A) → (A → List (List ℕ) → Line) → List (List ℕ) → Line
+field read rest [] = other
+field {A} read rest (f ∷ fs) = onward (read f)
   where
-    joined : Option ℕ → Option (List ℕ) → Option (List ℕ)
-    joined none ns = none
-    joined (some n) none = none
-    joined (some n) (some ns) = some (n ∷ ns)
+    onward : Option A → Line
+    onward none = other
+    onward (some a) = rest a fs
 
-unfoldable pub one : (ℕ → Line) → Option (List ℕ) → Line
-one f none = other
-one f (some []) = other
-one f (some (a ∷ [])) = f a
-one f (some (a ∷ (b ∷ ns))) = other
+-- the line l where no field is left
+unfoldable pub end : Line → List (List ℕ) → Line
+end l [] = l
+end l (f ∷ fs) = other
 
-unfoldable pub three : (ℕ → ℕ → ℕ → Line) → Option (List ℕ) → Line
-three f none = other
-three f (some []) = other
-three f (some (a ∷ [])) = other
-three f (some (a ∷ (b ∷ []))) = other
-three f (some (a ∷ (b ∷ (c ∷ [])))) = f a b c
-three f (some (a ∷ (b ∷ (c ∷ (d ∷ ns))))) = other
+-- one number, two and three
+unfoldable pub one : (ℕ → Line) → List (List ℕ) → Line
+one f = field number (λ a. end (f a))
 
--- the words `rig`, `mon` and `go`, each with the number of fields that its form has
+unfoldable pub two : (ℕ → ℕ → Line) → List (List ℕ) → Line
+two f = field number (λ a. one (f a))
+
+unfoldable pub three : (ℕ → ℕ → ℕ → Line) → List (List ℕ) → Line
+three f = field number (λ a. two (f a))
+
+-- the bytes of a word's characters
+abbrev pub bytes : String → List ℕ
+bytes no-character = []
+bytes (c before s) = code c ∷ bytes s
+
+-- the words, each with the fields that its form has
 unfoldable pub form : List (List ℕ) → Line
 form [] = other
 form (w ∷ fs) =
-    pick (same w (114 ∷ 105 ∷ 103 ∷ [])) (one rig (numbers fs))
-    (pick (same w (109 ∷ 111 ∷ 110 ∷ [])) (one mon (numbers fs))
-    (pick (same w (103 ∷ 111 ∷ [])) (three go (numbers fs))
+    pick (same w (bytes "rig")) (one (λ E. rig E) fs)
+    (pick (same w (bytes "mon")) (one (λ S. begins (mon S)) fs)
+    (pick (same w (bytes "go")) (three (λ s e t. continues (go s e t)) fs)
     other))
 
 unfoldable pub decode : List ℕ → Line
@@ -119,50 +138,37 @@ decoded t = map decode (lines t)
 
 -- ---- monitors
 
-pub data Role : Type 0 where
-  begins : Role  -- 'a new monitor'
-  continues : Role  -- a line of 'the latest monitor'
-  neither : Role
-
-unfoldable pub role : Line → Role
-role (rig e) = neither
-role (mon s) = begins
-role (go s e t) = continues
-role other = neither
-
 -- A monitor as its lines: the line that begins it, and the lines of it that follow.
 pub record Monitor : Type 0 where
-  pub head : Line
-  pub body : List Line
+  pub kind : Kind
+  pub parts : List Part
 
 -- the latest monitor has one line more
-unfoldable pub addLine : Line → List Monitor → List Monitor
-addLine l [] = []
-addLine l (m ∷ []) = record { head = m .head; body = m .body ++ (l ∷ []) } ∷ []
-addLine l (m ∷ (n ∷ ms)) = m ∷ addLine l (n ∷ ms)
+unfoldable pub addPart : Part → List Monitor → List Monitor
+addPart p [] = []
+addPart p (m ∷ []) = record { kind = m .kind; parts = m .parts ++ (p ∷ []) } ∷ []
+addPart p (m ∷ (n ∷ ms)) = m ∷ addPart p (n ∷ ms)
 
-unfoldable pub extended : List Monitor → Line → Role → List Monitor
-extended ms l begins = ms ++ (record { head = l; body = [] } ∷ [])
-extended ms l continues = addLine l ms
-extended ms l neither = ms
+unfoldable pub extended : List Monitor → Line → List Monitor
+extended ms (rig E) = ms
+extended ms (begins k) = ms ++ (record { kind = k; parts = [] } ∷ [])
+extended ms (continues p) = addPart p ms
+extended ms other = ms
 
 unfoldable pub monitorsFrom : List Monitor → List Line → List Monitor
 monitorsFrom ms [] = ms
-monitorsFrom ms (l ∷ ls) = monitorsFrom (extended ms l (role l)) ls
+monitorsFrom ms (l ∷ ls) = monitorsFrom (extended ms l) ls
 
 unfoldable pub monitors : List Line → List Monitor
 monitors ls = monitorsFrom [] ls
 
--- how many states the line that begins a monitor says
-unfoldable pub statesOf : Line → ℕ
-statesOf (rig e) = 0
-statesOf (mon s) = s
-statesOf (go s e t) = 0
-statesOf other = 0
+-- '`mon`, S: a new monitor with states 0 to S−1'
+unfoldable pub statesOf : Kind → ℕ
+statesOf (mon S) = S
 
 -- 'starting in 0'
-unfoldable pub startOf : Line → ℕ
-startOf l = 0
+unfoldable pub startOf : Kind → ℕ
+startOf (mon S) = 0
 
 -- 'the latest monitor'
 unfoldable pub latest : List Monitor → Option Monitor
@@ -173,53 +179,68 @@ latest (m ∷ (n ∷ ms)) = latest (n ∷ ms)
 -- 'The joint states number P, the product of all S'
 unfoldable pub product : List Monitor → ℕ
 product [] = 1
-product (m ∷ ms) = statesOf (m .head) * product ms
+product (m ∷ ms) = statesOf (m .kind) * product ms
 
 -- E, of the first line
 unfoldable pub eventsOf : List Line → ℕ
 eventsOf [] = 0
-eventsOf (rig e ∷ ls) = e
-eventsOf (mon s ∷ ls) = 0
-eventsOf (go s e t ∷ ls) = 0
+eventsOf (rig E ∷ ls) = E
+eventsOf (begins k ∷ ls) = 0
+eventsOf (continues p ∷ ls) = 0
 eventsOf (other ∷ ls) = 0
 
 -- ---- the cases of a line l after the lines ls, as the table of 01 writes them
 
--- `go` s e t, of a rig with E events, the latest monitor being m: s and t not below its S, or e not below E
-unfoldable pub GoOut : ℕ → ℕ → ℕ → ℕ → Option Monitor → Type 0
-GoOut E s e t none = ⊥
-GoOut E s e t (some m) = (statesOf (m .head) ≤ s) ⊎ ((E ≤ e) ⊎ (statesOf (m .head) ≤ t))
-
--- `go` s e: the latest monitor has a line `go` s e already
-unfoldable pub GoAgain : ℕ → ℕ → Option Monitor → Type 0
-GoAgain s e none = ⊥
-GoAgain s e (some m) = (u : ℕ) × In (go s e u) (m .body)
-
 pub record Cases : Type 1 where
+  pub misformed : Type 0  -- 2, 'no such line form; a field that isn't a number as above'
   pub misplaced : Type 0  -- 5, 'first line not `rig`; `rig` later; `go` before `mon`'
   pub out-of-range : Type 0  -- 3, 'a number out of its range, or a fifth `mon`'
   pub again : Type 0  -- 4, 's and e again in one monitor'
   pub too-many : Type 0  -- 6, 'P over 1,024'
 
-unfoldable pub cases : List Line → Line → Cases
-cases ls (rig e) = record { misplaced = ls ≢ []; out-of-range = (e < 1) ⊎ (16 < e); again = ⊥; too-many = ⊥ }
-cases ls (mon s) = record {
+-- n is not 'from lo to hi'
+abbrev pub Outside : ℕ → ℕ → ℕ → Type 0
+Outside lo hi n = (n < lo) ⊎ (hi < n)
+
+-- a line that begins a monitor of the kind k, its own numbers being out of range by `out`
+unfoldable pub beginning : List Line → Kind → Type 0 → Cases
+beginning ls k out = record {
+  misformed = ⊥;
   misplaced = ls ≡ [];
-  out-of-range = (s < 1) ⊎ ((32 < s) ⊎ (4 ≤ length (monitors ls)));
+  out-of-range = out ⊎ (4 ≤ length (monitors ls));
   again = ⊥;
-  too-many = 1024 < product (monitors ls) * s;
+  too-many = 1024 < product (monitors ls) * statesOf k;
 }
-cases ls (go s e t) = record {
+
+-- there is a latest monitor, and P holds of it
+unfoldable pub OfLatest : (Monitor → Type 0) → Option Monitor → Type 0
+OfLatest P none = ⊥
+OfLatest P (some m) = P m
+
+-- a line of the latest monitor; whether its numbers are out of range, or were given before, is said of that monitor
+unfoldable pub continuing : List Line → (Monitor → Type 0) → (Monitor → Type 0) → Cases
+continuing ls out again = record {
+  misformed = ⊥;
   misplaced = (ls ≡ []) ⊎ (monitors ls ≡ []);
-  out-of-range = GoOut (eventsOf ls) s e t (latest (monitors ls));
-  again = GoAgain s e (latest (monitors ls));
+  out-of-range = OfLatest out (latest (monitors ls));
+  again = OfLatest again (latest (monitors ls));
   too-many = ⊥;
 }
-cases ls other = record { misplaced = ls ≡ []; out-of-range = ⊥; again = ⊥; too-many = ⊥ }
 
--- 'no such line form; a field that isn't a number as above'
+unfoldable pub cases : List Line → Line → Cases
+-- 'the first line and only there'; 'E from 1 to 16'
+cases ls (rig E) = record { misformed = ⊥; misplaced = ls ≢ []; out-of-range = Outside 1 16 E; again = ⊥; too-many = ⊥ }
+-- 'S from 1 to 32'
+cases ls (begins (mon S)) = beginning ls (mon S) (Outside 1 32 S)
+-- 'moves from s to t on event e': s and t below S, e below E
+cases ls (continues (go s e t)) =
+    continuing ls
+    (λ m. (statesOf (m .kind) ≤ s) ⊎ ((eventsOf ls ≤ e) ⊎ (statesOf (m .kind) ≤ t)))
+    (λ m. (u : ℕ) × In (go s e u) (m .parts))
+cases ls other = record { misformed = Unit {0}; misplaced = ls ≡ []; out-of-range = ⊥; again = ⊥; too-many = ⊥ }
+
 unfoldable pub Case2 : List Line → Line → Type 0
-Case2 ls l = l ≡ other
+Case2 ls l = cases ls l .misformed
 
 unfoldable pub Case5 : List Line → Line → Type 0
 Case5 ls l = cases ls l .misplaced
@@ -261,14 +282,19 @@ pub record Readable (t : List ℕ) : Type 0 where
   -- 'no `mon` by the end'
   pub monitored : monitors (decoded t) ≢ []
 
+-- where the case holds, what it says; else what the later ones say
+abbrev pub first : Type 0 → Type 0 → Type 0 → Type 0
+first case says later = (case × says) ⊎ ((case → ⊥) × later)
+
 -- 'on one line 2, 5, 3, 4, 6'
 unfoldable pub LineFault : List Line → Line → ℕ → Type 0
 LineFault ls l n =
-    (Case2 ls l × (n ≡ 2))
-    ⊎ (((Case2 ls l → ⊥) × Case5 ls l × (n ≡ 5))
-    ⊎ (((Case2 ls l → ⊥) × (Case5 ls l → ⊥) × Case3 ls l × (n ≡ 3))
-    ⊎ (((Case2 ls l → ⊥) × (Case5 ls l → ⊥) × (Case3 ls l → ⊥) × Case4 ls l × (n ≡ 4))
-    ⊎ ((Case2 ls l → ⊥) × (Case5 ls l → ⊥) × (Case3 ls l → ⊥) × (Case4 ls l → ⊥) × Case6 ls l × (n ≡ 6)))))
+    first (Case2 ls l) (n ≡ 2)
+    (first (Case5 ls l) (n ≡ 5)
+    (first (Case3 ls l) (n ≡ 3)
+    (first (Case4 ls l) (n ≡ 4)
+    (first (Case6 ls l) (n ≡ 6)
+    ⊥))))
 
 -- 'Checks go in the table's order, but 2 to 6 are made line by line and the first bad line counts'; 'line, from 1'; 'at the end, lines + 1'
 unfoldable pub Fault : List ℕ → ℕ → ℕ → Type 0

@@ -5,7 +5,7 @@ use mathlib.Core.Path.{_≡_, refl, sym, ap, _∙_}
 use mathlib.Core.Logic.{_⊎_, ⊎-elim}
 use mathlib.Core.Bool.{Bool, true, false, not, _||_}
 use mathlib.Core.List.{List, [], _∷_, _++_}
-use mathlib.Core.Option.{none, some}
+use mathlib.Core.Option.{some, Option·getD}
 use Prim.Native.Nat.{ℕ, suc, _+_, _-_, _*_, _≤_, _<_}
 use native.Mathlib.Nat.{eq-or-lt-of-le}
 use native.Mathlib.Omega.{arith}
@@ -14,29 +14,28 @@ use lib.Seq.{getD-set-same, getD-set-other}
 use lib.Dec.{eqb, ltb, leb}
 use borrow.Author.Tests.{eq-eqb, ne-eqb, eqb-true, eqb-false, ltb-false, leb-false, not-false}
 use Rattle.lists.specs.Lists.{pick}
-use Rattle.lists.proofs.Tests.{contra, case, ℕ-trichotomy}
-use Rattle.promises.specs.Text.{Line, rig, mon, go, role, Monitor, addLine, extended, monitorsFrom, monitors, statesOf, latest, product, eventsOf}
-use Rattle.promises.specs.Reading.{empty, moves, goOut, goAgain, tests, isOther, lineCase}
-use Rattle.promises.specs.Rig.{target}
-use Rattle.promises.proofs.Lines.{monitors-more}
+use Rattle.lists.proofs.Tests.{contra, case, or-left, or-rest, ℕ-trichotomy}
+use Rattle.promises.specs.Text.{Kind, mon, Part, go, Line, rig, begins, continues, Monitor, addPart, extended, monitorsFrom, monitors, statesOf, latest, product, eventsOf}
+use Rattle.promises.specs.Reading.{empty, isSome, moveBy, outside, testBeginning, ofLatest, testContinuing, tests, lineCase}
+use Rattle.promises.proofs.Lines.{monitors-more, length-addPart, product-addPart, product-append}
 use Rattle.rig.specs.declared.Rig.{Rig}
 use Rattle.rig.specs.Record.{moveIndex, moveAt}
 use Rattle.decoding.specs.declared.Form.{Form}
-use Rattle.decoding.specs.declared.Form.the-variants.{Rig as RigForm, Mon, Go, Other}
+use Rattle.decoding.specs.declared.Form.the-variants.{Rig as RigForm, Begins, Continues, Other}
 use Rattle.decoding.specs.Forms.{formLine}
 use Rattle.reader.specs.declared.Sizes.{Sizes}
-use Rattle.reader.specs.Reading.{withLine, recordFrom}
+use Rattle.reader.specs.Reading.{withPart, withLine, recordFrom}
 use Rattle.reader.specs.Record.{nobody}
 use Rattle.reader.specs.Taking.{Bounded, rigCase, rigSizes, monCase, monSizes, monCounts, goCase, goMoves, caseOf, sizesAfter, movesAfter, countsAfter}
-use Rattle.reader.proofs.Monitors.{monitorAt, events-snoc, empty-nil, empty-snoc, empty-length, length-addLine, product-addLine, addLine-at, addLine-beside, latest-at, new-before, new-at, new-after, product-new}
-use Rattle.reader.proofs.Tables.{Table, table-blank, table-beside, table-go}
+use Rattle.reader.proofs.Monitors.{monitorAt, events-snoc, empty-nil, empty-snoc, empty-length, addPart-at, addPart-beside, latest-at, new-before, new-at, new-after}
+use Rattle.reader.proofs.Tables.{Table, seen, table-blank, table-beside, table-go}
 
 abbrev pub statesAt : List Monitor → ℕ → ℕ
-statesAt ms k = statesOf (monitorAt ms k .head)
+statesAt ms k = statesOf (monitorAt ms k .kind)
 
 -- the monitors ms, as counts and tables: what holds of the first n of them and of their parts of the move table
 pub record Tabled (ms : List Monitor) (n E : ℕ) (mv ct : List ℕ) : Type 0 where
-  pub tables : (k : ℕ) → k < 4 → Table mv k (monitorAt ms k .body) E (statesAt ms k)
+  pub tables : (k : ℕ) → k < 4 → Table mv k (monitorAt ms k .parts) E (statesAt ms k)
   pub counts-are : (k : ℕ) → k < n → getD ct k 0 ≡ statesAt ms k
   pub some-state : (k : ℕ) → k < n → 1 ≤ statesAt ms k
   pub few-states : (k : ℕ) → k < n → statesAt ms k ≤ 32
@@ -83,14 +82,6 @@ holds-none mv ct blank long wide = record {
 
 -- ---- tests
 
-or-left : (a b : Bool) → (a || b) ≡ false → a ≡ false
-or-left true b h = h
-or-left false b h = refl
-
-or-rest : (a b : Bool) → (a || b) ≡ false → b ≡ false
-or-rest true b h = contra refl h
-or-rest false b h = h
-
 same-picks : (a a′ b b′ c c′ : Bool) → a ≡ a′ → (a′ ≡ false → b ≡ b′) → (a′ ≡ false → b′ ≡ false → c ≡ c′)
     → _≡_ {A = ℕ} (pick a 5 (pick b 3 (pick c 4 0))) (pick a′ 5 (pick b′ 3 (pick c′ 4 0)))
 same-picks a true b b′ c c′ p q r = rw p
@@ -107,81 +98,80 @@ pick-zero false n m h q = (refl, q)
 -- the first line: no monitor has a move yet
 more-events : (ms : List Monitor) (n E F : ℕ) (mv ct : List ℕ) → E ≡ 0 → Tabled ms n E mv ct → Tabled ms n F mv ct
 more-events ms n E F mv ct q T = record {
-  tables = λ k h. let U = T .tables k h in record { entry = U .entry; seen = U .seen; within = λ s e m. let w = U .within s e m in absurd (omega arith) };
+  tables = λ k h. let U = T .tables k h in record { entry = U .entry; within = λ s e u m. let w = U .within s e u m in absurd (omega arith) };
   counts-are = T .counts-are;
   some-state = T .some-state;
   few-states = T .few-states;
 }
 
--- a monitor more
-abbrev fresh : ℕ → Monitor
-fresh s = record { head = mon s; body = [] }
+-- a monitor more, of the kind k
+abbrev fresh : Kind → Monitor
+fresh k = record { kind = k; parts = [] }
 
-module _ (ms : List Monitor) (n E s : ℕ) (mv ct : List ℕ) (ln : length ms ≡ n) (wide : length ct ≡ 4) (few : n < 4) (low : 1 ≤ s) (high : s ≤ 32) (T : Tabled ms n E mv ct) where
+module _ (ms : List Monitor) (n E : ℕ) (k : Kind) (mv ct : List ℕ) (ln : length ms ≡ n) (wide : length ct ≡ 4) (few : n < 4) (low : 1 ≤ statesOf k) (high : statesOf k ≤ 32) (T : Tabled ms n E mv ct) where
   -- what holds of the monitors so far, and of the new one, holds of all
-  each-new : (P : ℕ → ℕ → Type 0) → ((k : ℕ) → k < n → P k (statesAt ms k)) → P n s → (k : ℕ) → k < n + 1 → P k (statesAt (ms ++ (fresh s ∷ [])) k)
-  unfolding statesOf
-  each-new P f p k h = ⊎-elim old new (eq-or-lt-of-le (below k h))
+  each-new : (P : ℕ → ℕ → Type 0) → ((i : ℕ) → i < n → P i (statesAt ms i)) → P n (statesOf k) → (i : ℕ) → i < n + 1 → P i (statesAt (ms ++ (fresh k ∷ [])) i)
+  each-new P f p i h = ⊎-elim old new (eq-or-lt-of-le (below i h))
     where
-      below : (k : ℕ) → k < n + 1 → k ≤ n
-      below k h = omega arith
+      below : (i : ℕ) → i < n + 1 → i ≤ n
+      below i h = omega arith
 
-      old : k ≡ n → P k (statesAt (ms ++ (fresh s ∷ [])) k)
-      old q = rw (new-at ms (fresh s) k (q ∙ sym ln), q) p
+      old : i ≡ n → P i (statesAt (ms ++ (fresh k ∷ [])) i)
+      old q = rw (new-at ms (fresh k) i (q ∙ sym ln), q) p
 
-      new : k < n → P k (statesAt (ms ++ (fresh s ∷ [])) k)
-      new l = rw (new-before ms (fresh s) k (omega arith)) (f k l)
+      new : i < n → P i (statesAt (ms ++ (fresh k ∷ [])) i)
+      new l = rw (new-before ms (fresh k) i (omega arith)) (f i l)
 
-  one-more : Tabled (ms ++ (fresh s ∷ [])) (n + 1) E mv (set ct n s)
-  unfolding statesOf target
+  one-more : Tabled (ms ++ (fresh k ∷ [])) (n + 1) E mv (set ct n (statesOf k))
+  unfolding moveBy
   one-more = record {
-    tables = λ k h. ⊎-elim (before k h) (⊎-elim (at k h) (after k h)) (ℕ-trichotomy k (length ms));
-    counts-are = each-new (λ k v. getD (set ct n s) k 0 ≡ v) (λ k h. getD-set-other ct n k s 0 (λ q. omega arith) ∙ T .counts-are k h) (getD-set-same ct n s 0 (omega arith));
-    some-state = each-new (λ k v. 1 ≤ v) (λ k h. T .some-state k h) low;
-    few-states = each-new (λ k v. v ≤ 32) (λ k h. T .few-states k h) high;
+    tables = λ i h. ⊎-elim (before i h) (⊎-elim (at i h) (after i h)) (ℕ-trichotomy i (length ms));
+    counts-are = each-new (λ i v. getD (set ct n (statesOf k)) i 0 ≡ v) (λ i h. getD-set-other ct n i (statesOf k) 0 (λ q. omega arith) ∙ T .counts-are i h) (getD-set-same ct n (statesOf k) 0 (omega arith));
+    some-state = each-new (λ i v. 1 ≤ v) (λ i h. T .some-state i h) low;
+    few-states = each-new (λ i v. v ≤ 32) (λ i h. T .few-states i h) high;
   }
     where
-      before : (k : ℕ) → k < 4 → k < length ms → Table mv k (monitorAt (ms ++ (fresh s ∷ [])) k .body) E (statesAt (ms ++ (fresh s ∷ [])) k)
-      before k h l = rw (new-before ms (fresh s) k l) (T .tables k h)
+      before : (i : ℕ) → i < 4 → i < length ms → Table mv i (monitorAt (ms ++ (fresh k ∷ [])) i .parts) E (statesAt (ms ++ (fresh k ∷ [])) i)
+      before i h l = rw (new-before ms (fresh k) i l) (T .tables i h)
 
-      at : (k : ℕ) → k < 4 → k ≡ length ms → Table mv k (monitorAt (ms ++ (fresh s ∷ [])) k .body) E (statesAt (ms ++ (fresh s ∷ [])) k)
-      at k h q = rw (new-at ms (fresh s) k q) (table-blank mv k E s (λ x y hx hy. T .tables k h .entry x y hx hy ∙ ap (λ m. target 255 (m .body) x y) (List·getD-eq-default ms nobody {n = k} (omega arith))))
+      at : (i : ℕ) → i < 4 → i ≡ length ms → Table mv i (monitorAt (ms ++ (fresh k ∷ [])) i .parts) E (statesAt (ms ++ (fresh k ∷ [])) i)
+      at i h q = rw (new-at ms (fresh k) i q) (table-blank mv i E (statesOf k) (λ x y hx hy. T .tables i h .entry x y hx hy ∙ ap (λ m. Option·getD (moveBy (m .parts) x y) 255) (List·getD-eq-default ms nobody {n = i} (omega arith))))
 
-      after : (k : ℕ) → k < 4 → length ms < k → Table mv k (monitorAt (ms ++ (fresh s ∷ [])) k .body) E (statesAt (ms ++ (fresh s ∷ [])) k)
-      after k h l = rw (new-after ms (fresh s) k l) (T .tables k h)
+      after : (i : ℕ) → i < 4 → length ms < i → Table mv i (monitorAt (ms ++ (fresh k ∷ [])) i .parts) E (statesAt (ms ++ (fresh k ∷ [])) i)
+      after i h l = rw (new-after ms (fresh k) i l) (T .tables i h)
 
-head-addLine : (l : Line) (ms : List Monitor) (k : ℕ) → monitorAt (addLine l ms) k .head ≡ monitorAt ms k .head
-head-addLine l ms k = case (eqb (suc k) (length ms)) (λ q. ap (λ m. m .head) (addLine-at l ms k (eqb-true (suc k) (length ms) q))) (λ q. ap (λ m. m .head) (addLine-beside l ms k (eqb-false (suc k) (length ms) q)))
+kind-addPart : (p : Part) (ms : List Monitor) (i : ℕ) → monitorAt (addPart p ms) i .kind ≡ monitorAt ms i .kind
+kind-addPart p ms i = case (eqb (suc i) (length ms)) (λ q. ap (λ m. m .kind) (addPart-at p ms i (eqb-true (suc i) (length ms) q))) (λ q. ap (λ m. m .kind) (addPart-beside p ms i (eqb-false (suc i) (length ms) q)))
 
 -- a move more, of the monitor m, which is the last
 module _ (ms : List Monitor) (n E m s e t : ℕ) (mv ct : List ℕ) (last : suc m ≡ length ms) (long : length mv ≡ 2048) (fewE : E ≤ 16) (fewS : statesAt ms m ≤ 32)
     (hm : m < 4) (hs : s < statesAt ms m) (he : e < E) (ht : t < statesAt ms m) (free : moveAt mv m s e ≡ 255) (T : Tabled ms n E mv ct) where
-  one-move : Tabled (addLine (go s e t) ms) n E (set mv (moveIndex m s e) t) ct
+  one-move : Tabled (addPart (go s e t) ms) n E (set mv (moveIndex m s e) t) ct
   one-move = record {
     tables = λ k h. case (eqb k m) (λ q. at k h (eqb-true k m q)) (λ q. beside k h (eqb-false k m q));
-    counts-are = λ k h. T .counts-are k h ∙ sym (heads k);
-    some-state = λ k h. rw (heads k) (T .some-state k h);
-    few-states = λ k h. rw (heads k) (T .few-states k h);
+    counts-are = λ k h. T .counts-are k h ∙ sym (kinds k);
+    some-state = λ k h. rw (kinds k) (T .some-state k h);
+    few-states = λ k h. rw (kinds k) (T .few-states k h);
   }
     where
-      heads : (k : ℕ) → statesAt (addLine (go s e t) ms) k ≡ statesAt ms k
-      heads k = ap statesOf (head-addLine (go s e t) ms k)
+      kinds : (k : ℕ) → statesAt (addPart (go s e t) ms) k ≡ statesAt ms k
+      kinds k = ap statesOf (kind-addPart (go s e t) ms k)
 
-      at : (k : ℕ) → k < 4 → k ≡ m → Table (set mv (moveIndex m s e) t) k (monitorAt (addLine (go s e t) ms) k .body) E (statesAt (addLine (go s e t) ms) k)
-      at k h q = rw (q, addLine-at (go s e t) ms m last) (table-go mv m s e t (monitorAt ms m .body) E (statesAt ms m) (T .tables m hm) hm long fewS fewE hs he ht free)
+      at : (k : ℕ) → k < 4 → k ≡ m → Table (set mv (moveIndex m s e) t) k (monitorAt (addPart (go s e t) ms) k .parts) E (statesAt (addPart (go s e t) ms) k)
+      at k h q = rw (q, addPart-at (go s e t) ms m last) (table-go mv m s e t (monitorAt ms m .parts) E (statesAt ms m) (T .tables m hm) hm long fewS fewE hs he ht free)
 
-      beside : (k : ℕ) → k < 4 → (k ≡ m → ⊥) → Table (set mv (moveIndex m s e) t) k (monitorAt (addLine (go s e t) ms) k .body) E (statesAt (addLine (go s e t) ms) k)
-      beside k h ne = rw (addLine-beside (go s e t) ms k (λ q. ne (omega arith))) (table-beside mv k m s e t (monitorAt ms k .body) E (statesAt ms k) ne (omega arith) (omega arith) (T .tables k h))
+      beside : (k : ℕ) → k < 4 → (k ≡ m → ⊥) → Table (set mv (moveIndex m s e) t) k (monitorAt (addPart (go s e t) ms) k .parts) E (statesAt (addPart (go s e t) ms) k)
+      beside k h ne = rw (addPart-beside (go s e t) ms k (λ q. ne (omega arith))) (table-beside mv k m s e t (monitorAt ms k .parts) E (statesAt ms k) ne (omega arith) (omega arith) (T .tables k h))
 
 module _ (r : Rig) (ls : List Line) (z : Sizes) (mv ct : List ℕ) (H : Holds r ls z mv ct) where
   -- ---- the reader's tests are the paper's
 
   rig-case : (e : ℕ) → rigCase z e ≡ lineCase ls (rig e)
-  unfolding rigCase lineCase tests isOther
+  unfolding rigCase lineCase tests
   rig-case e = rw (H .begun)
 
-  mon-case : (s : ℕ) → monCase z s ≡ lineCase ls (mon s)
-  unfolding monCase lineCase tests isOther
+  mon-case : (s : ℕ) → monCase z s ≡ lineCase ls (begins (mon s))
+  unfolding monCase lineCase tests testBeginning statesOf
   mon-case s = rw (H .begun, H .monitors-are, H .joint-is)
 
   none-yet : empty ls ≡ true → z .monitors ≡ 0
@@ -205,27 +195,28 @@ module _ (r : Rig) (ls : List Line) (z : Sizes) (mv ct : List ℕ) (H : Holds r 
     last-states : statesAt (monitors ls) (z .monitors - 1) ≡ z .latest
     last-states = H .latest-is (z .monitors - 1) (last ∙ H .monitors-are)
 
-    out-of-range : (s e t : ℕ) → goOut (eventsOf ls) s e t (latest (monitors ls)) ≡ (leb (z .latest) s || (leb (z .events) e || leb (z .latest) t))
-    unfolding goOut
+    out-of-range : (s e t : ℕ)
+        → ofLatest (λ m. leb (statesOf (m .kind)) s || (leb (eventsOf ls) e || leb (statesOf (m .kind)) t)) (latest (monitors ls)) ≡ (leb (z .latest) s || (leb (z .events) e || leb (z .latest) t))
+    unfolding ofLatest
     out-of-range s e t = rw (latest-is-last, last-states, H .events-are)
 
-    again : (s e t : ℕ) → (leb (z .latest) s || (leb (z .events) e || leb (z .latest) t)) ≡ false → goAgain s e (latest (monitors ls)) ≡ not (eqb (moveAt mv (z .monitors - 1) s e) 255)
-    unfolding goAgain
+    again : (s e t : ℕ) → (leb (z .latest) s || (leb (z .events) e || leb (z .latest) t)) ≡ false → ofLatest (λ m. isSome (moveBy (m .parts) s e)) (latest (monitors ls)) ≡ not (eqb (moveAt mv (z .monitors - 1) s e) 255)
+    unfolding ofLatest
     again s e t p =
         let a = leb-false (z .latest) s (or-left (leb (z .latest) s) _ p) in
         let b = leb-false (z .events) e (or-left (leb (z .events) e) _ (or-rest (leb (z .latest) s) _ p)) in
         let room = H .room in
-        ap (goAgain s e) latest-is-last ∙ H .tabled .tables (z .monitors - 1) (omega (arith, room .few-monitors)) .seen s e (omega (arith, room .few-latest)) (omega (arith, room .few-events))
+        ap (ofLatest (λ m. isSome (moveBy (m .parts) s e))) latest-is-last ∙ seen mv (z .monitors - 1) _ _ _ (H .tabled .tables (z .monitors - 1) (omega (arith, room .few-monitors))) (rw last-states (room .few-latest)) s e (omega (arith, room .few-latest)) (omega (arith, room .few-events))
 
-  go-case : (s e t : ℕ) → goCase mv z s e t ≡ lineCase ls (go s e t)
-  unfolding goCase lineCase tests isOther
+  go-case : (s e t : ℕ) → goCase mv z s e t ≡ lineCase ls (continues (go s e t))
+  unfolding goCase lineCase tests testContinuing
   go-case s e t = sym (same-picks _ _ _ _ _ _ misplaced (λ p. out-of-range p s e t) (λ p. again p s e t))
 
   pub case-is : (f : Form) → caseOf mv z f ≡ lineCase ls (formLine f)
-  unfolding lineCase isOther
+  unfolding lineCase tests
   case-is (RigForm e) = rig-case e
-  case-is (Mon s) = mon-case s
-  case-is (Go s e t) = go-case s e t
+  case-is (Begins k) = mon-case (k .states)
+  case-is (Continues p) = go-case (p .state) (p .event) (p .target)
   case-is Other = refl
 
   -- ---- one line more
@@ -234,10 +225,10 @@ module _ (r : Rig) (ls : List Line) (z : Sizes) (mv ct : List ℕ) (H : Holds r 
   recorded-more l = recordFrom-snoc r ls l ∙ ap (λ q. withLine q l) (H .recorded)
 
   holds-rig : (e : ℕ) → rigCase z e ≡ 0 → Holds r (ls ++ (rig e ∷ [])) (rigSizes z e) mv ct
-  unfolding rigCase withLine role extended eventsOf
+  unfolding rigCase withLine extended eventsOf
   holds-rig e q =
       let (p, q₁) = pick-zero (not (eqb (z .events) 0)) 5 _ (omega arith) q in
-      let (o, q₂) = pick-zero (ltb e 1 || ltb 16 e) 3 0 (omega arith) q₁ in
+      let (o, q₂) = pick-zero (outside 1 16 e) 3 0 (omega arith) q₁ in
       let low : 1 ≤ e = ltb-false e 1 (or-left (ltb e 1) (ltb 16 e) o) in
       let high : e ≤ 16 = ltb-false 16 e (or-rest (ltb e 1) (ltb 16 e) o) in
       let first : eqb (z .events) 0 ≡ true = not-false _ p in
@@ -256,32 +247,40 @@ module _ (r : Rig) (ls : List Line) (z : Sizes) (mv ct : List ℕ) (H : Holds r 
         wide = H .wide;
       }
 
-  holds-mon : (s : ℕ) → monCase z s ≡ 0 → Holds r (ls ++ (mon s ∷ [])) (monSizes z s) mv (monCounts ct z s)
-  unfolding monCase withLine role extended statesOf
-  holds-mon s q =
-      let (p, q₁) = pick-zero (eqb (z .events) 0) 5 _ (omega arith) q in
-      let (o, q₂) = pick-zero (ltb s 1 || (ltb 32 s || leb 4 (z .monitors))) 3 _ (omega arith) q₁ in
-      let (j, q₃) = pick-zero (ltb 1024 (z .joint * s)) 6 0 (omega arith) q₂ in
-      let rest = or-rest (ltb s 1) _ o in
-      let low : 1 ≤ s = ltb-false s 1 (or-left (ltb s 1) _ o) in
-      let high : s ≤ 32 = ltb-false 32 s (or-left (ltb 32 s) _ rest) in
-      let few : z .monitors < 4 = leb-false 4 (z .monitors) (or-rest (ltb 32 s) _ rest) in
-      let ms : monitors (ls ++ (mon s ∷ [])) ≡ monitors ls ++ (fresh s ∷ []) = monitors-more ls (mon s) in
+  -- a line that begins a monitor of the kind k
+  holds-begins : (k : Kind) → eqb (z .events) 0 ≡ false → z .monitors < 4 → 1 ≤ statesOf k → statesOf k ≤ 32 → z .joint * statesOf k ≤ 1024
+      → Holds r (ls ++ (begins k ∷ [])) (record { events = z .events; monitors = z .monitors + 1; latest = statesOf k; joint = z .joint * statesOf k }) mv (set ct (z .monitors) (statesOf k))
+  unfolding withLine extended
+  holds-begins k p few low high small =
+      let ms : monitors (ls ++ (begins k ∷ [])) ≡ monitors ls ++ (fresh k ∷ []) = monitors-more ls (begins k) in
       record {
-        events-are = events-snoc ls (mon s) (H .begun ∙ p) ∙ H .events-are;
-        begun = empty-snoc ls (mon s) ∙ sym p;
+        events-are = events-snoc ls (begins k) (H .begun ∙ p) ∙ H .events-are;
+        begun = empty-snoc ls (begins k) ∙ sym p;
         monitors-are = rw (ms, length-append, H .monitors-are);
-        joint-is = rw (ms, product-new, H .joint-is);
-        latest-is = λ k l. rw (ms, new-at (monitors ls) (fresh s) k (omega (arith, H .monitors-are)));
-        tabled = rw ms (one-more (monitors ls) (z .monitors) (z .events) s mv ct (H .monitors-are) (H .wide) few low high (H .tabled));
-        recorded = recorded-more (mon s);
-        room = record { few-events = H .room .few-events; few-monitors = omega arith; few-latest = high; few-joint = ltb-false 1024 (z .joint * s) j };
+        joint-is = rw (ms, product-append, H .joint-is);
+        latest-is = λ i l. rw (ms, new-at (monitors ls) (fresh k) i (omega (arith, H .monitors-are)));
+        tabled = rw ms (one-more (monitors ls) (z .monitors) (z .events) k mv ct (H .monitors-are) (H .wide) few low high (H .tabled));
+        recorded = recorded-more (begins k);
+        room = record { few-events = H .room .few-events; few-monitors = omega arith; few-latest = high; few-joint = small };
         long = H .long;
-        wide = length-set ct (z .monitors) s ∙ H .wide;
+        wide = length-set ct (z .monitors) (statesOf k) ∙ H .wide;
       }
 
-  holds-go : (s e t : ℕ) → goCase mv z s e t ≡ 0 → Holds r (ls ++ (go s e t ∷ [])) z (goMoves mv z s e t) ct
-  unfolding goCase withLine role extended
+  holds-mon : (s : ℕ) → monCase z s ≡ 0 → Holds r (ls ++ (begins (mon s) ∷ [])) (monSizes z s) mv (monCounts ct z s)
+  unfolding monCase statesOf
+  holds-mon s q =
+      let (p, q₁) = pick-zero (eqb (z .events) 0) 5 _ (omega arith) q in
+      let (o, q₂) = pick-zero (outside 1 32 s || leb 4 (z .monitors)) 3 _ (omega arith) q₁ in
+      let (j, q₃) = pick-zero (ltb 1024 (z .joint * s)) 6 0 (omega arith) q₂ in
+      let range = or-left (outside 1 32 s) _ o in
+      holds-begins (mon s) p
+      (leb-false 4 (z .monitors) (or-rest (outside 1 32 s) _ o))
+      (ltb-false s 1 (or-left (ltb s 1) _ range))
+      (ltb-false 32 s (or-rest (ltb s 1) _ range))
+      (ltb-false 1024 (z .joint * s) j)
+
+  holds-go : (s e t : ℕ) → goCase mv z s e t ≡ 0 → Holds r (ls ++ (continues (go s e t) ∷ [])) z (goMoves mv z s e t) ct
+  unfolding goCase withPart withLine extended
   holds-go s e t q =
       let (p, q₁) = pick-zero (eqb (z .monitors) 0) 5 _ (omega arith) q in
       let (o, q₂) = pick-zero (leb (z .latest) s || (leb (z .events) e || leb (z .latest) t)) 3 _ (omega arith) q₁ in
@@ -292,15 +291,15 @@ module _ (r : Rig) (ls : List Line) (z : Sizes) (mv ct : List ℕ) (H : Holds r 
       let ht : t < z .latest = leb-false (z .latest) t (or-rest (leb (z .events) e) _ rest) in
       let free : moveAt mv (z .monitors - 1) s e ≡ 255 = eqb-true _ 255 (not-false _ a) in
       let begun : empty ls ≡ false = case (empty ls) (λ w. contra (eq-eqb (z .monitors) 0 (none-yet w)) p) (λ w. w) in
-      let ms : monitors (ls ++ (go s e t ∷ [])) ≡ addLine (go s e t) (monitors ls) = monitors-more ls (go s e t) in
+      let ms : monitors (ls ++ (continues (go s e t) ∷ [])) ≡ addPart (go s e t) (monitors ls) = monitors-more ls (continues (go s e t)) in
       record {
-        events-are = events-snoc ls (go s e t) begun ∙ H .events-are;
-        begun = empty-snoc ls (go s e t) ∙ sym begun ∙ H .begun;
-        monitors-are = rw (ms, length-addLine) (H .monitors-are);
-        joint-is = rw (ms, product-addLine) (H .joint-is);
-        latest-is = λ k l. rw ms (ap statesOf (head-addLine (go s e t) (monitors ls) k) ∙ H .latest-is k l);
+        events-are = events-snoc ls (continues (go s e t)) begun ∙ H .events-are;
+        begun = empty-snoc ls (continues (go s e t)) ∙ sym begun ∙ H .begun;
+        monitors-are = rw (ms, length-addPart) (H .monitors-are);
+        joint-is = rw (ms, product-addPart) (H .joint-is);
+        latest-is = λ k l. rw ms (ap statesOf (kind-addPart (go s e t) (monitors ls) k) ∙ H .latest-is k l);
         tabled = rw ms (one-move (monitors ls) (z .monitors) (z .events) (z .monitors - 1) s e t mv ct (last p) (H .long) (H .room .few-events) (rw (last-states p) (H .room .few-latest)) (omega (arith, H .room .few-monitors)) (rw (last-states p) hs) he (rw (last-states p) ht) free (H .tabled));
-        recorded = recorded-more (go s e t);
+        recorded = recorded-more (continues (go s e t));
         room = H .room;
         long = length-set mv (moveIndex (z .monitors - 1) s e) t ∙ H .long;
         wide = H .wide;
@@ -308,6 +307,6 @@ module _ (r : Rig) (ls : List Line) (z : Sizes) (mv ct : List ℕ) (H : Holds r 
 
   pub holds-more : (f : Form) → caseOf mv z f ≡ 0 → Holds r (ls ++ (formLine f ∷ [])) (sizesAfter z f) (movesAfter mv z f) (countsAfter ct z f)
   holds-more (RigForm e) q = holds-rig e q
-  holds-more (Mon s) q = holds-mon s q
-  holds-more (Go s e t) q = holds-go s e t q
+  holds-more (Begins k) q = holds-mon (k .states) q
+  holds-more (Continues p) q = holds-go (p .state) (p .event) (p .target) q
   holds-more Other q = absurd (omega arith)

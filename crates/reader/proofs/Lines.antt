@@ -1,24 +1,12 @@
 -- The lines of a text, one after the other. Assumes nothing.
-use mathlib.Core.Path.{_≡_, refl, ap, _∙_}
-use mathlib.Core.Bool.{Bool, true, false}
+use mathlib.Core.Path.{_≡_, ap, _∙_}
 use mathlib.Core.List.{List, [], _∷_, map}
 use Prim.Native.Nat.{ℕ, _+_, _-_, _≤_, _<_}
 use lib.ListN.{length, take, drop}
-use lib.Dec.{eqb}
-use Rattle.lists.specs.Lists.{pick, indexOf}
-use Rattle.promises.specs.Text.{onto, splitOn, init, lastOf, lines, unended, decode, decoded}
+use Rattle.lists.specs.Lists.{indexOf}
+use Rattle.promises.specs.Text.{splitOn, init, lastOf, lines, unended, decode, decoded}
+use Rattle.promises.proofs.Pieces.{splitOn-some}
 use Rattle.decoding.proofs.Parts.{splitOn-whole, splitOn-first}
-
--- there is at least one piece
-splitOn-some : (b : ℕ) (l : List ℕ) → (p : List ℕ) × (ps : List (List ℕ)) × (splitOn b l ≡ p ∷ ps)
-unfolding splitOn onto
-splitOn-some b [] = ([], [], refl)
-splitOn-some b (x ∷ l) = go (eqb x b) (splitOn b l)
-  where
-    go : (t : Bool) (q : List (List ℕ)) → (p : List ℕ) × (ps : List (List ℕ)) × (pick t ([] ∷ q) (onto x q) ≡ p ∷ ps)
-    go true q = ([], q, refl)
-    go false [] = (x ∷ [], [], refl)
-    go false (p ∷ ps) = (x ∷ p, ps, refl)
 
 init-more : (p : List ℕ) (b : ℕ) (l : List ℕ) → init (p ∷ splitOn b l) ≡ p ∷ init (splitOn b l)
 unfolding init

@@ -2,7 +2,7 @@
 --   wholeReading t         == what reading the lines of t gives
 --   Passed r t z n i mv ct == the lines before byte i of t are read into r with no refusal; the next one is line n
 use mathlib.Core.Path.{_≡_, refl, sym, ap, ap₂, _∙_}
-use mathlib.Core.Bool.{Bool, true, false, not}
+use mathlib.Core.Bool.{Bool, true, false}
 use mathlib.Core.List.{List, [], _∷_, _++_, append-assoc, append-nil}
 use Prim.Native.Nat.{ℕ, suc, _+_, _-_, _≤_, _<_}
 use native.Mathlib.Omega.{arith}
@@ -11,7 +11,6 @@ use lib.Seq.{drop-drop}
 use lib.Dec.{eqb}
 use borrow.Author.Tests.{eq-eqb, ne-eqb, eqb-true, le-ltb, lt-ltb}
 use Rattle.lists.specs.Lists.{pick, indexOf}
-use Rattle.lists.proofs.Tests.{case}
 use Rattle.promises.specs.Answer.{Answer, served, refused}
 use Rattle.promises.specs.Text.{Line, monitors, decode, decoded, unended}
 use Rattle.promises.specs.Reading.{empty, lineCase, readingFrom, reading}

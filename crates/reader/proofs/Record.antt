@@ -1,38 +1,39 @@
--- The record of a readable text: its automaton is the one that the lines describe. The tables hold the moves of the bodies (Held), and a body's moves
--- are its automaton's. Assumes nothing.
+-- The record of a readable text: its automaton is the one that the lines describe. The tables hold the moves of the `go` lines (Held), and these
+-- are the automaton's. Assumes nothing.
 use mathlib.Core.Path.{_≡_, refl, sym, ap, ap₂, _∙_, fun-ext}
 use mathlib.Core.Logic.{_↔_, _≢_}
 use mathlib.Core.Bool.{Bool, true, false, _&&_}
+use mathlib.Core.Option.{Option, none, some, Option·getD}
 use mathlib.Core.List.{List, [], _∷_, _++_, map, append-nil, append-assoc}
-use mathlib.Core.List.{List·Memᴰ as In, List·Memᴰ·head as here, List·Memᴰ·tail as there}
-use Prim.Native.Nat.{ℕ, _+_, _*_, _≤_, _<_}
+use mathlib.Core.List.{List·Memᴰ as In}
+use Prim.Native.Nat.{ℕ, _+_, _≤_, _<_}
 use native.Mathlib.Omega.{arith}
 use lib.ListN.{length, getD, length-map, length-replicate, getD-replicate, replicate}
 use lib.Seq.{ext-getD}
 use lib.Dec.{ltb}
 use borrow.Author.Tests.{eqb-false, lt-ltb, le-ltb, ltb-true}
 use Rattle.lists.specs.Lists.{pick, tabulate, range}
-use Rattle.lists.proofs.Tests.{contra, case}
-use Rattle.lists.proofs.Tells.{tells-true}
+use Rattle.lists.proofs.Tests.{case}
 use Rattle.lists.proofs.Tables.{length-tabulate, getD-tabulate}
 use Rattle.lists.proofs.Members.{getD-map-lt, getD-in}
 use Rattle.automaton.specs.Joint.{At, joint, jointState, sizes}
-use Rattle.promises.specs.Text.{Line, rig, mon, go, other, Monitor, monitorsFrom, monitors, decoded, statesOf, startOf, eventsOf, product, jointStates, AllSound, Readable}
-use Rattle.promises.specs.Reading.{empty, isMove, moves, lineCase}
-use Rattle.promises.specs.Rig.{leadsTo, target, rigAutomaton, linesAutomaton, linesStart, start}
+use Rattle.promises.specs.Text.{Kind, mon, Part, go, Line, rig, begins, continues, other, Monitor, monitorsFrom, monitors, decoded, statesOf, startOf, eventsOf, jointStates, AllSound, Readable}
+use Rattle.promises.specs.Reading.{empty, moveBy, lineCase}
+use Rattle.promises.specs.Rig.{nextOf, rigAutomaton, linesAutomaton, linesStart, start}
 use Rattle.promises.specs.Rig as lines
-use Rattle.promises.proofs.Lines.{readable-formed}
-use Rattle.promises.proofs.Reading.{is-move, tells-moves, sound-case, readable-said}
+use Rattle.promises.proofs.Lines.{PartRanged, readable-formed}
+use Rattle.promises.proofs.Meaning.{move-is, sizes-standing}
+use Rattle.promises.proofs.Reading.{moved, sound-case, readable-said}
 use Rattle.rig.specs.declared.Rig.{Rig}
 use Rattle.rig.specs.Record.{moveAt, countOf, moveOf, monitorAt, standing, recordAutomaton, recordStart, WellFormed, emptyRig}
 use Rattle.decoding.specs.declared.Form.{Form}
-use Rattle.decoding.specs.declared.Form.the-variants.{Rig as RigForm, Mon, Go, Other}
+use Rattle.decoding.specs.declared.Form.the-variants.{Rig as RigForm, Begins, Continues, Other}
 use Rattle.decoding.specs.Forms.{formLine}
 use Rattle.reader.specs.declared.Sizes.{Sizes}
 use Rattle.reader.specs.Reading.{recordFrom, whereServed, recordOf}
 use Rattle.reader.specs.Record.{nobody, monitorIn, ReadFrom}
 use Rattle.reader.specs.Taking.{sizesAfter, movesAfter, countsAfter}
-use Rattle.reader.proofs.Monitors.{empty-nil, target-none, target-any}
+use Rattle.reader.proofs.Monitors.{empty-nil}
 use Rattle.reader.proofs.Tables.{Table}
 use Rattle.reader.proofs.Held.{Tabled, Holds, holds-none, case-is, holds-more}
 
@@ -47,15 +48,15 @@ pub record Held (r : Rig) (ls : List Line) : Type 0 where
 
 formOf : Line → Form
 formOf (rig e) = RigForm e
-formOf (mon s) = Mon s
-formOf (go s e t) = Go s e t
+formOf (begins (mon s)) = Begins (record { states = s })
+formOf (continues (go s e t)) = Continues (record { state = s; event = e; target = t })
 formOf other = Other
 
 line-form : (l : Line) → formLine (formOf l) ≡ l
 unfolding formOf
 line-form (rig e) = refl
-line-form (mon s) = refl
-line-form (go s e t) = refl
+line-form (begins (mon s)) = refl
+line-form (continues (go s e t)) = refl
 line-form other = refl
 
 held-more : (r : Rig) (ls : List Line) (f : Form) → Held r ls → lineCase ls (formLine f) ≡ 0 → Held r (ls ++ (formLine f ∷ []))
@@ -86,17 +87,14 @@ held-readable t R = held-all emptyRig [] (decoded t) held-none (R .sound)
 
 -- ---- one monitor
 
--- a body that moves from s on e has the line that says where to
-target-in : (n : ℕ) (b : List Line) (s e : ℕ) → moves s e b ≡ true → In (go s e (target n b s e)) b
-unfolding moves target leadsTo
-target-in n [] s e h = contra h refl
-target-in n (l ∷ b) s e h = case (isMove s e l) first (λ q. rw q (there (target-in n b s e (rw q at h))))
-  where
-    leads : (u : ℕ) → go s e u ≡ l → go s e (leadsTo l) ≡ l
-    leads u q = ap (λ k. go s e (leadsTo k)) (sym q) ∙ q
+-- a `mon` monitor moves along its `go` lines, from state 0 on
+next-is : (k : Kind) (ps : List Part) (s e : ℕ) → nextOf k ps s e ≡ Option·getD (moveBy ps s e) (statesOf k)
+unfolding nextOf statesOf
+next-is (mon S) ps s e = refl
 
-    first : isMove s e l ≡ true → In (go s e (pick (isMove s e l) (leadsTo l) (target n b s e))) (l ∷ b)
-    first q = let (u, w) = is-move s e l .yes q in rw q (here (leads u w))
+start-is : (k : Kind) → startOf k ≡ 0
+unfolding startOf
+start-is (mon S) = refl
 
 -- an entry in range is where the monitor moves; any other stands for no move
 entry-moves : (v S E s e : ℕ) → s < S → e < E → v < S → pick ((ltb s S && ltb e E) && ltb v S) v S ≡ v
@@ -111,31 +109,28 @@ entry-still v S E s e h = go (ltb s S) (ltb e E) refl refl
     go false b p q = refl
 
 -- monitor k of the record is the monitor m of the lines
-module _ (r : Rig) (m : Monitor) (k : ℕ) (T : Table (r .moves) k (m .body) (r .events) (statesOf (m .head)))
-    (c : countOf r k ≡ statesOf (m .head)) (few : statesOf (m .head) ≤ 32) (fewE : r .events ≤ 16) where
-  pub move-is : (s e : ℕ) → moveOf r k s e ≡ target (statesOf (m .head)) (m .body) s e
+module _ (r : Rig) (m : Monitor) (k : ℕ) (T : Table (r .moves) k (m .parts) (r .events) (statesOf (m .kind)))
+    (c : countOf r k ≡ statesOf (m .kind)) (few : statesOf (m .kind) ≤ 32) (fewE : r .events ≤ 16) where
+  moves-as : (s e : ℕ) → moveOf r k s e ≡ Option·getD (moveBy (m .parts) s e) (statesOf (m .kind))
   unfolding moveOf
-  move-is s e = rw c (case (moves s e (m .body)) moved still)
+  moves-as s e = rw c (step (moveBy (m .parts) s e) refl)
     where
-      moved : moves s e (m .body) ≡ true
-          → pick ((ltb s (statesOf (m .head)) && ltb e (r .events)) && ltb (moveAt (r .moves) k s e) (statesOf (m .head))) (moveAt (r .moves) k s e) (statesOf (m .head)) ≡ target (statesOf (m .head)) (m .body) s e
-      moved q =
-          let w = T .within s e q in
-          let v : moveAt (r .moves) k s e ≡ target 255 (m .body) s e = T .entry s e (omega arith) (omega arith) in
-          entry-moves (moveAt (r .moves) k s e) (statesOf (m .head)) (r .events) s e (w .0) (w .1) (rw v (w .2)) ∙ v ∙ target-any 255 (statesOf (m .head)) (m .body) s e q
-
-      still : moves s e (m .body) ≡ false
-          → pick ((ltb s (statesOf (m .head)) && ltb e (r .events)) && ltb (moveAt (r .moves) k s e) (statesOf (m .head))) (moveAt (r .moves) k s e) (statesOf (m .head)) ≡ target (statesOf (m .head)) (m .body) s e
-      still q =
-          entry-still (moveAt (r .moves) k s e) (statesOf (m .head)) (r .events) s e (λ a b. large (T .entry s e (omega arith) (omega arith) ∙ target-none 255 (m .body) s e q))
-          ∙ sym (target-none (statesOf (m .head)) (m .body) s e q)
+      step : (o : Option ℕ) → moveBy (m .parts) s e ≡ o
+          → pick ((ltb s (statesOf (m .kind)) && ltb e (r .events)) && ltb (moveAt (r .moves) k s e) (statesOf (m .kind))) (moveAt (r .moves) k s e) (statesOf (m .kind)) ≡ Option·getD (moveBy (m .parts) s e) (statesOf (m .kind))
+      step none q =
+          entry-still (moveAt (r .moves) k s e) (statesOf (m .kind)) (r .events) s e (λ a b. large (T .entry s e (omega arith) (omega arith) ∙ ap (λ o. Option·getD o 255) q))
+          ∙ ap (λ o. Option·getD o (statesOf (m .kind))) (sym q)
         where
-          large : moveAt (r .moves) k s e ≡ 255 → statesOf (m .head) ≤ moveAt (r .moves) k s e
+          large : moveAt (r .moves) k s e ≡ 255 → statesOf (m .kind) ≤ moveAt (r .moves) k s e
           large p = omega arith
+      step (some u) q =
+          let w = T .within s e u q in
+          let v : moveAt (r .moves) k s e ≡ u = T .entry s e (omega arith) (omega arith) ∙ ap (λ o. Option·getD o 255) q in
+          entry-moves (moveAt (r .moves) k s e) (statesOf (m .kind)) (r .events) s e (w .0) (w .1) (rw v (w .2)) ∙ v ∙ ap (λ o. Option·getD o (statesOf (m .kind))) (sym q)
 
   pub monitor-is : monitorAt r k ≡ lines.monitorOf (r .events) m
   unfolding monitorAt lines.monitorOf
-  monitor-is = ap₂ (λ n f. record { states = n; events = range (r .events); next = f; stop = λ s. false }) c (fun-ext (λ s. fun-ext (λ e. move-is s e)))
+  monitor-is = ap₂ (λ n f. record { states = n; events = range (r .events); next = f; stop = λ s. false }) c (fun-ext (λ s. fun-ext (λ e. moves-as s e ∙ sym (next-is (m .kind) (m .parts) s e))))
 
 -- ---- all monitors
 
@@ -152,7 +147,7 @@ module _ (ls : List Line) (r : Rig) (H : Recorded ls r) where
   at-monitor k h = monitor-is r (getD (monitors ls) k nobody) k (H .tabled .tables k (omega (arith, H .few-monitors))) (H .tabled .counts-are k h) (H .tabled .few-states k h) (H .few-events)
 
   pub standing-is : standing r ≡ lines.standing (eventsOf ls) (monitors ls)
-  unfolding standing lines.standing startOf
+  unfolding standing lines.standing
   standing-is = ext-getD nowhere _ _ (length-tabulate inRecord (r .monitors) ∙ H .monitors-are ∙ sym (length-map (monitors ls) inLines)) (λ i h. same i (rw (length-tabulate inRecord (r .monitors)) at h))
     where
       nowhere : At
@@ -162,12 +157,12 @@ module _ (ls : List Line) (r : Rig) (H : Recorded ls r) where
       inRecord k = record { of = monitorAt r k; state = 0 }
 
       inLines : Monitor → At
-      inLines m = record { of = lines.monitorOf (eventsOf ls) m; state = startOf (m .head) }
+      inLines m = record { of = lines.monitorOf (eventsOf ls) m; state = startOf (m .kind) }
 
       same : (i : ℕ) → i < r .monitors → getD (tabulate inRecord (r .monitors)) i nowhere ≡ getD (map inLines (monitors ls)) i nowhere
       same i h =
           getD-tabulate inRecord (r .monitors) i nowhere h
-          ∙ ap (λ a. record { of = a; state = 0 }) (at-monitor i h ∙ ap (λ E. lines.monitorOf E (getD (monitors ls) i nobody)) (H .events-are))
+          ∙ ap₂ (λ a x. record { of = a; state = x }) (at-monitor i h ∙ ap (λ E. lines.monitorOf E (getD (monitors ls) i nobody)) (H .events-are)) (sym (start-is (getD (monitors ls) i nobody .kind)))
           ∙ sym (getD-map-lt inLines (monitors ls) i nobody nowhere (rw (← H .monitors-are) h))
 
   pub automaton-of : recordAutomaton r ≡ linesAutomaton ls
@@ -177,11 +172,6 @@ module _ (ls : List Line) (r : Rig) (H : Recorded ls r) where
   pub start-of : recordStart r ≡ linesStart ls
   unfolding recordStart linesStart
   start-of = ap jointState standing-is
-
-sizes-lines : (E : ℕ) (ms : List Monitor) → sizes (lines.standing E ms) ≡ product ms
-unfolding lines.standing sizes product lines.monitorOf
-sizes-lines E [] = refl
-sizes-lines E (m ∷ ms) = ap (λ p. statesOf (m .head) * p) (sizes-lines E ms)
 
 -- ---- a readable text
 
@@ -221,7 +211,7 @@ module _ (t : List ℕ) (R : Readable t) where
 
   joint-of : sizes (standing (recordOf t)) ≡ jointStates t
   unfolding jointStates
-  joint-of = ap sizes (standing-is (decoded t) (recordOf t) recorded) ∙ sizes-lines (eventsOf (decoded t)) (monitors (decoded t))
+  joint-of = ap sizes (standing-is (decoded t) (recordOf t) recorded) ∙ sizes-standing (eventsOf (decoded t)) (monitors (decoded t))
 
   few-joint : jointStates t ≤ 1024
   unfolding jointStates
@@ -238,34 +228,31 @@ module _ (t : List ℕ) (R : Readable t) where
     few-joint = rw joint-of few-joint;
   }
 
-  -- 'for each monitor, a move from s on e to u exactly when its body has the line'
-  moves-of : (m s e u : ℕ) → m < recordOf t .monitors → ((moveOf (recordOf t) m s e ≡ u) × (u < countOf (recordOf t) m)) ↔ In (go s e u) (monitorIn t m .body)
+  -- 'for each monitor, a move from s on e to u exactly when there is that line'
+  moves-of : (m s e u : ℕ) → m < recordOf t .monitors → ((moveOf (recordOf t) m s e ≡ u) × (u < countOf (recordOf t) m)) ↔ In (go s e u) (monitorIn t m .parts)
+  unfolding PartRanged
   moves-of m s e u h = (to, from)
     where
       known : In (monitorIn t m) (monitors (decoded t))
       known = getD-in (monitors (decoded t)) m nobody (rw (← recorded .monitors-are) h)
 
-      is : moveOf (recordOf t) m s e ≡ target (statesOf (monitorIn t m .head)) (monitorIn t m .body) s e
+      is : moveOf (recordOf t) m s e ≡ Option·getD (moveBy (monitorIn t m .parts) s e) (statesOf (monitorIn t m .kind))
       is =
-          move-is (recordOf t) (monitorIn t m) m (recorded .tabled .tables m (omega (arith, recorded .few-monitors))) (recorded .tabled .counts-are m h)
+          moves-as (recordOf t) (monitorIn t m) m (recorded .tabled .tables m (omega (arith, recorded .few-monitors))) (recorded .tabled .counts-are m h)
           (recorded .tabled .few-states m h) (recorded .few-events) s e
 
-      to : (moveOf (recordOf t) m s e ≡ u) × (u < countOf (recordOf t) m) → In (go s e u) (monitorIn t m .body)
-      to (q, l) =
-          case (moves s e (monitorIn t m .body))
-          (λ p. rw (sym is ∙ q) at (target-in (statesOf (monitorIn t m .head)) (monitorIn t m .body) s e p))
-          (λ p. absurd (outside (sym (target-none (statesOf (monitorIn t m .head)) (monitorIn t m .body) s e p) ∙ sym is ∙ q)))
+      to : (moveOf (recordOf t) m s e ≡ u) × (u < countOf (recordOf t) m) → In (go s e u) (monitorIn t m .parts)
+      to (q, l) = step (moveBy (monitorIn t m .parts) s e) refl
         where
-          outside : statesOf (monitorIn t m .head) ≡ u → ⊥
-          outside z = omega (arith, recorded .tabled .counts-are m h)
+          step : (o : Option ℕ) → moveBy (monitorIn t m .parts) s e ≡ o → In (go s e u) (monitorIn t m .parts)
+          step none p = let z : statesOf (monitorIn t m .kind) ≡ u = sym (is ∙ ap (λ o. Option·getD o (statesOf (monitorIn t m .kind))) p) ∙ q in absurd (omega (arith, recorded .tabled .counts-are m h))
+          step (some v) p = let z : v ≡ u = sym (is ∙ ap (λ o. Option·getD o (statesOf (monitorIn t m .kind))) p) ∙ q in rw z at (moved (monitorIn t m .parts) s e v p)
 
-      from : In (go s e u) (monitorIn t m .body) → (moveOf (recordOf t) m s e ≡ u) × (u < countOf (recordOf t) m)
+      from : In (go s e u) (monitorIn t m .parts) → (moveOf (recordOf t) m s e ≡ u) × (u < countOf (recordOf t) m)
       from i =
-          let F = readable-formed t R .monitored in
-          let p = tells-true (tells-moves s e (monitorIn t m .body)) (u, i) in
-          let j = target-in (statesOf (monitorIn t m .head)) (monitorIn t m .body) s e p in
-          let w = F .ranged (monitorIn t m) known s e u i in
-          (is ∙ F .once (monitorIn t m) known s e (target (statesOf (monitorIn t m .head)) (monitorIn t m .body) s e) u j i, rw (recorded .tabled .counts-are m h) (w .2))
+          let kept = readable-formed t R .monitored .each (monitorIn t m) known in
+          let w = kept .parts-ranged (go s e u) i in
+          (is ∙ ap (λ o. Option·getD o (statesOf (monitorIn t m .kind))) (move-is (eventsOf (decoded t)) (monitorIn t m) kept s e u i), rw (recorded .tabled .counts-are m h) (w .2))
 
   pub read-from : ReadFrom t (recordOf t)
   unfolding rigAutomaton start

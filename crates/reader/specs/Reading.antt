@@ -1,15 +1,16 @@
 -- What `read` answers and the record that it gives. Paper 01, 'Rig text' and 'Numbers of refusal'.
 --   answerOf v         == the verdict v in the paper's numbers
+--   withPart r p       == the record r with the line p of its latest monitor
 --   withLine r l       == the record r with the line l
 --   recordFrom r ls    == the record r with the lines ls, one after the other
 --   whereServed a r s  == r where the answer a is served, else s
 --   recordOf t         == the record of the text t, empty where t is refused
--- A new line form is one clause of withLine. Assumes nothing.
+-- A new part of a monitor is one clause of withPart. Assumes nothing.
 use mathlib.Core.List.{List, [], _∷_}
 use Prim.Native.Nat.{ℕ, _+_, _-_}
 use lib.ListN.{set}
 use Rattle.promises.specs.Answer.{Answer, served, refused}
-use Rattle.promises.specs.Text.{Line, rig, mon, go, other, decoded}
+use Rattle.promises.specs.Text.{Part, go, Line, rig, begins, continues, other, statesOf, decoded}
 use Rattle.promises.specs.Reading.{reading}
 use Rattle.rig.specs.declared.Rig.{Rig}
 use Rattle.rig.specs.Record.{moveIndex, emptyRig}
@@ -21,11 +22,15 @@ abbrev pub answerOf : Verdict → Answer
 answerOf Readable = served []
 answerOf (Refused number place) = refused number place
 
--- '`rig`, E'; '`mon`, S: a new monitor'; '`go`, s, e, t: the latest monitor moves from s to t on event e'
+-- '`go`, s, e, t: the latest monitor moves from s to t on event e'
+unfoldable pub withPart : Rig → Part → Rig
+withPart r (go s e t) = record { moves = set (r .moves) (moveIndex (r .monitors - 1) s e) t; counts = r .counts; monitors = r .monitors; events = r .events }
+
+-- '`rig`, E'; '`mon`, S: a new monitor'
 unfoldable pub withLine : Rig → Line → Rig
-withLine r (rig e) = record { moves = r .moves; counts = r .counts; monitors = r .monitors; events = e }
-withLine r (mon s) = record { moves = r .moves; counts = set (r .counts) (r .monitors) s; monitors = r .monitors + 1; events = r .events }
-withLine r (go s e t) = record { moves = set (r .moves) (moveIndex (r .monitors - 1) s e) t; counts = r .counts; monitors = r .monitors; events = r .events }
+withLine r (rig E) = record { moves = r .moves; counts = r .counts; monitors = r .monitors; events = E }
+withLine r (begins k) = record { moves = r .moves; counts = set (r .counts) (r .monitors) (statesOf k); monitors = r .monitors + 1; events = r .events }
+withLine r (continues p) = withPart r p
 withLine r other = r
 
 unfoldable pub recordFrom : Rig → List Line → Rig

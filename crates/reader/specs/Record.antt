@@ -9,13 +9,13 @@ use mathlib.Core.List.{List, [], List·Memᴰ as In}
 use Prim.Native.Nat.{ℕ, _<_}
 use lib.ListN.{length, getD}
 use Rattle.automaton.specs.Joint.{sizes}
-use Rattle.promises.specs.Text.{go, other, Monitor, monitors, decoded, statesOf, eventsOf, jointStates}
+use Rattle.promises.specs.Text.{mon, go, Monitor, monitors, decoded, statesOf, eventsOf, jointStates}
 use Rattle.promises.specs.Rig.{rigAutomaton, start}
 use Rattle.rig.specs.declared.Rig.{Rig}
 use Rattle.rig.specs.Record.{countOf, moveOf, standing, recordAutomaton, recordStart, WellFormed}
 
 abbrev pub nobody : Monitor
-nobody = record { head = other; body = [] }
+nobody = record { kind = mon 0; parts = [] }
 
 abbrev pub monitorIn : List ℕ → ℕ → Monitor
 monitorIn t m = getD (monitors (decoded t)) m nobody
@@ -25,9 +25,9 @@ pub record ReadFrom (t : List ℕ) (r : Rig) : Type 0 where
   pub well-formed : WellFormed r
   pub events-are : r .events ≡ eventsOf (decoded t)
   pub monitors-are : r .monitors ≡ length (monitors (decoded t))
-  pub counts-are : (m : ℕ) → m < r .monitors → countOf r m ≡ statesOf (monitorIn t m .head)
-  -- a monitor moves from s on e to u exactly when its body has the line `go` s e u
-  pub moves-are : (m s e u : ℕ) → m < r .monitors → ((moveOf r m s e ≡ u) × (u < countOf r m)) ↔ In (go s e u) (monitorIn t m .body)
+  pub counts-are : (m : ℕ) → m < r .monitors → countOf r m ≡ statesOf (monitorIn t m .kind)
+  -- a monitor moves from s on e to u exactly when its further lines have `go` s e u
+  pub moves-are : (m s e u : ℕ) → m < r .monitors → ((moveOf r m s e ≡ u) × (u < countOf r m)) ↔ In (go s e u) (monitorIn t m .parts)
   -- the joint automaton that the record stands for is the one that the lines describe
   pub automaton-is : recordAutomaton r ≡ rigAutomaton t
   pub start-is : recordStart r ≡ start t

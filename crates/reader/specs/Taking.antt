@@ -5,17 +5,22 @@
 --   refusal n p        == the answer to a text that is refused
 --   rigCase, monCase, goCase == the number of the first case that holds of such a line, 0 where none does
 --   rigSizes, monSizes, monCounts, goMoves == what such a line changes, where no case holds of it
+--   kindCase, kindSizes, kindCounts == the same for any line that begins a monitor
+--   partCase, partMoves == the same for any line of the latest monitor
 --   caseOf, sizesAfter, movesAfter, countsAfter == the same for any line
--- A new line form is one section and its clauses of the last four. Assumes nothing.
+-- A new line form is one section and its clauses of those for its group. Assumes nothing.
 use mathlib.Core.Bool.{not, _||_}
 use mathlib.Core.List.{List}
 use Prim.Native.Nat.{ℕ, _+_, _-_, _*_, _≤_}
 use lib.ListN.{set}
 use lib.Dec.{ltb, leb, eqb}
 use Rattle.lists.specs.Lists.{pick}
+use Rattle.promises.specs.Reading.{outside}
 use Rattle.rig.specs.Record.{moveIndex, moveAt, emptyRig}
 use Rattle.decoding.specs.declared.Form.{Form}
-use Rattle.decoding.specs.declared.Form.the-variants.{Rig, Mon, Go, Other}
+use Rattle.decoding.specs.declared.Form.the-variants.{Rig, Begins, Continues, Other}
+use Rattle.decoding.specs.declared.Kind.{Kind}
+use Rattle.decoding.specs.declared.Part.{Part}
 use Rattle.reader.specs.declared.Reading.{Reading}
 use Rattle.reader.specs.declared.Sizes.{Sizes}
 use Rattle.reader.specs.declared.Taken.{Taken}
@@ -40,7 +45,7 @@ refusal n p = record { verdict = Refused n p; rig = emptyRig }
 -- ---- `rig`, E
 
 unfoldable pub rigCase : Sizes → ℕ → ℕ
-rigCase z e = pick (not (eqb (z .events) 0)) 5 (pick (ltb e 1 || ltb 16 e) 3 0)
+rigCase z e = pick (not (eqb (z .events) 0)) 5 (pick (outside 1 16 e) 3 0)
 
 abbrev pub rigSizes : Sizes → ℕ → Sizes
 rigSizes z e = record { events = e; monitors = z .monitors; latest = z .latest; joint = z .joint }
@@ -48,7 +53,7 @@ rigSizes z e = record { events = e; monitors = z .monitors; latest = z .latest; 
 -- ---- `mon`, S
 
 unfoldable pub monCase : Sizes → ℕ → ℕ
-monCase z s = pick (eqb (z .events) 0) 5 (pick (ltb s 1 || (ltb 32 s || leb 4 (z .monitors))) 3 (pick (ltb 1024 (z .joint * s)) 6 0))
+monCase z s = pick (eqb (z .events) 0) 5 (pick (outside 1 32 s || leb 4 (z .monitors)) 3 (pick (ltb 1024 (z .joint * s)) 6 0))
 
 abbrev pub monSizes : Sizes → ℕ → Sizes
 monSizes z s = record { events = z .events; monitors = z .monitors + 1; latest = s; joint = z .joint * s }
@@ -70,26 +75,41 @@ goMoves mv z s e t = set mv (moveIndex (z .monitors - 1) s e) t
 
 -- ---- any line
 
+abbrev pub kindCase : Sizes → Kind → ℕ
+kindCase z k = monCase z (k .states)
+
+abbrev pub kindSizes : Sizes → Kind → Sizes
+kindSizes z k = monSizes z (k .states)
+
+abbrev pub kindCounts : List ℕ → Sizes → Kind → List ℕ
+kindCounts ct z k = monCounts ct z (k .states)
+
+abbrev pub partCase : List ℕ → Sizes → Part → ℕ
+partCase mv z p = goCase mv z (p .state) (p .event) (p .target)
+
+abbrev pub partMoves : List ℕ → Sizes → Part → List ℕ
+partMoves mv z p = goMoves mv z (p .state) (p .event) (p .target)
+
 abbrev pub caseOf : List ℕ → Sizes → Form → ℕ
 caseOf mv z (Rig e) = rigCase z e
-caseOf mv z (Mon s) = monCase z s
-caseOf mv z (Go s e t) = goCase mv z s e t
+caseOf mv z (Begins k) = kindCase z k
+caseOf mv z (Continues p) = partCase mv z p
 caseOf mv z Other = 2
 
 abbrev pub sizesAfter : Sizes → Form → Sizes
 sizesAfter z (Rig e) = rigSizes z e
-sizesAfter z (Mon s) = monSizes z s
-sizesAfter z (Go s e t) = z
+sizesAfter z (Begins k) = kindSizes z k
+sizesAfter z (Continues p) = z
 sizesAfter z Other = z
 
 abbrev pub movesAfter : List ℕ → Sizes → Form → List ℕ
 movesAfter mv z (Rig e) = mv
-movesAfter mv z (Mon s) = mv
-movesAfter mv z (Go s e t) = goMoves mv z s e t
+movesAfter mv z (Begins k) = mv
+movesAfter mv z (Continues p) = partMoves mv z p
 movesAfter mv z Other = mv
 
 abbrev pub countsAfter : List ℕ → Sizes → Form → List ℕ
 countsAfter ct z (Rig e) = ct
-countsAfter ct z (Mon s) = monCounts ct z s
-countsAfter ct z (Go s e t) = ct
+countsAfter ct z (Begins k) = kindCounts ct z k
+countsAfter ct z (Continues p) = ct
 countsAfter ct z Other = ct

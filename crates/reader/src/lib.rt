@@ -2,7 +2,7 @@
 use decoding::Form;
 use rig::Rig;
 ghost use mathlib.Core.Path.{_≡_};
-ghost use Prim.Native.Nat.{_<_, _≤_};
+ghost use Prim.Native.Nat.{_<_};
 ghost use lib.ListN.{length};
 ghost use Rattle.promises.specs.Reading as promised;
 ghost use Rattle.reader.specs.Reading.{answerOf, recordOf};
@@ -133,8 +133,8 @@ fn take_line(moves: &mut [u8], counts: &mut [u8], z: Sizes, line: Form) -> Taken
 {
     match line {
         Form::Rig(e) => take_rig(z, e),
-        Form::Mon(s) => take_mon(counts, z, s),
-        Form::Go(s, e, t) => take_go(moves, z, s, e, t),
+        Form::Begins(k) => take_mon(counts, z, k.states),
+        Form::Continues(p) => take_go(moves, z, p.state, p.event, p.target),
         Form::Other => Taken::Bad(2),
     }
 }

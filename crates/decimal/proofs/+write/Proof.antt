@@ -4,8 +4,9 @@ use mathlib.Core.List.{[]}
 use Prim.Native.Nat.{ℕ, _+_, _<_}
 use native.Mathlib.Omega.{arith}
 use Rattle.lists.proofs.Fronts.{front-put}
-use Rattle.decimal.specs.Decimal.{decimal}
-use Rattle.decimal.proofs.Digits.{tenth, decimal-one, decimal-some, length-more, put-last}
+use Rattle.lists.specs.Decimal.{decimal}
+use Rattle.lists.proofs.Decimal.{tenth, decimal-one, decimal-some, length-more}
+use Rattle.decimal.proofs.Digits.{put-last}
 use borrow.Author.Needs.{needs}
 use borrow.Fn.Kinds.{In}
 use borrow.Fn.PlainCycle.{Measures, is, falls, and}

@@ -1,10 +1,11 @@
 -- The word is what stands before the first byte 9, and the rest of the fields stand after it; without a byte 9 there is no field but the word.
 -- Assumes nothing.
-use mathlib.Core.Path.{sym, _∙_}
+use mathlib.Core.Path.{sym, ap, _∙_}
 use Prim.Native.Nat.{_-_}
 use lib.ListN.{take}
 use lib.Seq.{length-take-le}
-use Rattle.promises.specs.Text.{fields}
+use Rattle.promises.specs.Text.{rig, begins, mon}
+use Rattle.decoding.specs.Forms.{valueOf, orOther}
 use Rattle.decoding.proofs.Parts.{indexOf-le}
 use Rattle.decoding.proofs.Numbers.{decode-first, decode-alone, form-rig, form-mon, form-go, form-other}
 use borrow.Author.Needs.{needs}
@@ -37,14 +38,26 @@ slice-aggregate-same c = search needs
 same-requires : tie.Need-same-requires
 same-requires c κs = search needs
 
-rig-form-requires : tie.Need-rig-form-requires
-rig-form-requires c κs = search needs
+only-number-requires : tie.Need-only-number-requires
+only-number-requires c κs = search needs
+
+enum-known-e : tie.Need-enum-known-e
+enum-known-e c = search needs
+
+enum-told : tie.Need-enum-told
+enum-told c = search needs
 
 returns : tie.Need-returns
 returns c =
-    let l = c .before .before .before .before .before .before .before .before .before .args .line .now in
-    let u = c .before .before .before .before .before .before .before .until in
-    c .rig-form .ensures ∙ sym (decode-first l (u .result) (u .ensures) (c .before .before .before .before .before .before .if1 .taken) ∙ form-rig (take (u .result) l) _ (sym (c .before .before .same .ensures) ∙ c .before .if2 .taken))
+    let l = c .before .before .before .before .before .before .before .before .before .before .before .before .args .line .now in
+    let u = c .before .before .before .before .before .before .before .before .before .before .until in
+    sym (decode-first l (u .result) (u .ensures) (c .before .before .before .before .before .before .before .before .before .if1 .taken) ∙ form-rig (take (u .result) l) _ (sym (c .before .before .before .before .before .same .ensures) ∙ c .before .before .before .before .if2 .taken) ∙ c .before .before .before .only-number .ensures (λ E. rig E) ∙ ap (λ d. orOther (λ E. rig E) (valueOf d)) (c .before .e .given .1))
+
+returns-2 : tie.Need-returns-2
+returns-2 c =
+    let l = c .before .before .before .before .before .before .before .before .before .before .before .args .line .now in
+    let u = c .before .before .before .before .before .before .before .before .before .until in
+    sym (decode-first l (u .result) (u .ensures) (c .before .before .before .before .before .before .before .before .if1 .taken) ∙ form-rig (take (u .result) l) _ (sym (c .before .before .before .before .same .ensures) ∙ c .before .before .before .if2 .taken) ∙ c .before .before .only-number .ensures (λ E. rig E) ∙ ap (λ d. orOther (λ E. rig E) (valueOf d)) (c .enum-told .given .1))
 
 slice-aggregate-same-2 : tie.Need-slice-aggregate-same-2
 slice-aggregate-same-2 c = search needs
@@ -52,14 +65,26 @@ slice-aggregate-same-2 c = search needs
 same-requires-2 : tie.Need-same-requires-2
 same-requires-2 c κs = search needs
 
-mon-form-requires : tie.Need-mon-form-requires
-mon-form-requires c κs = search needs
+only-number-requires-2 : tie.Need-only-number-requires-2
+only-number-requires-2 c κs = search needs
 
-returns-2 : tie.Need-returns-2
-returns-2 c =
-    let l = c .before .before .before .before .before .before .before .before .before .before .before .before .args .line .now in
-    let u = c .before .before .before .before .before .before .before .before .before .before .until in
-    c .mon-form .ensures ∙ sym (decode-first l (u .result) (u .ensures) (c .before .before .before .before .before .before .before .before .before .if1 .taken) ∙ form-mon (take (u .result) l) _ (sym (c .before .before .before .before .before .same .ensures) ∙ c .before .before .before .before .if2 .left) (sym (c .before .before .same2 .ensures) ∙ c .before .if3 .taken))
+enum-known-s : tie.Need-enum-known-s
+enum-known-s c = search needs
+
+enum-told-2 : tie.Need-enum-told-2
+enum-told-2 c = search needs
+
+returns-3 : tie.Need-returns-3
+returns-3 c =
+    let l = c .before .before .before .before .before .before .before .before .before .before .before .before .before .before .before .args .line .now in
+    let u = c .before .before .before .before .before .before .before .before .before .before .before .before .before .until in
+    sym (decode-first l (u .result) (u .ensures) (c .before .before .before .before .before .before .before .before .before .before .before .before .if1 .taken) ∙ form-mon (take (u .result) l) _ (sym (c .before .before .before .before .before .before .before .before .same .ensures) ∙ c .before .before .before .before .before .before .before .if2 .left) (sym (c .before .before .before .before .before .same2 .ensures) ∙ c .before .before .before .before .if3 .taken) ∙ c .before .before .before .only-number2 .ensures (λ S. begins (mon S)) ∙ ap (λ d. orOther (λ S. begins (mon S)) (valueOf d)) (c .before .s .given .1))
+
+returns-4 : tie.Need-returns-4
+returns-4 c =
+    let l = c .before .before .before .before .before .before .before .before .before .before .before .before .before .before .args .line .now in
+    let u = c .before .before .before .before .before .before .before .before .before .before .before .before .until in
+    sym (decode-first l (u .result) (u .ensures) (c .before .before .before .before .before .before .before .before .before .before .before .if1 .taken) ∙ form-mon (take (u .result) l) _ (sym (c .before .before .before .before .before .before .before .same .ensures) ∙ c .before .before .before .before .before .before .if2 .left) (sym (c .before .before .before .before .same2 .ensures) ∙ c .before .before .before .if3 .taken) ∙ c .before .before .only-number2 .ensures (λ S. begins (mon S)) ∙ ap (λ d. orOther (λ S. begins (mon S)) (valueOf d)) (c .enum-told2 .given .1))
 
 slice-aggregate-same-3 : tie.Need-slice-aggregate-same-3
 slice-aggregate-same-3 c = search needs
@@ -70,20 +95,20 @@ same-requires-3 c κs = search needs
 go-form-requires : tie.Need-go-form-requires
 go-form-requires c κs = search needs
 
-returns-3 : tie.Need-returns-3
-returns-3 c =
+returns-5 : tie.Need-returns-5
+returns-5 c =
     let l = c .before .before .before .before .before .before .before .before .before .before .before .before .before .before .before .args .line .now in
     let u = c .before .before .before .before .before .before .before .before .before .before .before .before .before .until in
     c .go-form .ensures ∙ sym (decode-first l (u .result) (u .ensures) (c .before .before .before .before .before .before .before .before .before .before .before .before .if1 .taken) ∙ form-go (take (u .result) l) _ (sym (c .before .before .before .before .before .before .before .before .same .ensures) ∙ c .before .before .before .before .before .before .before .if2 .left) (sym (c .before .before .before .before .before .same2 .ensures) ∙ c .before .before .before .before .if3 .left) (sym (c .before .before .same3 .ensures) ∙ c .before .if4 .taken))
 
-returns-4 : tie.Need-returns-4
-returns-4 c =
+returns-6 : tie.Need-returns-6
+returns-6 c =
     let l = c .before .before .before .before .before .before .before .before .before .before .before .before .before .before .args .line .now in
     let u = c .before .before .before .before .before .before .before .before .before .before .before .before .until in
     sym (decode-first l (u .result) (u .ensures) (c .before .before .before .before .before .before .before .before .before .before .before .if1 .taken) ∙ form-other (take (u .result) l) _ (sym (c .before .before .before .before .before .before .before .same .ensures) ∙ c .before .before .before .before .before .before .if2 .left) (sym (c .before .before .before .before .same2 .ensures) ∙ c .before .before .before .if3 .left) (sym (c .before .same3 .ensures) ∙ c .if4 .left))
 
-returns-5 : tie.Need-returns-5
-returns-5 c = sym (decode-alone (c .before .before .before .args .line .now) (rw (← c .before .until .ensures) (c .if1 .left)))
+returns-7 : tie.Need-returns-7
+returns-7 c = sym (decode-alone (c .before .before .before .args .line .now) (rw (← c .before .until .ensures) (c .if1 .left)))
 
 pub decode-spec : {M : Type 1} → statement M
 decode-spec =
@@ -97,15 +122,21 @@ decode-spec =
     part-rest-end
     slice-aggregate-same
     same-requires
-    rig-form-requires
+    only-number-requires
+    enum-known-e
+    enum-told
     returns
+    returns-2
     slice-aggregate-same-2
     same-requires-2
-    mon-form-requires
-    returns-2
+    only-number-requires-2
+    enum-known-s
+    enum-told-2
+    returns-3
+    returns-4
     slice-aggregate-same-3
     same-requires-3
     go-form-requires
-    returns-3
-    returns-4
-    returns-5)
+    returns-5
+    returns-6
+    returns-7)

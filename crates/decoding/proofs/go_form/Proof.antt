@@ -6,27 +6,31 @@ use native.Mathlib.Omega.{arith}
 use lib.ListN.{length, take, drop}
 use mathlib.Core.Logic.{⊎-elim}
 use mathlib.Core.List.{[], _∷_}
+use mathlib.Core.Option.{none}
 use types.Run.{OneOf}
 use denote.Enum.Declared.{tagOf}
-use Rattle.promises.specs.Text.{go, other, three, numbers, fields}
+use Rattle.promises.specs.Text.{Line, continues, go}
 use Rattle.decoding.specs.declared.Field.{Field}
 use Rattle.decoding.specs.declared.Field.the-variants.{Last, More, Bad}
-use Rattle.decoding.specs.Forms.{fieldOf, prepend}
+use Rattle.decoding.specs.Forms.{fieldOf, orOther}
 use Rattle.decoding.proofs.Field as field
-use Rattle.decoding.proofs.Numbers.{next-le, numbers-next, Short, three-first, three-second, threeBy, three-by}
+use Rattle.decoding.proofs.Numbers.{next-le, only, only-by, Short, two-short, two-next, three-short, three-next}
 use borrow.Author.Needs.{needs}
 use Rattle.decoding.proofs.go_form.Statement.{statement}
 use Rattle.decoding.proofs.go_form.Tie as tie
 
-short : (f : Field) → OneOf (0 ∷ (2 ∷ [])) (tagOf field.the-type f) → Short go f
+abbrev line : ℕ → ℕ → ℕ → Line
+line s e t = continues (go s e t)
+
+short : (f : Field) → OneOf (0 ∷ (2 ∷ [])) (tagOf field.the-type f) → Short f
 short (Last n) h = tt
 short (More n next) h = ⊎-elim (λ q. omega arith) (λ q. omega arith) h
 short Bad h = tt
 
-not-last : (a b : ℕ) (f : Field) → OneOf (1 ∷ (2 ∷ [])) (tagOf field.the-type f) → threeBy go a b f ≡ other
-not-last a b (Last n) h = ⊎-elim (λ q. absurd (omega arith)) (λ q. absurd (omega arith)) h
-not-last a b (More n next) h = refl
-not-last a b Bad h = refl
+not-last : (f : Field) → OneOf (1 ∷ (2 ∷ [])) (tagOf field.the-type f) → only f ≡ none
+not-last (Last n) h = ⊎-elim (λ q. absurd (omega arith)) (λ q. absurd (omega arith)) h
+not-last (More n next) h = refl
+not-last Bad h = refl
 
 read-field-requires : tie.Need-read-field-requires
 read-field-requires c κs = search needs
@@ -37,7 +41,7 @@ enum-known-s c = search needs
 returns : tie.Need-returns
 returns c =
     let l = c .before .before .before .args .rest .now in
-    sym (three-first go l _ (c .before .read-field .ensures) (short (c .before .read-field .result) (c .match .keys2)))
+    sym (three-short line l _ (c .before .read-field .ensures) (short (c .before .read-field .result) (c .match .keys2)))
 
 sub-second : tie.Need-sub-second
 sub-second c =
@@ -68,7 +72,7 @@ returns-2 c =
     let f1 = c .before .before .before .before .s .given in
     let q1 : More (f1 .0 .0) (f1 .0 .1 .0) ≡ fieldOf l = sym (f1 .1) ∙ c .before .before .before .before .before .before .read-field .ensures in
     let l2 = take (length l - f1 .0 .1 .0) (drop (f1 .0 .1 .0) l) in
-    sym (ap (three go) (numbers-next l _ _ q1) ∙ three-second go l2 (f1 .0 .0) _ (c .before .read-field2 .ensures) (short (c .before .read-field2 .result) (c .match2 .keys2)))
+    sym (three-next line l _ _ q1 ∙ two-short (line (f1 .0 .0)) l2 _ (c .before .read-field2 .ensures) (short (c .before .read-field2 .result) (c .match2 .keys2)))
 
 sub-third : tie.Need-sub-third
 sub-third c =
@@ -108,7 +112,7 @@ returns-3 c =
     let f2 = c .before .before .before .before .e .given in
     let q2 : More (f2 .0 .0) (f2 .0 .1 .0) ≡ fieldOf l2 = sym (f2 .1) ∙ c .before .before .before .before .before .before .read-field2 .ensures in
     let l3 = take (length l2 - f2 .0 .1 .0) (drop (f2 .0 .1 .0) l2) in
-    sym (ap (three go) (numbers-next l _ _ q1 ∙ ap (prepend (f1 .0 .0)) (numbers-next l2 _ _ q2)) ∙ three-by go l3 (f1 .0 .0) (f2 .0 .0) _ (c .before .read-field3 .ensures) ∙ not-last (f1 .0 .0) (f2 .0 .0) (c .before .read-field3 .result) (c .match3 .keys2))
+    sym (three-next line l _ _ q1 ∙ two-next (line (f1 .0 .0)) l2 _ _ q2 ∙ only-by l3 _ (c .before .read-field3 .ensures) (line (f1 .0 .0) (f2 .0 .0)) ∙ ap (orOther (line (f1 .0 .0) (f2 .0 .0))) (not-last (c .before .read-field3 .result) (c .match3 .keys2)))
 
 returns-4 : tie.Need-returns-4
 returns-4 c =
@@ -119,7 +123,7 @@ returns-4 c =
     let f2 = c .before .before .before .before .before .before .e .given in
     let q2 : More (f2 .0 .0) (f2 .0 .1 .0) ≡ fieldOf l2 = sym (f2 .1) ∙ c .before .before .before .before .before .before .before .before .read-field2 .ensures in
     let l3 = take (length l2 - f2 .0 .1 .0) (drop (f2 .0 .1 .0) l2) in
-    sym (ap (three go) (numbers-next l _ _ q1 ∙ ap (prepend (f1 .0 .0)) (numbers-next l2 _ _ q2)) ∙ three-by go l3 (f1 .0 .0) (f2 .0 .0) (Last (c .before .t .given .0 .0)) (sym (c .before .t .given .1) ∙ c .before .before .before .read-field3 .ensures))
+    sym (three-next line l _ _ q1 ∙ two-next (line (f1 .0 .0)) l2 _ _ q2 ∙ only-by l3 (Last (c .before .t .given .0 .0)) (sym (c .before .t .given .1) ∙ c .before .before .before .read-field3 .ensures) (line (f1 .0 .0) (f2 .0 .0)))
 
 pub go-form-spec : {M : Type 1} → statement M
 go-form-spec =

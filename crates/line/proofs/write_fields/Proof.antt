@@ -6,8 +6,8 @@ use native.Mathlib.Omega.{arith}
 use lib.ListN.{length, getD, take}
 use lib.Seq.{take-all}
 use Rattle.lists.specs.Lists.{concatMap}
-use Rattle.decimal.specs.Decimal.{decimal}
-use Rattle.decimal.proofs.Digits.{decimal-short}
+use Rattle.lists.specs.Decimal.{decimal}
+use Rattle.lists.proofs.Decimal.{decimal-short}
 use Rattle.line.specs.Line.{field, placed}
 use Rattle.line.proofs.Pieces.{placed-none, length-fields, fields-more}
 use borrow.Author.Needs.{needs}

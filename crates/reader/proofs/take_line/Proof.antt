@@ -43,7 +43,7 @@ returns-2 c =
     let st = c .before .before .before .before .before .before .before .before .before .args in
     let f = c .before .before .before .before .before .line2 .given in
     let q = f .1 in
-    (rw q (c .before .before .take-mon .ensures .0), (rw q (kept (monCase (st .z) (f .0 .0)) (st .moves .now)), rw q (c .before .before .take-mon .ensures .1)))
+    (rw q (c .before .before .take-mon .ensures .0), (rw q (kept (monCase (st .z) (f .0 .0 .states)) (st .moves .now)), rw q (c .before .before .take-mon .ensures .1)))
 
 same-length-2 : tie.Need-same-length-2
 same-length-2 c = search needs
@@ -53,7 +53,7 @@ returns-3 c =
     let st = c .before .before .before .before .before .before .before .before .before .args in
     let f = c .before .before .before .before .before .line3 .given in
     let q = f .1 in
-    (rw q (c .before .before .take-go .ensures .0), (rw q (c .before .before .take-go .ensures .1), rw q (kept (goCase (st .moves .now) (st .z) (f .0 .0) (f .0 .1 .0) (f .0 .1 .1 .0)) (st .counts .now))))
+    (rw q (c .before .before .take-go .ensures .0), (rw q (c .before .before .take-go .ensures .1), rw q (kept (goCase (st .moves .now) (st .z) (f .0 .0 .state) (f .0 .0 .event) (f .0 .0 .target)) (st .counts .now))))
 
 returns-4 : tie.Need-returns-4
 returns-4 c = (rw (c .enum-told .given .1), (rw (c .enum-told .given .1), rw (c .enum-told .given .1)))
