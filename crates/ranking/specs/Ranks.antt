@@ -1,17 +1,19 @@
 -- What unranking and ranking read, and what they tell. Paper 01, 'Counting and indices'.
---   HoldsRows A n cells            == the cells begin with the rows of every r below n
---   Exact A p n x t cells          == t and the cells are those of A for n events, whose count from x is not cut off
---   Chosen A r x i c               == c is one step of unranking the index i from x, with r events left after it
---   noChoice                       == what is told where the index is in no event's part
---   ChosenBy t cells p x i c       == c is that step, or noChoice where the index is not below the count
---   FoundEvent A r x e f             == f is how a scenario from x begins with the event e, with r events left after it
---   FoundBy t cells p x e f     == f is that, or its state is p where e isn't admitted or leads to a state not live
---   UnrankedBy t cells p x i b a   == a is the scenario of index i from x, of as many events as b has bytes
---   rankedAs A x s                 == what is told of the sequence s from x: its index, or the place where it is no scenario
---   RankedBy t cells p x s k       == k is that
---   IndicesBelow n is              == every index of the list is below n
---   withScenarios A h x is out     == the output with the scenarios of the indices at its front, one after the other
---   WrittenBy t cells p x h is b a == a is so made from b, if every index is below the count
+--   HoldsRows A n cells               == the cells begin with the rows of every r below n
+--   Exact A p n x t cells             == t and the cells are those of A for n events, whose count from x is not cut off
+--   Chosen A r x i c                  == c is one step of unranking the index i from x, with r events left after it
+--   noChoice                          == what is told where the index is in no event's part
+--   ChosenOrNone A r x i c            == c is that step, or noChoice where the index is not below the count
+--   ChosenBy t cells p x i c          == the same, whatever automaton the table and the row of cells are those of
+--   FoundEvent A r x e f              == f is how a scenario from x begins with the event e, with r events left after it
+--   FoundOrNot A p r x e f            == f is that, or its state is p where e isn't admitted or leads to a state not live
+--   FoundBy t cells p x e f           == the same, whatever automaton the table and the row of cells are those of
+--   UnrankedBy t cells p x i b a      == a is the scenario of index i from x, of as many events as b has bytes
+--   rankedAs A x s                    == what is told of the sequence s from x: its index, or the place where it is no scenario
+--   RankedBy t cells p x s k          == k is that
+--   IndicesBelow n is                 == every index of the list is below n
+--   withScenarios A h x is out        == the output with the scenarios of the indices at its front, one after the other
+--   WrittenBy t cells p x h is b a    == a is so made from b, if every index is below the count
 --   ListedBy t cells p x h n is k b a == the same where k tells no place in the list; else a is b
 -- Assumes nothing.
 use mathlib.Core.Path.{_≡_}

@@ -17,9 +17,9 @@ pub struct Choice {
 }
 
 // One step of ranking: how many indices lie before those that begin with the event, and the state that the event leads to.
-pub struct Found {
-    pub before: u64,
-    pub state: usize,
+struct Found {
+    before: u64,
+    state: usize,
 }
 
 // A sequence's index, or the place of its first event that is not admitted or leads to a state not live.
