@@ -1,19 +1,19 @@
 -- What the steps of a call come to, case by case. Assumes nothing.
-use mathlib.Core.Path.{_≡_, refl, sym, ap, _∙_, subst}
+use mathlib.Core.Path.{_≡_, refl, sym, ap, _∙_}
 use mathlib.Core.Bool.{Bool, true, false, not}
 use mathlib.Core.List.{List, [], _∷_}
-use Prim.Native.Nat.{ℕ, _*_, _≤_, _<_, min}
+use Prim.Native.Nat.{ℕ, _*_, _≤_, _<_}
 use native.Mathlib.Omega.{arith}
 use lib.ListN.{length}
-use lib.Dec.{ltb, leb}
+use lib.Dec.{ltb}
 use borrow.Author.Tests.{ltb-false, lt-ltb, le-ltb}
 use Rattle.lists.specs.Lists.{pick, concatMap}
 use Rattle.lists.proofs.Tests.{contra, case}
 use Rattle.automaton.specs.Automaton.{Automaton}
-use Rattle.automaton.specs.Counting.{N, most}
+use Rattle.automaton.specs.Counting.{N}
 use Rattle.automaton.specs.Ranking.{unrank, rank, firstViolation}
 use Rattle.rig.specs.Record.{recordAutomaton}
-use Rattle.promises.specs.Answer.{Answer, served, refused, unless}
+use Rattle.promises.specs.Answer.{Answer, served, refused}
 use Rattle.promises.specs.Text.{decoded, eventsOf}
 use Rattle.promises.specs.Rig.{rigAutomaton, start}
 use Rattle.promises.specs.Calls.{notBelow, indicesRow, sequenceRow, filled, fills, cellsAfter, outputAfter, unlessAt, firstBad, total, counted, scenarios, scenariosCells, written, index, indexCells}
@@ -23,7 +23,6 @@ use Rattle.ranking.proofs.Walk.{good-all}
 use Rattle.ranking.specs.declared.Ranked.{Ranked}
 use Rattle.ranking.specs.declared.Ranked.the-variants.{Index, Violation}
 use Rattle.checks.specs.Loading.{Loads}
-use Rattle.checks.specs.declared.Checked.{Checked}
 use Rattle.checks.specs.declared.Checked.the-variants.{Passed}
 use Rattle.checks.specs.declared.Loaded.{Loaded}
 use Rattle.filling.proofs.Rows.{countRows-fills, passed-answer, counted-is, total-is, passed-cells}

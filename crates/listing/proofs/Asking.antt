@@ -12,7 +12,7 @@ use lib.Dec.{eqb}
 use borrow.Author.Tests.{lt-ltb, le-ltb, eq-eqb, ne-eqb}
 use Rattle.lists.specs.Lists.{indexOf}
 use Rattle.lists.proofs.Tests.{contra, split}
-use Rattle.promises.specs.Text.{same, number}
+use Rattle.promises.specs.Text.{bytes, same, number}
 use Rattle.decoding.specs.Forms.{valueOf}
 use Rattle.decoding.specs.declared.Decimal.{Decimal}
 use Rattle.decoding.specs.declared.Decimal.the-variants.{Value, Wrong}
@@ -22,7 +22,7 @@ use Rattle.listing.specs.Printing.{askedAs}
 use Rattle.listing.specs.declared.Asked.the-variants.{Horizon, Bad}
 
 abbrev pub word : List ℕ
-word = 97 ∷ 115 ∷ 107 ∷ 9 ∷ []
+word = bytes "ask\t"
 
 pub asks-short : (l : List ℕ) → length l < 4 → same (take 4 l) word ≡ false
 asks-short l h = same-length (take 4 l) word (λ q. let z : length (take 4 l) ≡ 4 = q in omega (arith, length-take 4 l))

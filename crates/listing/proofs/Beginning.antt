@@ -1,7 +1,7 @@
 -- What a listing begins with: the answer of the whole input from what each step tells. Assumes nothing.
 use mathlib.Core.Path.{_≡_, refl, sym, ap, _∙_, subst}
 use mathlib.Core.Logic.{_⊎_, inl, inr}
-use mathlib.Core.List.{List, [], _∷_, _++_}
+use mathlib.Core.List.{List, _++_}
 use mathlib.Core.Option.{Option, none, some}
 use Prim.Native.Nat.{ℕ, _+_, _-_, _*_, _≤_, _<_, min}
 use native.Mathlib.Omega.{arith}
@@ -16,6 +16,7 @@ use Rattle.automaton.specs.Automaton.{Automaton}
 use Rattle.automaton.specs.Counting.{N}
 use Rattle.automaton.specs.Ranking.{unrank}
 use Rattle.promises.specs.Answer.{Answer, refused}
+use Rattle.promises.specs.Text.{bytes}
 use Rattle.promises.specs.Rig.{rigAutomaton, start}
 use Rattle.promises.specs.Calls.{cellsAfter, sized, count, countCells}
 use Rattle.ranking.specs.Ranks.{Exact, UnrankedBy}
@@ -62,7 +63,7 @@ rows-room h p n le = omega (arith, suc-mul h p, ap (λ (i : ℕ). i * p) (add-on
 -- cells that are filled, and a count that is exact, serve the lines
 pub begins-counted : (r : Rig) (states h m n : ℕ) (f : Filled) (old d l cells table : List ℕ) → Fits r states h (length old) → length old ≡ 8192
     → Fills (recordAutomaton r) states 0 h f old cells table → f .checked ≡ Passed → n ≡ min (f .count) 1000
-    → Leads (numbersOf (99 ∷ 111 ∷ 117 ∷ 110 ∷ 116 ∷ []) (f .count) (f .passes)) m d l
+    → Leads (numbersOf (bytes "count") (f .count) (f .passes)) m d l
     → Begins (countTold (recordAutomaton r) h) (recordAutomaton r) 0 h (record { length = m; index = 0; lines = n; horizon = h; states = states }) d l cells table
 begins-counted r states h m n f old d l cells table z long fs e q w = rw (← told-count A states 0 h f old cells table fs e) (record {
   limits = record {
@@ -76,11 +77,14 @@ begins-counted r states h m n f old d l cells table z long fs e q w = rw (← to
   none-yet = refl;
   follows = q;
   idle = λ i. absurd (omega (arith, some-count));
-  serves = λ lt. (refl, record {
-    starts = refl;
-    exact = filled-exact A states h 0 table cells old (fs .tabled) (fs .cells-filled) (told-few A states 0 h f old cells table fs e);
-    below = omega (arith, count-is);
-  });
+  serves = λ lt. (
+    refl,
+    record {
+      starts = refl;
+      exact = filled-exact A states h 0 table cells old (fs .tabled) (fs .cells-filled) (told-few A states 0 h f old cells table fs e);
+      below = omega (arith, count-is);
+    },
+  );
 })
   where
     A : Automaton

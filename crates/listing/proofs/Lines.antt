@@ -1,5 +1,5 @@
 -- A cursor stands at the first line when it is begun, and one line further after each step. Assumes nothing.
-use mathlib.Core.Path.{_≡_, refl, sym, ap, _∙_}
+use mathlib.Core.Path.{_≡_, sym, ap, _∙_}
 use mathlib.Core.Logic.{⊎-elim}
 use mathlib.Core.List.{List, []}
 use Prim.Native.Nat.{ℕ, suc, _+_, _-_, _*_, _≤_, _<_, min}
@@ -8,7 +8,7 @@ use lib.ListN.{length, take, length-take}
 use lib.Seq.{take-at}
 use Rattle.lists.proofs.Tests.{split}
 use Rattle.promises.specs.Rig.{rigAutomaton, start}
-use Rattle.listing.specs.Listing.{text, answer, headLine, follow, horizon, scenarioLine}
+use Rattle.listing.specs.Listing.{text, answer, headLine, horizon, scenarioLine}
 use Rattle.listing.specs.Printing.{lineAt, Leads, Begins, StandsAt}
 use Rattle.listing.specs.declared.Cursor.{Cursor}
 use Rattle.listing.proofs.Whole.{later-line, lines-end}

@@ -1,7 +1,7 @@
 -- The listing that paper 01 prints whole, and the least inputs: each side computes to the other. Assumes nothing.
 use mathlib.Core.Option.{orElse}
 use mathlib.Core.Path.{_≡_, refl}
-use mathlib.Core.List.{List, [], _∷_, _++_}
+use mathlib.Core.List.{List, [], _++_}
 use Prim.Native.Nat.{ℕ}
 use Rattle.lists.specs.Lists.{range, indexOf}
 use Rattle.automaton.specs.Joint.{both, join, idle, joint, sizes, jointState}

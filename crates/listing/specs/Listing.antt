@@ -12,7 +12,7 @@
 --   scenarioLine t h k == the line of index k, for the rig text t and the horizon h
 --   listing i          == the whole output for the input i
 -- Assumes nothing.
-use mathlib.Core.List.{List, [], _∷_, _++_}
+use mathlib.Core.List.{List, _++_}
 use mathlib.Core.Option.{Option, none, some}
 use Prim.Native.Nat.{ℕ, _+_, min}
 use lib.ListN.{length, getD, take, drop, replicate}
@@ -20,7 +20,7 @@ use lib.Dec.{ltb}
 use Rattle.lists.specs.Lists.{pick, indexOf, concatMap, range}
 use Rattle.automaton.specs.Ranking.{unrank}
 use Rattle.promises.specs.Answer.{Answer, served, refused}
-use Rattle.promises.specs.Text.{number, same}
+use Rattle.promises.specs.Text.{number, bytes, same}
 use Rattle.promises.specs.Rig.{rigAutomaton, start}
 use Rattle.promises.specs.Calls.{count, cellsAfter}
 use Rattle.line.specs.Line.{lineOf, numbersOf}
@@ -32,7 +32,7 @@ firstLine input = take (indexOf input 10) input
 
 -- `ask`, byte 9 and a number as in 01, and nothing else
 unfoldable pub askedIn : List ℕ → Option ℕ
-askedIn line = pick (same (take 4 line) (97 ∷ 115 ∷ 107 ∷ 9 ∷ [])) (number (drop 4 line)) none
+askedIn line = pick (same (take 4 line) (bytes "ask\t")) (number (drop 4 line)) none
 
 -- 'reads from standard input one line `ask`, h'; an unended line is none
 unfoldable pub asked : List ℕ → Option ℕ
@@ -60,8 +60,8 @@ answer input = answerTo (asked input) (text input)
 
 -- 'It prints `count`, N, passes'; 'A refusal prints only `no`, number, place'
 abbrev pub headLine : Answer → List ℕ
-headLine (served values) = numbersOf (99 ∷ 111 ∷ 117 ∷ 110 ∷ 116 ∷ []) (getD values 0 0) (getD values 1 0)
-headLine (refused number place) = numbersOf (110 ∷ 111 ∷ []) number place
+headLine (served values) = numbersOf (bytes "count") (getD values 0 0) (getD values 1 0)
+headLine (refused number place) = numbersOf (bytes "no") number place
 
 -- 'for the first 1,000 indices, or all N if fewer, a line'
 abbrev pub follow : Answer → ℕ

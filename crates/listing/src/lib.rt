@@ -3,12 +3,11 @@ use checks::Checked;
 use decoding::Decimal;
 use rig::Rig;
 ghost use mathlib.Core.Path.{_≡_};
-ghost use mathlib.Core.List.{List, [], _∷_, _++_};
-ghost use Prim.Native.Nat.{ℕ, _+_, _*_, _<_, _≤_, min};
-ghost use lib.ListN.{length, take, drop};
+ghost use Prim.Native.Nat.{_+_, _*_, _<_, _≤_, min};
+ghost use lib.ListN.{length, take};
 ghost use Rattle.lists.specs.Lists.{indexOf};
 ghost use Rattle.rig.specs.Record.{recordAutomaton};
-ghost use Rattle.promises.specs.Text.{same};
+ghost use Rattle.promises.specs.Text.{bytes, same};
 ghost use Rattle.promises.specs.Calls.{filled};
 ghost use Rattle.promises.specs.Calls as promised;
 ghost use Rattle.decoding.specs.Forms.{valueOf};
@@ -34,7 +33,7 @@ pub struct Cursor {
 
 // Whether a line begins with `ask` and byte 9.
 fn asks(line: &[u8]) -> bool
-    ensures { λ r. ⌜ r ≡ same (take 4 (now (line .entry))) (97 ∷ 115 ∷ 107 ∷ 9 ∷ []) ⌝ }
+    ensures { λ r. ⌜ r ≡ same (take 4 (now (line .entry))) (bytes "ask\t") ⌝ }
 {
     if line.len() < 4 {
         return false;
@@ -125,7 +124,13 @@ fn begin_counted(
 }
 
 // The first line for a rig text and a horizon.
-fn begin_text(text: &[u8], h: usize, cells: &mut [u64], table: &mut [u16], line: &mut [u8]) -> Cursor
+fn begin_text(
+    text: &[u8],
+    h: usize,
+    cells: &mut [u64],
+    table: &mut [u16],
+    line: &mut [u8],
+) -> Cursor
     requires { ⌜ Buffers (now cells) (now table) (now line) ⌝ }
     ensures { λ c. ⌜ BeginsText (now (text .entry)) h (now (cells .entry)) c (now (line .entry)) (now (line .exit)) (now (cells .exit)) (now (table .exit)) ⌝ }
     ensures { λ _. ⌜ now (cells .exit) ≡ promised.countCells (now (text .entry)) h (now (cells .entry)) ⌝ }

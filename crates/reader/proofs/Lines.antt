@@ -1,7 +1,7 @@
 -- The lines of a text, one after the other. Assumes nothing.
 use mathlib.Core.Path.{_≡_, ap, _∙_}
 use mathlib.Core.List.{List, [], _∷_, map}
-use Prim.Native.Nat.{ℕ, _+_, _-_, _≤_, _<_}
+use Prim.Native.Nat.{ℕ, _+_, _≤_, _<_}
 use lib.ListN.{length, take, drop}
 use Rattle.lists.specs.Lists.{indexOf}
 use Rattle.promises.specs.Text.{splitOn, init, lastOf, lines, unended, decode, decoded}

@@ -1,7 +1,6 @@
 -- The word is what stands before the first byte 9, and the rest of the fields stand after it; without a byte 9 there is no field but the word.
 -- Assumes nothing.
 use mathlib.Core.Path.{sym, ap, _∙_}
-use Prim.Native.Nat.{_-_}
 use lib.ListN.{take}
 use lib.Seq.{length-take-le}
 use Rattle.promises.specs.Text.{rig, begins, mon}

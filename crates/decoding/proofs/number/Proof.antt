@@ -1,7 +1,6 @@
 -- A field of one byte is its digits; of the others those of more than five bytes, or with a first 0, are no number.
 -- Assumes nothing.
 use mathlib.Core.Path.{sym, _∙_}
-use Prim.Native.Nat.{_-_}
 use native.Mathlib.Omega.{arith}
 use Rattle.decoding.proofs.Numbers.{number-empty, number-long, number-zero, number-one, number-digits}
 use borrow.Author.Needs.{needs}

@@ -1,7 +1,6 @@
 -- One field that is a number and the last; anything else is no number.
 -- Assumes nothing.
 use mathlib.Core.Path.{sym, _∙_}
-use Prim.Native.Nat.{_-_}
 use Rattle.decoding.specs.declared.Field.the-variants.{Last, More, Bad}
 use Rattle.decoding.proofs.Numbers.{only-by}
 use borrow.Author.Needs.{needs}

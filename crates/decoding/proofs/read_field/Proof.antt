@@ -1,7 +1,6 @@
 -- The field is what stands before the first byte 9, or all that is left; it is the last exactly if there is no byte 9.
 -- Assumes nothing.
 use mathlib.Core.Path.{sym, ap, _∙_}
-use Prim.Native.Nat.{_-_}
 use lib.Seq.{length-take-le}
 use Rattle.decoding.specs.Forms.{valueOf}
 use Rattle.decoding.proofs.Parts.{indexOf-le}

@@ -8,7 +8,6 @@ use lib.ListN.{length, take, drop}
 use mathlib.Core.List.{[]}
 use lib.ListN.{replicate, length-replicate, getD-replicate, length-drop, length-take}
 use lib.Seq.{length-take-le}
-use Rattle.lists.specs.Lists.{indexOf}
 use Rattle.promises.specs.Answer.{served, refused}
 use Rattle.rig.specs.Record.{emptyRig}
 use Rattle.decoding.proofs.Parts.{indexOf-le}

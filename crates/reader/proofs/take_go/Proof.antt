@@ -1,6 +1,5 @@
 -- Each return is one of the cases of a `go` line, in their order; only the last writes a move.
 -- Assumes nothing.
-use Prim.Native.Nat.{_-_}
 use borrow.Author.Tests.{le-leb, lt-leb, eq-eqb, ne-eqb}
 use Rattle.reader.specs.Taking.{goCase}
 use borrow.Author.Needs.{needs}

@@ -1,6 +1,5 @@
 -- Each form has its own function, whose contract is its clause of the definitions.
 -- Assumes nothing.
-use Prim.Native.Nat.{_-_}
 use Rattle.reader.specs.Taking.{rigCase, monCase, goCase}
 use Rattle.reader.proofs.Taking.{kept}
 use borrow.Author.Needs.{needs}

@@ -1,6 +1,6 @@
 -- Each return is one of the cases of a `mon` line, in their order; only the last writes a count.
 -- Assumes nothing.
-use Prim.Native.Nat.{_-_, _*_, _≤_}
+use Prim.Native.Nat.{_*_, _≤_}
 use native.Mathlib.Omega.{arith}
 use borrow.Author.Tests.{le-leb, lt-leb, lt-ltb, le-ltb, eq-eqb, ne-eqb}
 use native.Mathlib.Nat.{mul-le-mul}
