@@ -199,9 +199,10 @@ fn main() {
     count("count, dense: 16 ways a state, P 1,024 of 2 monitors, h 1,000", 5, &two, 1000);
     count("count, dense: 16 ways a state, P 1,024 of 4 monitors, h 1,000", 5, &full_rig(&[8, 4, 8, 4], rng), 1000);
     count("count, dense: 16 ways a state, P 1,024, no full cell, h 15", 200, &two, 15);
+    count("count, sparse: 1 way, P 1,024, no full cell, h 1,000", 5, &slow_growth(1, &[32, 32]), 1000);
     count("count, sparse: 1 or 2 ways, P 1,024, no full cell, h 1,000", 5, &slow_growth(4, &[32, 8]), 1000);
     count("count, a dead path of 1,024 joint states, h 0", 20, &dead_path(), 0);
-    count(&format!("count, the largest readable text ({} bytes), h 0", two.len()), 50, &two, 0);
+    count(&format!("count, a text of {} bytes with every move of S 32, 32, h 0", two.len()), 50, &two, 0);
     let slow = slow_growth(6, &[32]);
     scenarios("20,000 scenarios of 1,000 events, sparse, P 192", &slow, 1000, 20_000, rng);
     scenarios("200,000 scenarios of 30 events, sparse, P 192", &slow, 30, 200_000, rng);
