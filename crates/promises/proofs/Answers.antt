@@ -1,5 +1,5 @@
 -- What the calls answer on a readable text with buffers as sized, and what Scenarios writes. Both demands rest on this.
--- Why: on such input the checks up to 8, and 12, pass; what is left is decided by N, by the first bad index and by the first offending event.
+-- Why: on such input the checks up to 8, and 12, pass; what is left is decided by N, by the first bad index and by the first event that leads astray.
 -- Assumes nothing.
 use mathlib.Core.Path.{_≡_, sym, _∙_, subst}
 use mathlib.Core.Logic.{_⊎_, inl, inr, _≢_, _↔_, ⊎-elim}

@@ -42,9 +42,9 @@ first-at n bad l a p lt b good = ⊎-elim (λ (q, g). contra b (g p lt)) (λ (k,
 
 -- ---- rows 1 to 8
 
-opened : (t : List ℕ) (h : ℕ) (cells : List ℕ) (a : Answer) → EarlyRows t h cells (sized t h cells a)
+early-rows : (t : List ℕ) (h : ℕ) (cells : List ℕ) (a : Answer) → EarlyRows t h cells (sized t h cells a)
 unfolding sized Case7 Case8
-opened t h cells a = record {
+early-rows t h cells a = record {
   text = λ n p f. rw (fault-said t n p f);
   seven = λ r c. rw (readable-said t r, tells-true (tells-lt 1000 h) c);
   eight = λ r c7 c. rw (readable-said t r, tells-false (tells-lt 1000 h) c7, tells-true (tells-lt (length cells) ((h + 1) * jointStates t)) c);
@@ -104,8 +104,8 @@ module _ (t s cells : List ℕ) (z : Sized t (length s) cells) (c13 : (p : ℕ) 
         go (inr (inl h)) = h
         go (inr (inr h)) = absurd (nb (prefix-stays (suc p) (omega arith) .1 (shorter (suc p) (firstViolation (rigAutomaton t) (start t) s) h (first .0))))
 
-    index-offends : (p : ℕ) → p < length s → Belongs t p (take p s) → (Belongs t (suc p) (take (suc p) s) → ⊥) → index t s cells ≡ refused 14 p
-    index-offends p below b nb =
+    index-violates : (p : ℕ) → p < length s → Belongs t p (take p s) → (Belongs t (suc p) (take (suc p) s) → ⊥) → index t s cells ≡ refused 14 p
+    index-violates p below b nb =
         index-checked ∙ counted-on t (length s) _ ge lt
         ∙ rw (firstViolation-is p below b nb, tells-true (tells-lt p (length s)) below)
 
@@ -114,9 +114,9 @@ module _ (t s cells : List ℕ) (z : Sized t (length s) cells) (c13 : (p : ℕ) 
 pub refusals : Refusals generator
 unfolding generator
 refusals = record {
-  count-early = λ t h cells. unfold count in opened t h cells _;
-  scenarios-early = λ t h is cells out. unfold scenarios in opened t h cells _;
-  index-early = λ t s cells. unfold index in opened t (length s) cells _;
+  count-early = λ t h cells. unfold count in early-rows t h cells _;
+  scenarios-early = λ t h is cells out. unfold scenarios in early-rows t h cells _;
+  index-early = λ t s cells. unfold index in early-rows t (length s) cells _;
   scenarios-12 = λ t h is cells out s c. unfold scenarios Case12 in (sized-on t h cells _ (s .readable) (s .horizon) (s .room) ∙ rw (tells-true (tells-lt (length out) (length is * h)) c));
   index-13 = λ t s cells p z c f. unfold Case13 in (index-is t s cells (z .readable) (z .horizon) (z .room)
       ∙ first-at 13 (λ p e. leb (eventsOf (decoded t)) e) s _ p (c .0) (tells-true (tells-le (eventsOf (decoded t)) (getD s p 0)) (c .1))
@@ -133,7 +133,7 @@ refusals = record {
       ∙ first-at 11 (λ p i. leb (total t h) i) is _ p lt (tells-true (tells-le (total t h) (getD is p 0)) (rw q at le)) (λ j l. tells-false (tells-le (total t h) (getD is j 0)) (λ e. let b : getD is j 0 < total t h = rw q at (f j l) in omega arith));
   index-14 = λ t s cells L p z c13 c lt b nb.
       let q : length L ≡ total t (length s) = counted-total t (length s) cells z L c in
-      index-offends t s cells z c13 (rw q at (c .some)) (rw q at (c .few)) p lt b nb;
+      index-violates t s cells z c13 (rw q at (c .some)) (rw q at (c .few)) p lt b nb;
   shuffle-8 = λ n ds scratch out c. unfold shuffle Case8·scratch in (rw (tells-true (tells-lt (length scratch) (2 * length ds)) c));
   shuffle-12 = λ n ds scratch out c8 c. unfold shuffle Case8·scratch Case12·draws in (rw (tells-false (tells-lt (length scratch) (2 * length ds)) c8, tells-true (tells-lt (length out) (length ds)) c));
   shuffle-15 = λ n ds scratch out p c8 c12 lt b f. unfold shuffle Case8·scratch Case12·draws badDraw in (
