@@ -12,7 +12,7 @@ fn timed(f: &mut dyn FnMut()) -> f64 {
     start.elapsed().as_secs_f64() * 1e3
 }
 
-/// Prints the best times of ours, plain Rust and plain C in milliseconds, and the ratios of ours to the others.
+/// Prints the best times of ours, plain Rust, plain C and C over our rows in milliseconds, and the ratios of ours to the others.
 fn row(name: &str, rounds: usize, runs: &mut [&mut dyn FnMut()]) {
     let mut best = vec![f64::MAX; runs.len()];
     for _ in 0..rounds {
@@ -22,7 +22,7 @@ fn row(name: &str, rounds: usize, runs: &mut [&mut dyn FnMut()]) {
     }
     let times: String = best.iter().map(|b| format!(" {b:10.3}")).collect();
     let ratios: String = best[1..].iter().map(|b| format!(" {:7.2}", best[0] / b)).collect();
-    println!("{name:62}{times:33}{ratios}");
+    println!("{name:62}{times:44}{ratios}");
 }
 
 /// Every monitor has every move, to random states.
@@ -94,10 +94,10 @@ fn count(name: &str, rounds: usize, t: &[u8], h: usize) {
 
 fn scenarios(name: &str, t: &[u8], h: usize, list: usize, rng: &mut Random) {
     let p = read(t).map(|r| prune(&r).states).unwrap();
-    let [mut cells, mut other, mut third] = [(); 3].map(|_| vec![0; (h + 1) * p]);
+    let [mut cells, mut other, mut third, mut fourth] = [(); 4].map(|_| vec![0; (h + 1) * p]);
     let n = calls::count(t, h as u64, &mut cells).words[0];
     let indices: Vec<u64> = (0..list).map(|_| rng.below(n)).collect();
-    let [mut a, mut b, mut c] = [(); 3].map(|_| vec![0; list * h]);
+    let [mut a, mut b, mut c, mut d] = [(); 4].map(|_| vec![0; list * h]);
     row(
         name,
         5,
@@ -113,9 +113,15 @@ fn scenarios(name: &str, t: &[u8], h: usize, list: usize, rng: &mut Random) {
                 pruned.c_fill(h, &mut third);
                 indices.iter().zip(c.chunks_mut(h)).for_each(|(i, part)| pruned.c_unrank(&third, *i, part));
             },
+            &mut || {
+                let pruned = prune(&read(t).unwrap());
+                let rows = pruned.rows();
+                pruned.c_fill(h, &mut fourth);
+                indices.iter().zip(d.chunks_mut(h)).for_each(|(i, part)| pruned.c_unrank_rows(&rows, &fourth, *i, part));
+            },
         ],
     );
-    assert!(a == b && a == c);
+    assert!(a == b && a == c && a == d);
     let [mut i, mut j, mut k] = [None; 3];
     row(
         &format!("index of one of these, {h} events"),
@@ -194,13 +200,16 @@ fn growths() {
 
 fn main() {
     let rng = &mut Random::seeded(1);
-    println!("{:62} {:>10} {:>10} {:>10} {:>7} {:>7}", "", "ours ms", "Rust ms", "C ms", "/ Rust", "/ C");
+    println!(
+        "{:62} {:>10} {:>10} {:>10} {:>10} {:>7} {:>7} {:>7}",
+        "", "ours ms", "Rust ms", "C ms", "C rows ms", "/ Rust", "/ C", "/ rows"
+    );
     let two = full_rig(&[32, 32], rng);
-    count("count, dense: 16 ways a state, P 1,024 of 2 monitors, h 1,000", 5, &two, 1000);
-    count("count, dense: 16 ways a state, P 1,024 of 4 monitors, h 1,000", 5, &full_rig(&[8, 4, 8, 4], rng), 1000);
+    count("count, dense: 16 ways a state, P 1,024 of 2 monitors, h 1,000", 20, &two, 1000);
+    count("count, dense: 16 ways a state, P 1,024 of 4 monitors, h 1,000", 20, &full_rig(&[8, 4, 8, 4], rng), 1000);
     count("count, dense: 16 ways a state, P 1,024, no full cell, h 15", 200, &two, 15);
-    count("count, sparse: 1 way, P 1,024, no full cell, h 1,000", 5, &slow_growth(1, &[32, 32]), 1000);
-    count("count, sparse: 1 or 2 ways, P 1,024, no full cell, h 1,000", 5, &slow_growth(4, &[32, 8]), 1000);
+    count("count, sparse: 1 way, P 1,024, no full cell, h 1,000", 20, &slow_growth(1, &[32, 32]), 1000);
+    count("count, sparse: 1 or 2 ways, P 1,024, no full cell, h 1,000", 20, &slow_growth(4, &[32, 8]), 1000);
     count("count, a dead path of 1,024 joint states, h 0", 20, &dead_path(), 0);
     count(&format!("count, a text of {} bytes with every move of S 32, 32, h 0", two.len()), 50, &two, 0);
     let slow = slow_growth(6, &[32]);
