@@ -25,7 +25,7 @@ use Rattle.checks.specs.declared.Checked.the-variants.{Passed, Refused}
 use Rattle.checks.specs.declared.Loaded.{Loaded}
 use Rattle.filling.specs.declared.Filled.{Filled}
 use Rattle.counting.specs.Tabled.{Tabled}
-use Rattle.filling.specs.Filling.{TellsRows, Fills}
+use Rattle.filling.specs.Filling.{TellsRows, FilledBy}
 
 -- ---- the cells
 
@@ -39,7 +39,7 @@ start-cell A h cells after p q some e =
 
 -- the cell tells rows 9 and 10, and else it is N
 pub fills-told : (A : Automaton) (p h s : ℕ) (k : Checked) (cells left table : List ℕ) → p ≡ A .states → 0 < p → left ≡ filled A h cells → TellsRows (getD left (h * p) 0) k
-    → s ≡ passes A → Tabled A p table → Fills A p 0 h (record { checked = k; count = getD left (h * p) 0; passes = s }) cells left table
+    → s ≡ passes A → Tabled A p table → FilledBy A p 0 h (record { checked = k; count = getD left (h * p) 0; passes = s }) cells left table
 fills-told A p h s k cells left table q some e t r n = record {
   answer = λ a. t .answer (N A h 0) a (start-cell A h cells left p q some e);
   counted = start-cell A h cells left p q some e;
@@ -62,7 +62,7 @@ countRows-fills n a f = case (eqb n 0) (λ q. rw q) (λ q. rw q (case (leb most 
 
 -- ---- what filling tells
 
-module _ (A : Automaton) (p x h : ℕ) (f : Filled) (cells left table : List ℕ) (fs : Fills A p x h f cells left table) where
+module _ (A : Automaton) (p x h : ℕ) (f : Filled) (cells left table : List ℕ) (fs : FilledBy A p x h f cells left table) where
   pub told-refused : (m q : ℕ) → f .checked ≡ Refused m q → (a : Answer) → refused m q ≡ countRows (N A h x) a
   told-refused m q e a = sym (fs .answer a ∙ ap (λ (k : Checked). checkedOr k a) e)
 

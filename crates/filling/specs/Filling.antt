@@ -1,6 +1,6 @@
 -- What filling the cells tells and leaves.
 --   TellsRows c k                   == k tells rows 9 and 10 of every count that the cell c holds
---   Fills A p x h f cells left t    == f tells N from x with the passes, or row 9 or 10; the cells are filled, and t is the table of A with p states
+--   FilledBy A p x h f cells left t == f tells N from x with the passes, or row 9 or 10; the cells are filled, and t is the table of A with p states
 -- Beside a refusal the count told is the cell of x, 0 or 2^64 − 1. Assumes nothing.
 use mathlib.Core.Path.{_≡_}
 use mathlib.Core.List.{List}
@@ -21,7 +21,7 @@ pub record TellsRows (c : ℕ) (k : Checked) : Type 0 where
   pub some : k ≡ Passed → 1 ≤ c
   pub few : k ≡ Passed → c < most
 
-pub record Fills (A : Automaton) (p x h : ℕ) (f : Filled) (cells left table : List ℕ) : Type 0 where
+pub record FilledBy (A : Automaton) (p x h : ℕ) (f : Filled) (cells left table : List ℕ) : Type 0 where
   pub answer : (a : Answer) → countRows (N A h x) a ≡ checkedOr (f .checked) a
   pub counted : f .count ≡ min (N A h x) most
   pub some : f .checked ≡ Passed → 1 ≤ f .count

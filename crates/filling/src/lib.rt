@@ -8,7 +8,7 @@ ghost use Rattle.rig.specs.Record.{recordAutomaton};
 ghost use Rattle.promises.specs.Calls.{filled};
 ghost use Rattle.checks.specs.Loading.{Fits};
 ghost use Rattle.counting.specs.Tabled.{Tabled};
-ghost use Rattle.filling.specs.Filling.{TellsRows, Fills};
+ghost use Rattle.filling.specs.Filling.{TellsRows, FilledBy};
 
 // Whether row 9 or 10 applied, with the cell of the start, which is N where none did, and the number of passes.
 pub struct Filled {
@@ -20,7 +20,7 @@ pub struct Filled {
 // Prunes the rig, fills the table and the cells of rows 0 to h, and tells rows 9 and 10 by the cell of the start.
 pub fn fill_cells(rig: Rig, states: usize, h: usize, cells: &mut [u64], table: &mut [u16]) -> Filled
     requires { ⌜ Fits rig states h (length (now cells)) × (length (now table) ≡ 16384) ⌝ }
-    ensures { λ f. ⌜ Fills (recordAutomaton rig) states 0 h f (now (cells .entry)) (now (cells .exit)) (now (table .exit)) ⌝ }
+    ensures { λ f. ⌜ FilledBy (recordAutomaton rig) states 0 h f (now (cells .entry)) (now (cells .exit)) (now (table .exit)) ⌝ }
 {
     let passes = prune_and_fill(rig, states, h, cells, table);
     let count = cells[h * states];

@@ -28,10 +28,10 @@ use Rattle.pruning.proofs.Digits.{states-few}
 use Rattle.checks.specs.Loading.{Fits}
 use Rattle.checks.specs.declared.Checked.the-variants.{Passed}
 use Rattle.filling.specs.declared.Filled.{Filled}
-use Rattle.filling.specs.Filling.{Fills}
+use Rattle.filling.specs.Filling.{FilledBy}
 use Rattle.filling.proofs.Rows.{early-fills, told-count, told-exact, told-few, told-some}
 use Rattle.line.specs.Line.{lineOf, numbersOf}
-use Rattle.listing.specs.Listing.{asked, text, owned, answerTo, answer, headLine, cellsLeft, horizon, orZero, scenarioLine}
+use Rattle.listing.specs.Listing.{asked, text, owned, answerTo, answer, headLine, cellsLeft, horizon, scenarioLine}
 use Rattle.listing.specs.Printing.{askedAs, countTold, Leads, EventsBy, Begins, Serves}
 use Rattle.listing.specs.declared.Asked.{Asked}
 use Rattle.listing.specs.declared.Asked.the-variants.{Horizon, Bad}
@@ -62,7 +62,7 @@ rows-room h p n le = omega (arith, suc-mul h p, ap (λ (i : ℕ). i * p) (add-on
 
 -- cells that are filled, and a count that is exact, serve the lines
 pub begins-counted : (r : Rig) (states h m n : ℕ) (f : Filled) (old d l cells table : List ℕ) → Fits r states h (length old) → length old ≡ 8192
-    → Fills (recordAutomaton r) states 0 h f old cells table → f .checked ≡ Passed → n ≡ min (f .count) 1000
+    → FilledBy (recordAutomaton r) states 0 h f old cells table → f .checked ≡ Passed → n ≡ min (f .count) 1000
     → Leads (numbersOf (bytes "count") (f .count) (f .passes)) m d l
     → Begins (countTold (recordAutomaton r) h) (recordAutomaton r) 0 h (record { length = m; index = 0; lines = n; horizon = h; states = states }) d l cells table
 begins-counted r states h m n f old d l cells table z long fs e q w = rw (← told-count A states 0 h f old cells table fs e) (record {
@@ -164,7 +164,7 @@ module _ (input : List ℕ) (r : Asked) (a : r ≡ askedAs (asked input) (indexO
 
     pub horizon-is : h ≡ horizon input
     unfolding horizon
-    horizon-is = sym (ap orZero asked-is)
+    horizon-is = rw asked-is
 
     pub answer-good : (cells : List ℕ) → length cells ≡ 8192 → count (take (length input - at) (drop at input)) h cells ≡ answer input
     unfolding answer

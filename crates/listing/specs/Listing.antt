@@ -13,7 +13,7 @@
 --   listing i          == the whole output for the input i
 -- Assumes nothing.
 use mathlib.Core.List.{List, _++_}
-use mathlib.Core.Option.{Option, none, some}
+use mathlib.Core.Option.{Option, none, some, Option·getD}
 use Prim.Native.Nat.{ℕ, _+_, min}
 use lib.ListN.{length, getD, take, drop, replicate}
 use lib.Dec.{ltb}
@@ -68,12 +68,8 @@ abbrev pub follow : Answer → ℕ
 follow (served values) = min (getD values 0 0) 1000
 follow (refused number place) = 0
 
-abbrev pub orZero : Option ℕ → ℕ
-orZero none = 0
-orZero (some h) = h
-
 unfoldable pub horizon : List ℕ → ℕ
-horizon input = orZero (asked input)
+horizon input = Option·getD (asked input) 0
 
 -- 'After 9, 10, 11 and 14 the cells are filled; after every other refusal they .. are untouched.'
 unfoldable pub cellsLeft : List ℕ → List ℕ → List ℕ

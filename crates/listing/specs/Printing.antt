@@ -1,7 +1,7 @@
 -- The listing as a cursor writes it, line by line.
 --   askedAs o at            == the horizon o, with the place where the rig text begins, as `ask` tells it
 --   lineAt i k              == line k of the listing for the input i, from 0; empty once the listing has ended
---   Buffers c t l           == the cells, the table and the line have the lengths that the program owns
+--   OwnedBuffers c t l           == the cells, the table and the line have the lengths that the program owns
 --   WithinLimits c room     == the cells of c's horizon and joint states are among `room` cells, and within the limits of paper 01
 --   Leads s n d l           == the line d is now l, with s at its front, and n is the length of s
 --   Lists A x c cells table == the cells and the table serve the lines that c tells, for the automaton A from its start x
@@ -45,7 +45,7 @@ lineAt input (suc k) = pick (ltb k (follow (answer input))) (scenarioLine (text 
 abbrev pub countTold : Automaton → ℕ → Answer
 countTold A h = countRows (N A h 0) (served (N A h 0 ∷ passes A ∷ []))
 
-pub record Buffers (cells table line : List ℕ) : Type 0 where
+pub record OwnedBuffers (cells table line : List ℕ) : Type 0 where
   pub cells-long : length cells ≡ 8192
   pub table-long : length table ≡ 16384
   pub line-long : 64 ≤ length line

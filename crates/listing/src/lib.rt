@@ -13,7 +13,7 @@ ghost use Rattle.promises.specs.Calls as promised;
 ghost use Rattle.decoding.specs.Forms.{valueOf};
 ghost use Rattle.checks.specs.Loading.{Fits};
 ghost use Rattle.listing.specs.Listing.{askedIn, asked, cellsLeft};
-ghost use Rattle.listing.specs.Printing.{askedAs, Buffers, WithinLimits, EventsBy, BeginsRefused, BeginsCounted, BeginsText, LeadsNext, StandsAt, Stands, Moves};
+ghost use Rattle.listing.specs.Printing.{askedAs, OwnedBuffers, WithinLimits, EventsBy, BeginsRefused, BeginsCounted, BeginsText, LeadsNext, StandsAt, Stands, Moves};
 
 // What the first line asks for: a horizon, with the place where the rig text begins; or it is no `ask` line.
 enum Asked {
@@ -105,7 +105,7 @@ fn begin_counted(
     line: &mut [u8],
 ) -> Cursor
     requires { ⌜ Fits rig states h (length (now cells)) ⌝ }
-    requires { ⌜ Buffers (now cells) (now table) (now line) ⌝ }
+    requires { ⌜ OwnedBuffers (now cells) (now table) (now line) ⌝ }
     ensures { λ c. ⌜ BeginsCounted (recordAutomaton rig) h c (now (line .entry)) (now (line .exit)) (now (cells .exit)) (now (table .exit)) ⌝ }
     ensures { λ _. ⌜ now (cells .exit) ≡ filled (recordAutomaton rig) h (now (cells .entry)) ⌝ }
 {
@@ -131,7 +131,7 @@ fn begin_text(
     table: &mut [u16],
     line: &mut [u8],
 ) -> Cursor
-    requires { ⌜ Buffers (now cells) (now table) (now line) ⌝ }
+    requires { ⌜ OwnedBuffers (now cells) (now table) (now line) ⌝ }
     ensures { λ c. ⌜ BeginsText (now (text .entry)) h (now (cells .entry)) c (now (line .entry)) (now (line .exit)) (now (cells .exit)) (now (table .exit)) ⌝ }
     ensures { λ _. ⌜ now (cells .exit) ≡ promised.countCells (now (text .entry)) h (now (cells .entry)) ⌝ }
 {
@@ -146,7 +146,7 @@ fn begin_text(
 
 // Writes the first line of the listing at the front of `line`, and fills the cells and the table for the lines that follow.
 pub fn begin(input: &[u8], cells: &mut [u64], table: &mut [u16], line: &mut [u8]) -> Cursor
-    requires { ⌜ Buffers (now cells) (now table) (now line) ⌝ }
+    requires { ⌜ OwnedBuffers (now cells) (now table) (now line) ⌝ }
     ensures { λ c. ⌜ StandsAt (now (input .entry)) 0 c (now (cells .exit)) (now (table .exit)) (now (line .exit)) ⌝ }
     ensures { λ _. ⌜ now (cells .exit) ≡ cellsLeft (now (input .entry)) (now (cells .entry)) ⌝ }
 {

@@ -31,7 +31,7 @@ use Rattle.promises.specs.Refusals.{Sized}
 use Rattle.promises.specs.Generator.{generator}
 use Rattle.promises.specs.Examples.{A, B, one-state, full-cell}
 use Rattle.promises.specs.Starred.{lent}
-use Rattle.promises.specs.Wrong.{copiesIndex0, untouchedOutput, fillsFirstOnly, refusesAll, admitted, noneBeforePruning, eightOfCells, eightOfScratch, twelveOfBytes, twelveOfNumbers, tenOfAnyCell, countsAdmitted, withPasses, lastPassMissing, passesWithin, prunesWithin, forgetsSwaps, PassesTold, Rejected}
+use Rattle.promises.specs.Wrong.{copiesIndex0, untouchedOutput, fillsFirstOnly, refusesAll, admitted, noneBeforePruning, eightOfCells, eightOfScratch, twelveOfBytes, twelveOfNumbers, tenOfAnyCell, countsAdmitted, passesAs, lastPassMissing, passesWithin, prunesWithin, forgetsSwaps, PassesTold, Rejected}
 use Rattle.promises.proofs.Meaning.{rig-states, rig-start}
 use Rattle.promises.proofs.Checks.{check-failed, sized-on, counted-on}
 use Rattle.promises.proofs.Answers.{served-none, refused-none, scenarioOf, block-written, shuffle-served, count-told}
@@ -278,7 +278,7 @@ unfolding PassesTold generator
 passes-of-generator t h cells n p q s = subst (LastPass (rigAutomaton t)) (count-told t h cells n p (s .readable) (s .horizon) (s .room) q .passes-is) (last-pass (rigAutomaton t))
 
 -- whoever tells other passes tells those of the sets after all
-passes-rejected : (f : Automaton → ℕ) → PassesTold (withPasses f) → (t : List ℕ) (h : ℕ) (cells : List ℕ) (n p : ℕ) → count t h cells ≡ served (n ∷ p ∷ []) → f (rigAutomaton t) ≡ p
+passes-rejected : (f : Automaton → ℕ) → PassesTold (passesAs f) → (t : List ℕ) (h : ℕ) (cells : List ℕ) (n p : ℕ) → count t h cells ≡ served (n ∷ p ∷ []) → f (rigAutomaton t) ≡ p
 unfolding PassesTold
 passes-rejected f d t h cells n p q =
     let k = known t h cells n p q in

@@ -1,5 +1,5 @@
 -- The wrong generators that paper 01 names, each the generator with one answer or output changed, and the demand that rejects each.
---   withCount f, withScenarios f, withWritten f, withShuffle f, withShuffled f == the generator, but one call answers or leaves what f says
+--   countAs f, scenariosAs f, writtenAs f, shuffleAs f, shuffledAs f == the generator, but one call answers or leaves what f says
 --   copiesIndex0, untouchedOutput, fillsFirstOnly == Scenarios writes something else
 --   refusesAll n p                                == every call refuses, with n and p
 --   noneBeforePruning                             == 9 is said by what is admitted, nothing pruned
@@ -7,7 +7,7 @@
 --   twelveOfBytes, twelveOfNumbers m              == 12 is
 --   tenOfAnyCell                                  == 10 is said where any cell is full
 --   admitted A r x, countsAdmitted                == how many sequences of r events are admitted from x, nothing pruned; Count tells that
---   withPasses f, lastPassMissing                 == Count tells other passes; one fewer
+--   passesAs f, lastPassMissing                 == Count tells other passes; one fewer
 --   passesWithin A, prunesWithin                  == the passes, where a pass prunes by its own removals; Count tells them
 --   forgetsSwaps                                  == Shuffle puts out the draws
 --   PassesTold C                                  == the passes that Count tells are those of the sets
@@ -38,8 +38,8 @@ use Rattle.promises.specs.Starred.{lent}
 
 -- ---- one change
 
-abbrev pub withCount : (List ℕ → ℕ → List ℕ → Answer) → Calls
-withCount f = record {
+abbrev pub countAs : (List ℕ → ℕ → List ℕ → Answer) → Calls
+countAs f = record {
   count = f;
   scenarios = calls.scenarios;
   written = calls.written;
@@ -48,8 +48,8 @@ withCount f = record {
   shuffled = calls.shuffled;
 }
 
-abbrev pub withScenarios : (List ℕ → ℕ → List ℕ → List ℕ → List ℕ → Answer) → Calls
-withScenarios f = record {
+abbrev pub scenariosAs : (List ℕ → ℕ → List ℕ → List ℕ → List ℕ → Answer) → Calls
+scenariosAs f = record {
   count = calls.count;
   scenarios = f;
   written = calls.written;
@@ -58,8 +58,8 @@ withScenarios f = record {
   shuffled = calls.shuffled;
 }
 
-abbrev pub withWritten : (List ℕ → ℕ → List ℕ → List ℕ → List ℕ → List ℕ) → Calls
-withWritten f = record {
+abbrev pub writtenAs : (List ℕ → ℕ → List ℕ → List ℕ → List ℕ → List ℕ) → Calls
+writtenAs f = record {
   count = calls.count;
   scenarios = calls.scenarios;
   written = f;
@@ -68,8 +68,8 @@ withWritten f = record {
   shuffled = calls.shuffled;
 }
 
-abbrev pub withShuffle : (ℕ → List ℕ → List ℕ → List ℕ → Answer) → Calls
-withShuffle f = record {
+abbrev pub shuffleAs : (ℕ → List ℕ → List ℕ → List ℕ → Answer) → Calls
+shuffleAs f = record {
   count = calls.count;
   scenarios = calls.scenarios;
   written = calls.written;
@@ -78,8 +78,8 @@ withShuffle f = record {
   shuffled = calls.shuffled;
 }
 
-abbrev pub withShuffled : (ℕ → List ℕ → List ℕ → List ℕ → List ℕ) → Calls
-withShuffled f = record {
+abbrev pub shuffledAs : (ℕ → List ℕ → List ℕ → List ℕ → List ℕ) → Calls
+shuffledAs f = record {
   count = calls.count;
   scenarios = calls.scenarios;
   written = calls.written;
@@ -92,15 +92,15 @@ withShuffled f = record {
 
 -- 'a scenarios call that copies index 0 each time'
 unfoldable pub copiesIndex0 : Calls
-copiesIndex0 = withWritten (λ t h is cells out. outputAfter (calls.scenarios t h is cells out) (concatMap (λ i. unrank (rigAutomaton t) h (start t) 0) is) out)
+copiesIndex0 = writtenAs (λ t h is cells out. outputAfter (calls.scenarios t h is cells out) (concatMap (λ i. unrank (rigAutomaton t) h (start t) 0) is) out)
 
 -- 'an untouched output'
 unfoldable pub untouchedOutput : Calls
-untouchedOutput = withWritten (λ t h is cells out. out)
+untouchedOutput = writtenAs (λ t h is cells out. out)
 
 -- 'a list filled only in its first scenario'
 unfoldable pub fillsFirstOnly : Calls
-fillsFirstOnly = withWritten (λ t h is cells out. outputAfter (calls.scenarios t h is cells out) (concatMap (unrank (rigAutomaton t) h (start t)) (take 1 is)) out)
+fillsFirstOnly = writtenAs (λ t h is cells out. outputAfter (calls.scenarios t h is cells out) (concatMap (unrank (rigAutomaton t) h (start t)) (take 1 is)) out)
 
 -- ---- refusals
 
@@ -122,7 +122,7 @@ admitted A (suc r) x = pick (ltb x (A .states)) (sum (λ e. admitted A r (A .nex
 
 -- ''none' said before pruning': 9 is said by what is admitted, the rest by N
 unfoldable pub noneBeforePruning : Calls
-noneBeforePruning = withCount (λ t h cells.
+noneBeforePruning = countAs (λ t h cells.
     sized t h cells
     (unless 9 0 (eqb (admitted (rigAutomaton t) h (start t)) 0)
     (unless 10 0 (leb most (total t h))
@@ -131,20 +131,20 @@ noneBeforePruning = withCount (λ t h cells.
 -- 'refusal 8 or 12 said of buffers long enough': `more` elements, and one, are asked for beyond what 01 asks
 module _ (more : ℕ) where
   unfoldable pub eightOfCells : Calls
-  eightOfCells = withCount (λ t h cells. unless 8 0 (leb (length cells) ((h + 1) * jointStates t + more)) (calls.count t h cells))
+  eightOfCells = countAs (λ t h cells. unless 8 0 (leb (length cells) ((h + 1) * jointStates t + more)) (calls.count t h cells))
 
   unfoldable pub eightOfScratch : Calls
-  eightOfScratch = withShuffle (λ n ds scratch out. unless 8 0 (leb (length scratch) (2 * length ds + more)) (calls.shuffle n ds scratch out))
+  eightOfScratch = shuffleAs (λ n ds scratch out. unless 8 0 (leb (length scratch) (2 * length ds + more)) (calls.shuffle n ds scratch out))
 
   unfoldable pub twelveOfBytes : Calls
-  twelveOfBytes = withScenarios (λ t h is cells out. unless 12 0 (leb (length out) (length is * h + more)) (calls.scenarios t h is cells out))
+  twelveOfBytes = scenariosAs (λ t h is cells out. unless 12 0 (leb (length out) (length is * h + more)) (calls.scenarios t h is cells out))
 
   unfoldable pub twelveOfNumbers : Calls
-  twelveOfNumbers = withShuffle (λ n ds scratch out. unless 12 0 (leb (length out) (length ds + more)) (calls.shuffle n ds scratch out))
+  twelveOfNumbers = shuffleAs (λ n ds scratch out. unless 12 0 (leb (length out) (length ds + more)) (calls.shuffle n ds scratch out))
 
 -- 'Refusing 10 because a cell is full that no scenario passes': because any cell is full
 unfoldable pub tenOfAnyCell : Calls
-tenOfAnyCell = withCount (λ t h cells.
+tenOfAnyCell = countAs (λ t h cells.
     sized t h cells
     (unless 10 0 (any (eqb most) (rows (rigAutomaton t) (h + 1)))
     (counted t h (served (total t h ∷ passes (rigAutomaton t) ∷ [])))))
@@ -153,19 +153,19 @@ tenOfAnyCell = withCount (λ t h cells.
 
 -- 'Counting whatever is admitted up to h'
 unfoldable pub countsAdmitted : Calls
-countsAdmitted = withCount (λ t h cells.
+countsAdmitted = countAs (λ t h cells.
     sized t h cells
     (unless 9 0 (eqb (admitted (rigAutomaton t) h (start t)) 0)
     (unless 10 0 (leb most (admitted (rigAutomaton t) h (start t)))
     (served (admitted (rigAutomaton t) h (start t) ∷ passes (rigAutomaton t) ∷ [])))))
 
 -- the generator, but Count tells other passes
-abbrev pub withPasses : (Automaton → ℕ) → Calls
-withPasses f = withCount (λ t h cells. sized t h cells (counted t h (served (total t h ∷ f (rigAutomaton t) ∷ []))))
+abbrev pub passesAs : (Automaton → ℕ) → Calls
+passesAs f = countAs (λ t h cells. sized t h cells (counted t h (served (total t h ∷ f (rigAutomaton t) ∷ []))))
 
 -- the pass that removes nothing is not counted
 unfoldable pub lastPassMissing : Calls
-lastPassMissing = withPasses (λ A. passes A - 1)
+lastPassMissing = passesAs (λ A. passes A - 1)
 
 -- the set S once state n has been looked at, and what a pass leaves that looks at the states below n, the last of them first
 unfoldable pub without : Automaton → (ℕ → Bool) → ℕ → ℕ → Bool
@@ -187,13 +187,13 @@ passesWithin A = passesWithinFrom A (A .states) 0 (λ x. ltb x (A .states))
 
 -- 'Pruning within a pass by that pass's own removals, and counting fewer passes'
 unfoldable pub prunesWithin : Calls
-prunesWithin = withPasses passesWithin
+prunesWithin = passesAs passesWithin
 
 -- ---- the shuffle
 
 -- 'Forgetting that a swapped place can be drawn again': output i is draw i
 unfoldable pub forgetsSwaps : Calls
-forgetsSwaps = withShuffled (λ n ds scratch out. outputAfter (calls.shuffle n ds scratch out) ds out)
+forgetsSwaps = shuffledAs (λ n ds scratch out. outputAfter (calls.shuffle n ds scratch out) ds out)
 
 -- ---- what rejects them
 

@@ -26,7 +26,7 @@ use Rattle.decoding.specs.Forms.{formLine}
 use Rattle.reader.specs.declared.Sizes.{Sizes}
 use Rattle.reader.specs.Reading.{withPart, withLine, recordFrom}
 use Rattle.reader.specs.Record.{nobody}
-use Rattle.reader.specs.Taking.{Bounded, rigCase, rigSizes, monCase, monSizes, monCounts, goCase, goMoves, caseOf, sizesAfter, movesAfter, countsAfter}
+use Rattle.reader.specs.Taking.{Allowed, rigCase, rigSizes, monCase, monSizes, monCounts, goCase, goMoves, caseOf, sizesAfter, movesAfter, countsAfter}
 use Rattle.reader.proofs.Monitors.{monitorAt, events-snoc, empty-nil, empty-snoc, empty-length, addPart-at, addPart-beside, latest-at, new-before, new-at, new-after}
 use Rattle.reader.proofs.Tables.{Table, seen, table-blank, table-beside, table-go}
 
@@ -48,7 +48,7 @@ pub record Holds (r : Rig) (ls : List Line) (z : Sizes) (mv ct : List ℕ) : Typ
   pub latest-is : (k : ℕ) → suc k ≡ z .monitors → statesAt (monitors ls) k ≡ z .latest
   pub tabled : Tabled (monitors ls) (z .monitors) (z .events) mv ct
   pub recorded : recordFrom r ls ≡ record { moves = mv; counts = ct; monitors = z .monitors; events = z .events }
-  pub room : Bounded z
+  pub room : Allowed z
   pub long : length mv ≡ 2048
   pub wide : length ct ≡ 4
 

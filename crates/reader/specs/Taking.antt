@@ -1,5 +1,5 @@
 -- One line more, in the reader's own state: the sizes so far and the two tables. The laws of `proofs/Held` tie it to the lines.
---   Bounded z             == sizes within the paper's limits
+--   Allowed z             == sizes within the paper's limits
 --   onlyIf n a b       == a where the number n is 0, else b
 --   taken n z          == Next z where the number n is 0, else Bad n
 --   refusal n p        == the answer to a text that is refused
@@ -27,7 +27,7 @@ use Rattle.reader.specs.declared.Taken.{Taken}
 use Rattle.reader.specs.declared.Taken.the-variants.{Next, Bad}
 use Rattle.reader.specs.declared.Verdict.the-variants.{Refused}
 
-pub record Bounded (z : Sizes) : Type 0 where
+pub record Allowed (z : Sizes) : Type 0 where
   pub few-events : z .events ≤ 16
   pub few-monitors : z .monitors ≤ 4
   pub few-latest : z .latest ≤ 32

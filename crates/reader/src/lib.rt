@@ -6,7 +6,7 @@ ghost use Prim.Native.Nat.{_<_};
 ghost use lib.ListN.{length};
 ghost use Rattle.promises.specs.Reading as promised;
 ghost use Rattle.reader.specs.Reading.{answerOf, recordOf};
-ghost use Rattle.reader.specs.Taking.{Bounded, taken, rigCase, rigSizes, monCase, monSizes, monCounts, goCase, goMoves, caseOf, sizesAfter, movesAfter, countsAfter, onlyIf};
+ghost use Rattle.reader.specs.Taking.{Allowed, taken, rigCase, rigSizes, monCase, monSizes, monCounts, goCase, goMoves, caseOf, sizesAfter, movesAfter, countsAfter, onlyIf};
 ghost use Rattle.reader.specs.Taking as taking;
 
 // What reading answers: the text is readable, or a number and a place.
@@ -68,7 +68,7 @@ fn take_rig(z: Sizes, e: usize) -> Taken
 
 // `mon`, S: 'S from 1 to 32', 'One to four monitors', P 'at most 1,024'.
 fn take_mon(counts: &mut [u8], z: Sizes, s: usize) -> Taken
-    requires { ⌜ (length (now counts) ≡ 4) × Bounded z ⌝ }
+    requires { ⌜ (length (now counts) ≡ 4) × Allowed z ⌝ }
     ensures { λ r. ⌜ r ≡ taken (monCase z s) (monSizes z s) ⌝ }
     ensures { λ _. ⌜ now (counts .exit) ≡ onlyIf (monCase z s) (monCounts (now (counts .entry)) z s) (now (counts .entry)) ⌝ }
 {
@@ -100,7 +100,7 @@ fn take_mon(counts: &mut [u8], z: Sizes, s: usize) -> Taken
 
 // `go`, s, e, t: 'the latest monitor moves from s to t on event e'. A move that stands already is seen in the table.
 fn take_go(moves: &mut [u8], z: Sizes, s: usize, e: usize, t: usize) -> Taken
-    requires { ⌜ (length (now moves) ≡ 2048) × Bounded z ⌝ }
+    requires { ⌜ (length (now moves) ≡ 2048) × Allowed z ⌝ }
     ensures { λ r. ⌜ r ≡ taken (goCase (now (moves .entry)) z s e t) z ⌝ }
     ensures { λ _. ⌜ now (moves .exit) ≡ onlyIf (goCase (now (moves .entry)) z s e t) (goMoves (now (moves .entry)) z s e t) (now (moves .entry)) ⌝ }
 {
@@ -126,7 +126,7 @@ fn take_go(moves: &mut [u8], z: Sizes, s: usize, e: usize, t: usize) -> Taken
 
 // One line more.
 fn take_line(moves: &mut [u8], counts: &mut [u8], z: Sizes, line: Form) -> Taken
-    requires { ⌜ (length (now moves) ≡ 2048) × (length (now counts) ≡ 4) × Bounded z ⌝ }
+    requires { ⌜ (length (now moves) ≡ 2048) × (length (now counts) ≡ 4) × Allowed z ⌝ }
     ensures { λ r. ⌜ r ≡ taken (caseOf (now (moves .entry)) z line) (sizesAfter z line) ⌝ }
     ensures { λ _. ⌜ now (moves .exit) ≡ onlyIf (caseOf (now (moves .entry)) z line) (movesAfter (now (moves .entry)) z line) (now (moves .entry)) ⌝ }
     ensures { λ _. ⌜ now (counts .exit) ≡ onlyIf (caseOf (now (moves .entry)) z line) (countsAfter (now (counts .entry)) z line) (now (counts .entry)) ⌝ }

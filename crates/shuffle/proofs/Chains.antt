@@ -17,7 +17,7 @@ use Rattle.lists.proofs.Tests.{case, contra, and-left, and-right, and-intro}
 use Rattle.lists.proofs.Tables.{length-tabulate, getD-tabulate}
 use Rattle.automaton.specs.Shuffle.{Valid}
 use Rattle.shuffle.specs.Buckets.{bucketOf}
-use Rattle.shuffle.specs.Places.{latestStep, inBucket, multiple, chained, moved, Linked, Ready, Kept}
+use Rattle.shuffle.specs.Places.{latestStep, inBucket, multiple, chained, moved, Linked, Prepared, Kept}
 use Rattle.shuffle.proofs.Mixing.{bucket-below}
 use Rattle.shuffle.proofs.Draws.{valid-at, valid-few}
 use Rattle.shuffle.proofs.Arrangement.{moved-other, length-moved, drop-moved}
@@ -252,7 +252,7 @@ kept-moved ds s m i d h = record { long = length-moved m i d s; rest = drop-move
 -- ---- ready to be swapped
 
 -- where n is small every place is held, and no draw is linked
-pub ready-all : (n : ℕ) (ds s : List ℕ) → n ≤ 2 * length ds → 2 * length ds ≤ length s → Valid n 0 ds → Ready n ds s
+pub ready-all : (n : ℕ) (ds s : List ℕ) → n ≤ 2 * length ds → 2 * length ds ≤ length s → Valid n 0 ds → Prepared n ds s
 ready-all n ds s a b v =
     record {
       near = valid-few n ds v;
@@ -264,7 +264,7 @@ ready-all n ds s a b v =
     none : (i : ℕ) → i < length ds → n ≤ getD ds i 0 → ⊥
     none i h f = let r = valid-at n 0 ds v i h .1 in omega arith
 
-pub ready-counted : (m : ℕ) (ds s : List ℕ) → Ready m ds s → Ready m ds (tabulate (multiple 1) m ++ drop m s)
+pub ready-counted : (m : ℕ) (ds s : List ℕ) → Prepared m ds s → Prepared m ds (tabulate (multiple 1) m ++ drop m s)
 ready-counted m ds s r =
     let wide = r .wide in
     let small = r .small in

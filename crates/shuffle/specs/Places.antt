@@ -9,7 +9,7 @@
 --   Linked m ds s     == for each draw from m on, s has at m + its step the last step before it in the same bucket
 --   Walkable m ds i s == draw i is from m on, and s has the links of its chain
 --   Held m ds i s     == s has at k the number at k when step k came, and where it has not come yet, the number now
---   Ready m ds s      == the draws are linked, and both kinds of place have room in the first 2 × z numbers
+--   Prepared m ds s   == the draws are linked, and both kinds of place have room in the first 2 × z numbers
 --   Kept ds s t       == t is s, but for the first 2 × z numbers
 -- Assumes nothing.
 use mathlib.Core.Path.{_≡_}
@@ -57,7 +57,7 @@ Walkable m ds i s = (i < length ds) × (m ≤ getD ds i 0) × (m + length ds ≤
 abbrev pub Held : ℕ → List ℕ → ℕ → List ℕ → Type 0
 Held m ds i s = (k : ℕ) → k < m → getD s k 0 ≡ arranged ds (min i k) k
 
-pub record Ready (m : ℕ) (ds s : List ℕ) : Type 0 where
+pub record Prepared (m : ℕ) (ds s : List ℕ) : Type 0 where
   pub near : length ds ≤ m
   pub small : m ≤ 2 * length ds
   pub wide : 2 * length ds ≤ length s

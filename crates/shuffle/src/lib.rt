@@ -14,7 +14,7 @@ ghost use Rattle.automaton.specs.Shuffle.{Valid, shuffle as swapped};
 ghost use Rattle.promises.specs.Calls.{firstBad, badDraw, shuffle as promised, shuffled as promisedOutput, ShuffleKeeps};
 ghost use Rattle.shuffle.specs.Outcome.{answerOf};
 ghost use Rattle.shuffle.specs.Buckets.{spread, bucketOf};
-ghost use Rattle.shuffle.specs.Places.{drawn, latestStep, multiple, chained, moved, Linked, Walkable, Held, Ready, Kept};
+ghost use Rattle.shuffle.specs.Places.{drawn, latestStep, multiple, chained, moved, Linked, Walkable, Held, Prepared, Kept};
 
 // Served, or refused with a number and a place.
 pub enum Shuffled {
@@ -74,7 +74,7 @@ fn serve(n: u64, draws: &[u64], scratch: &mut [u64], out: &mut [u64])
 // How many places the scratch holds from its start; the draws from there on are chained.
 fn prepare(n: u64, draws: &[u64], scratch: &mut [u64]) -> usize
     requires { ⌜ (2 * length (now draws) ≤ length (now scratch)) × Valid n 0 (now draws) ⌝ }
-    ensures { λ r. ⌜ Ready r (now (draws .entry)) (now (scratch .exit)) ⌝ }
+    ensures { λ r. ⌜ Prepared r (now (draws .entry)) (now (scratch .exit)) ⌝ }
     ensures { λ r. ⌜ Kept (now (draws .entry)) (now (scratch .entry)) (now (scratch .exit)) ⌝ }
 {
     let z = draws.len();
@@ -149,7 +149,7 @@ fn put_multiples(scratch: &mut [u64], m: usize, step: u64)
 // The swaps, each with its number put out.
 fn swap_all(draws: &[u64], scratch: &mut [u64], reach: usize, out: &mut [u64])
     requires { ⌜ (length (now draws) ≤ length (now out)) × ((k : ℕ) → k < length (now draws) → k ≤ getD (now draws) k 0) ⌝ }
-    requires { ⌜ Ready reach (now draws) (now scratch) × Held reach (now draws) 0 (now scratch) ⌝ }
+    requires { ⌜ Prepared reach (now draws) (now scratch) × Held reach (now draws) 0 (now scratch) ⌝ }
     ensures { λ _. ⌜ now (out .exit) ≡ swapped (now (draws .entry)) ++ drop (length (now (draws .entry))) (now (out .entry)) ⌝ }
     ensures { λ _. ⌜ Kept (now (draws .entry)) (now (scratch .entry)) (now (scratch .exit)) ⌝ }
 {
@@ -163,7 +163,7 @@ fn swap_all(draws: &[u64], scratch: &mut [u64], reach: usize, out: &mut [u64])
 // The number at draw i, before step i.
 fn number_at(draws: &[u64], scratch: &[u64], reach: usize, i: usize) -> u64
     requires { ⌜ (i < length (now draws)) × (i ≤ getD (now draws) i 0) ⌝ }
-    requires { ⌜ Ready reach (now draws) (now scratch) × Held reach (now draws) i (now scratch) ⌝ }
+    requires { ⌜ Prepared reach (now draws) (now scratch) × Held reach (now draws) i (now scratch) ⌝ }
     ensures { λ r. ⌜ r ≡ drawn (now (draws .entry)) i ⌝ }
 {
     let d = draws[i];
