@@ -1,6 +1,6 @@
 -- The answers of the calls in the paper's numbers: 'When an answer is an enum, a definition states this paper's number and values for each of its cases'.
 --   countAnswer, listAnswer, indexAnswer == what Count, Scenarios and Index answer
---   countFrom, listFrom, indexFrom       == the same from row 9 on
+--   listFrom, indexFrom                  == what Scenarios and Index answer from row 9 on
 --   outputFrom                           == what Scenarios leaves in its output
 -- Assumes nothing.
 use mathlib.Core.List.{List, [], _∷_}
@@ -8,7 +8,6 @@ use Prim.Native.Nat.{ℕ}
 use lib.ListN.{length}
 use Rattle.lists.specs.Lists.{concatMap}
 use Rattle.automaton.specs.Automaton.{Automaton}
-use Rattle.automaton.specs.Pruning.{passes}
 use Rattle.automaton.specs.Counting.{N}
 use Rattle.automaton.specs.Ranking.{unrank}
 use Rattle.promises.specs.Answer.{Answer, served, refused}
@@ -35,9 +34,6 @@ indexAnswer (IndexServed i) = served (i ∷ [])
 indexAnswer (IndexRefused number place) = refused number place
 
 -- ---- once the checks before row 9 are passed, for the automaton A and its start x
-
-abbrev pub countFrom : Automaton → ℕ → ℕ → Answer
-countFrom A h x = countRows (N A h x) (served (N A h x ∷ passes A ∷ []))
 
 abbrev pub listFrom : Automaton → ℕ → ℕ → List ℕ → Answer
 listFrom A h x is = countRows (N A h x) (indicesRow (N A h x) is)

@@ -7,11 +7,11 @@ ghost use mathlib.Core.Path.{_≡_};
 ghost use Prim.Native.Nat.{_*_, _≤_};
 ghost use lib.ListN.{length};
 ghost use Rattle.rig.specs.Record.{recordAutomaton};
-ghost use Rattle.promises.specs.Calls.{filled, firstBad, notBelow, ShuffleKeeps};
+ghost use Rattle.promises.specs.Calls.{countFrom, filled, firstBad, notBelow, ShuffleKeeps};
 ghost use Rattle.promises.specs.Calls as promised;
 ghost use Rattle.checks.specs.Loading.{Fits};
 ghost use Rattle.shuffle.specs.Outcome.{answerOf as shuffleAnswer};
-ghost use Rattle.generator.specs.Outcomes.{countAnswer, listAnswer, indexAnswer, countFrom, listFrom, outputFrom, indexFrom};
+ghost use Rattle.generator.specs.Outcomes.{countAnswer, listAnswer, indexAnswer, listFrom, outputFrom, indexFrom};
 
 // What Count answers: N and the passes, or a refusal's number and place.
 pub enum Counted {

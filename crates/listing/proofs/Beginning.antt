@@ -18,7 +18,7 @@ use Rattle.automaton.specs.Ranking.{unrank}
 use Rattle.promises.specs.Answer.{Answer, refused}
 use Rattle.promises.specs.Text.{bytes}
 use Rattle.promises.specs.Rig.{rigAutomaton, start}
-use Rattle.promises.specs.Calls.{cellsAfter, sized, count, countCells}
+use Rattle.promises.specs.Calls.{countFrom, cellsAfter, sized, count, countCells}
 use Rattle.ranking.specs.Ranks.{Exact, UnrankedBy}
 use Rattle.ranking.proofs.Premises.{filled-exact}
 use Rattle.ranking.proofs.Walk.{length-unrank}
@@ -32,7 +32,7 @@ use Rattle.filling.specs.Filling.{FilledBy}
 use Rattle.filling.proofs.Rows.{early-fills, told-count, told-exact, told-few, told-some}
 use Rattle.line.specs.Line.{lineOf, numbersOf}
 use Rattle.listing.specs.Listing.{asked, text, owned, answerTo, answer, headLine, cellsLeft, horizon, scenarioLine}
-use Rattle.listing.specs.Printing.{askedAs, countTold, Leads, EventsBy, Begins, Serves}
+use Rattle.listing.specs.Printing.{askedAs, Leads, EventsBy, Begins, Serves}
 use Rattle.listing.specs.declared.Asked.{Asked}
 use Rattle.listing.specs.declared.Asked.the-variants.{Horizon, Bad}
 use Rattle.listing.specs.declared.Cursor.{Cursor}
@@ -64,7 +64,7 @@ rows-room h p n le = omega (arith, suc-mul h p, ap (λ (i : ℕ). i * p) (add-on
 pub begins-counted : (r : Rig) (states h m n : ℕ) (f : Filled) (old d l cells table : List ℕ) → Fits r states h (length old) → length old ≡ 8192
     → FilledBy (recordAutomaton r) states 0 h f old cells table → f .checked ≡ Passed → n ≡ min (f .count) 1000
     → Leads (numbersOf (bytes "count") (f .count) (f .passes)) m d l
-    → Begins (countTold (recordAutomaton r) h) (recordAutomaton r) 0 h (record { length = m; index = 0; lines = n; horizon = h; states = states }) d l cells table
+    → Begins (countFrom (recordAutomaton r) h 0) (recordAutomaton r) 0 h (record { length = m; index = 0; lines = n; horizon = h; states = states }) d l cells table
 begins-counted r states h m n f old d l cells table z long fs e q w = rw (← told-count A states 0 h f old cells table fs e) (record {
   limits = record {
     short = z .horizon;

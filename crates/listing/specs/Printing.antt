@@ -1,7 +1,7 @@
 -- The listing as a cursor writes it, line by line.
 --   askedAs o at            == the horizon o, with the place where the rig text begins, as `ask` tells it
 --   lineAt i k              == line k of the listing for the input i, from 0; empty once the listing has ended
---   OwnedBuffers c t l           == the cells, the table and the line have the lengths that the program owns
+--   OwnedBuffers c t l      == the cells, the table and the line have the lengths that the program owns
 --   WithinLimits c room     == the cells of c's horizon and joint states are among `room` cells, and within the limits of paper 01
 --   Leads s n d l           == the line d is now l, with s at its front, and n is the length of s
 --   Lists A x c cells table == the cells and the table serve the lines that c tells, for the automaton A from its start x
@@ -12,21 +12,20 @@
 --   Serves t c cells table  == the cells and the table serve the lines that c tells, for the text t
 --   StandsAt i k c .. l     == the line k of the listing for i stands at the front of l, and c tells what comes after it
 --   Stands, Moves           == c stands at some line; r stands at the line after it
--- Assumes nothing.
+-- What stands in the line's buffer past the line, and in the table past its rows, is left free: nobody reads it. Assumes nothing.
 use mathlib.Core.Path.{_≡_}
-use mathlib.Core.List.{List, [], _∷_, _++_}
+use mathlib.Core.List.{List, [], _++_}
 use mathlib.Core.Option.{Option, none, some}
 use Prim.Native.Nat.{ℕ, zero, suc, _*_, _≤_, _<_, min}
 use lib.ListN.{length, take, drop}
 use lib.Dec.{ltb}
 use Rattle.lists.specs.Lists.{pick}
 use Rattle.automaton.specs.Automaton.{Automaton}
-use Rattle.automaton.specs.Pruning.{passes}
 use Rattle.automaton.specs.Counting.{N}
 use Rattle.automaton.specs.Ranking.{unrank}
-use Rattle.promises.specs.Answer.{Answer, served, refused}
+use Rattle.promises.specs.Answer.{Answer, refused}
 use Rattle.promises.specs.Rig.{rigAutomaton, start}
-use Rattle.promises.specs.Calls.{countRows, count}
+use Rattle.promises.specs.Calls.{countFrom, count}
 use Rattle.ranking.specs.Ranks.{Exact}
 use Rattle.listing.specs.Listing.{text, answer, headLine, follow, horizon, scenarioLine}
 use Rattle.listing.specs.declared.Asked.{Asked}
@@ -40,10 +39,6 @@ askedAs (some h) at = Horizon h at
 unfoldable pub lineAt : List ℕ → ℕ → List ℕ
 lineAt input zero = headLine (answer input)
 lineAt input (suc k) = pick (ltb k (follow (answer input))) (scenarioLine (text input) (horizon input) k) []
-
--- what Count answers from row 9 on, for the automaton A from state 0
-abbrev pub countTold : Automaton → ℕ → Answer
-countTold A h = countRows (N A h 0) (served (N A h 0 ∷ passes A ∷ []))
 
 pub record OwnedBuffers (cells table line : List ℕ) : Type 0 where
   pub cells-long : length cells ≡ 8192
@@ -88,7 +83,7 @@ BeginsRefused number place c line left = (A : Automaton) (x h : ℕ) (cells tabl
 
 -- what Count answers from row 9 on, from state 0
 abbrev pub BeginsCounted : Automaton → ℕ → Cursor → List ℕ → List ℕ → List ℕ → List ℕ → Type 0
-BeginsCounted A h c line left cells table = Begins (countTold A h) A 0 h c line left cells table
+BeginsCounted A h c line left cells table = Begins (countFrom A h 0) A 0 h c line left cells table
 
 -- the line of the index that comes next, wherever the lines are served
 abbrev pub LeadsNext : Cursor → List ℕ → List ℕ → ℕ → List ℕ → List ℕ → Type 0

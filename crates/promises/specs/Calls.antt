@@ -4,6 +4,7 @@
 --   row A r, rows A n  == the cells of one r, and of every r below n
 --   filled A h cells   == the cells filled for the horizon h, the others as they were
 --   sizeRows, countRows, indicesRow, sequenceRow == the rows 7 and 8; 9 and 10; 11; 14 of the table of refusals
+--   countFrom A h x    == what Count tells from row 9 on
 --   count, scenarios, index, shuffle           == the answers
 --   countCells, scenariosCells, indexCells     == the cells afterwards
 --   written, shuffled                          == the output afterwards
@@ -73,6 +74,10 @@ sizeRows P h room a = unless 7 0 (ltb 1000 h) (unless 8 0 (ltb room ((h + 1) * P
 -- 9: 'N is 0'. 10: 'N is 18,446,744,073,709,551,615 or more'
 abbrev pub countRows : ℕ → Answer → Answer
 countRows n a = unless 9 0 (eqb n 0) (unless 10 0 (leb most n) a)
+
+-- from row 9 on, for the automaton A from x: N and the passes are told
+abbrev pub countFrom : Automaton → ℕ → ℕ → Answer
+countFrom A h x = countRows (N A h x) (served (N A h x ∷ passes A ∷ []))
 
 -- of a number at any position: it is n or more
 abbrev pub notBelow : ℕ → ℕ → ℕ → Bool
