@@ -10,7 +10,7 @@ use lib.Seq.{take-append-seam, drop-append-add, drop-drop, set-split, append-sno
 use Rattle.lists.specs.Lists.{concatMap}
 use Rattle.lists.proofs.Fronts.{front-put, front-more}
 use Rattle.lists.specs.Decimal.{decimal}
-use Rattle.line.specs.Line.{fieldOf, placed, lineOf, numbersOf}
+use Rattle.line.specs.Line.{fieldBytes, placed, lineOf, numbersOf}
 
 -- a piece placed where the front ends
 pub front-placed : (s t d out : List ℕ) (at : ℕ) → at ≡ length s → out ≡ s ++ drop (length s) d → placed t at out ≡ (s ++ t) ++ drop (length (s ++ t)) d
@@ -19,7 +19,7 @@ front-placed s t d out at a e = rw (a, e, take-append-seam, drop-append-add, dro
 -- byte 9 stored, and the digits written to the part after it
 pub field-placed : (n at : ℕ) (out last : List ℕ) → at < length out
     → last ≡ decimal n ++ drop (length (decimal n)) (take (length (set out at 9) - (at + 1)) (drop (at + 1) (set out at 9)))
-    → take (at + 1) (set out at 9) ++ (last ++ drop (length (set out at 9) - (at + 1)) (drop (at + 1) (set out at 9))) ≡ placed (fieldOf n) at out
+    → take (at + 1) (set out at 9) ++ (last ++ drop (length (set out at 9) - (at + 1)) (drop (at + 1) (set out at 9))) ≡ placed (fieldBytes n) at out
 field-placed n at out last h back = whole (at + 1) (sym k) back ∙ ap₂ (λ (l : List ℕ) (m : ℕ). l ++ drop m out) (append-snoc (take at out) 9 (decimal n)) more
   where
     s : List ℕ
@@ -28,7 +28,7 @@ field-placed n at out last h back = whole (at + 1) (sym k) back ∙ ap₂ (λ (l
     k : length s ≡ at + 1
     k = length-append (take at out) (9 ∷ []) ∙ rw (length-take-le at out (omega arith))
 
-    more : length (s ++ decimal n) ≡ at + length (fieldOf n)
+    more : length (s ++ decimal n) ≡ at + length (fieldBytes n)
     more = omega (arith, length-append s (decimal n), k)
 
     e : set out at 9 ≡ s ++ drop (length s) out
@@ -62,13 +62,13 @@ placed-more s t d at h =
     ∙ ap₂ (λ (l : List ℕ) (m : ℕ). l ++ drop m d) (append-assoc (take at d) s t) r
 
 module _ (events : List ℕ) (k : ℕ) (lt : k < length events) where
-  pub length-fields : length (concatMap fieldOf (take (k + 1) events)) ≡ length (concatMap fieldOf (take k events)) + length (fieldOf (getD events k 0))
-  length-fields = rw (add-one k, concatMap-take fieldOf events k lt, length-append)
+  pub length-fields : length (concatMap fieldBytes (take (k + 1) events)) ≡ length (concatMap fieldBytes (take k events)) + length (fieldBytes (getD events k 0))
+  length-fields = rw (add-one k, concatMap-take fieldBytes events k lt, length-append)
 
   -- one event more
-  pub fields-more : (d out : List ℕ) (at end : ℕ) → at ≤ length d → end ≡ at + length (concatMap fieldOf (take k events)) → out ≡ placed (concatMap fieldOf (take k events)) at d
-      → placed (fieldOf (getD events k 0)) end out ≡ placed (concatMap fieldOf (take (k + 1) events)) at d
-  fields-more d out at end h e q = rw (e, q, add-one k, concatMap-take fieldOf events k lt) (placed-more (concatMap fieldOf (take k events)) (fieldOf (getD events k 0)) d at h)
+  pub fields-more : (d out : List ℕ) (at end : ℕ) → at ≤ length d → end ≡ at + length (concatMap fieldBytes (take k events)) → out ≡ placed (concatMap fieldBytes (take k events)) at d
+      → placed (fieldBytes (getD events k 0)) end out ≡ placed (concatMap fieldBytes (take (k + 1) events)) at d
+  fields-more d out at end h e q = rw (e, q, add-one k, concatMap-take fieldBytes events k lt) (placed-more (concatMap fieldBytes (take k events)) (fieldBytes (getD events k 0)) d at h)
 
 -- ---- whole lines
 
@@ -80,24 +80,24 @@ ended s d out end h e q = (omega (arith, length-append s (10 ∷ [])), rw (e, q)
 pub line-written : (index : ℕ) (events d out out′ : List ℕ) (from end : ℕ)
     → end < length d
     → from ≡ length (decimal index) → out ≡ decimal index ++ drop (length (decimal index)) d
-    → end ≡ from + length (concatMap fieldOf events) → out′ ≡ placed (concatMap fieldOf events) from out
+    → end ≡ from + length (concatMap fieldBytes events) → out′ ≡ placed (concatMap fieldBytes events) from out
     → (end + 1 ≡ length (lineOf index events)) × (set out′ end 10 ≡ lineOf index events ++ drop (length (lineOf index events)) d)
 unfolding lineOf
 line-written index events d out out′ from end h f q e q′ =
-    let l = length-append (decimal index) (concatMap fieldOf events) in
-    ended (decimal index ++ concatMap fieldOf events) d out′ end (omega (arith, l)) (omega (arith, l))
-    (q′ ∙ front-placed (decimal index) (concatMap fieldOf events) d out from f q)
+    let l = length-append (decimal index) (concatMap fieldBytes events) in
+    ended (decimal index ++ concatMap fieldBytes events) d out′ end (omega (arith, l)) (omega (arith, l))
+    (q′ ∙ front-placed (decimal index) (concatMap fieldBytes events) d out from f q)
 
 pub numbers-written : (word d out out′ out″ : List ℕ) (a b from next end : ℕ)
     → end < length d
     → from ≡ length word → out ≡ word ++ drop (length word) d
-    → next ≡ from + length (fieldOf a) → out′ ≡ placed (fieldOf a) from out
-    → end ≡ next + length (fieldOf b) → out″ ≡ placed (fieldOf b) next out′
+    → next ≡ from + length (fieldBytes a) → out′ ≡ placed (fieldBytes a) from out
+    → end ≡ next + length (fieldBytes b) → out″ ≡ placed (fieldBytes b) next out′
     → (end + 1 ≡ length (numbersOf word a b)) × (set out″ end 10 ≡ numbersOf word a b ++ drop (length (numbersOf word a b)) d)
 unfolding numbersOf
 numbers-written word d out out′ out″ a b from next end h f q n q′ e q″ =
-    let l = length-append word (fieldOf a) in
-    let m = length-append (word ++ fieldOf a) (fieldOf b) in
-    let two : out′ ≡ (word ++ fieldOf a) ++ drop (length (word ++ fieldOf a)) d = q′ ∙ front-placed word (fieldOf a) d out from f q in
-    ended (word ++ fieldOf a ++ fieldOf b) d out″ end (omega (arith, l, m)) (omega (arith, l, m))
-    (q″ ∙ front-placed (word ++ fieldOf a) (fieldOf b) d out′ next (omega (arith, l)) two)
+    let l = length-append word (fieldBytes a) in
+    let m = length-append (word ++ fieldBytes a) (fieldBytes b) in
+    let two : out′ ≡ (word ++ fieldBytes a) ++ drop (length (word ++ fieldBytes a)) d = q′ ∙ front-placed word (fieldBytes a) d out from f q in
+    ended (word ++ fieldBytes a ++ fieldBytes b) d out″ end (omega (arith, l, m)) (omega (arith, l, m))
+    (q″ ∙ front-placed (word ++ fieldBytes a) (fieldBytes b) d out′ next (omega (arith, l)) two)

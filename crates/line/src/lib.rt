@@ -5,13 +5,13 @@ ghost use Prim.Native.Nat.{_+_, _*_, _≤_};
 ghost use lib.ListN.{length, drop};
 ghost use Rattle.lists.specs.Lists.{concatMap};
 ghost use Rattle.lists.specs.Decimal.{decimal};
-ghost use Rattle.line.specs.Line.{fieldOf, placed, lineOf, numbersOf};
+ghost use Rattle.line.specs.Line.{fieldBytes, placed, lineOf, numbersOf};
 
 // Writes byte 9 and the digits of n from `at` on, and gives where they end.
 fn write_field(n: u64, at: usize, out: &mut [u8]) -> usize
-    requires { ⌜ at + length (fieldOf n) ≤ length (now out) ⌝ }
-    ensures { λ r. ⌜ r ≡ at + length (fieldOf n) ⌝ }
-    ensures { λ _. ⌜ now (out .exit) ≡ placed (fieldOf n) at (now (out .entry)) ⌝ }
+    requires { ⌜ at + length (fieldBytes n) ≤ length (now out) ⌝ }
+    ensures { λ r. ⌜ r ≡ at + length (fieldBytes n) ⌝ }
+    ensures { λ _. ⌜ now (out .exit) ≡ placed (fieldBytes n) at (now (out .entry)) ⌝ }
 {
     out[at] = 9;
     let from = at + 1;
@@ -21,8 +21,8 @@ fn write_field(n: u64, at: usize, out: &mut [u8]) -> usize
 // Writes byte 9 and the digits of each event from `at` on, one event after the other, and gives where they end.
 fn write_fields(events: &[u8], at: usize, out: &mut [u8]) -> usize
     requires { ⌜ at + 4 * length (now events) ≤ length (now out) ⌝ }
-    ensures { λ r. ⌜ (r ≡ at + length (concatMap fieldOf (now (events .entry)))) × (r ≤ at + 4 * length (now (events .entry))) ⌝ }
-    ensures { λ _. ⌜ now (out .exit) ≡ placed (concatMap fieldOf (now (events .entry))) at (now (out .entry)) ⌝ }
+    ensures { λ r. ⌜ (r ≡ at + length (concatMap fieldBytes (now (events .entry)))) × (r ≤ at + 4 * length (now (events .entry))) ⌝ }
+    ensures { λ _. ⌜ now (out .exit) ≡ placed (concatMap fieldBytes (now (events .entry))) at (now (out .entry)) ⌝ }
 {
     let mut end = at;
     for k in 0..events.len() {

@@ -8,7 +8,7 @@ use lib.Seq.{take-all}
 use Rattle.lists.specs.Lists.{concatMap}
 use Rattle.lists.specs.Decimal.{decimal}
 use Rattle.lists.proofs.Decimal.{decimal-short}
-use Rattle.line.specs.Line.{fieldOf, placed}
+use Rattle.line.specs.Line.{fieldBytes, placed}
 use Rattle.line.proofs.Pieces.{placed-none, length-fields, fields-more}
 use borrow.Author.Needs.{needs}
 use Rattle.line.proofs.write_fields.Statement.{statement}
@@ -17,8 +17,8 @@ use Rattle.line.proofs.write_fields.Tie as tie
 abbrev Inv-loop : tie.InvT-loop
 Inv-loop events at out₀ end₀ k₀ k-end out end k =
     (k ≤ length events) × (length out ≡ length out₀)
-    × (end ≡ at + length (concatMap fieldOf (take k events))) × (end ≤ at + 4 * k)
-    × (out ≡ placed (concatMap fieldOf (take k events)) at out₀)
+    × (end ≡ at + length (concatMap fieldBytes (take k events))) × (end ≤ at + 4 * k)
+    × (out ≡ placed (concatMap fieldBytes (take k events)) at out₀)
 
 abbrev μ-loop : tie.MeasureT-loop
 μ-loop events at out₀ end₀ k₀ k-end out end k = length events - k
