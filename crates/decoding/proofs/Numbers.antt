@@ -12,7 +12,7 @@ use lib.Dec.{eqb, leb, ltb}
 use borrow.Author.Tests.{eq-eqb, ne-eqb, le-leb, lt-leb, lt-ltb, le-ltb, ltb-true, ltb-false}
 use Rattle.lists.specs.Lists.{pick, indexOf}
 use Rattle.lists.proofs.Tests.{case}
-use Rattle.promises.specs.Text.{Line, rig, begins, continues, other, mon, go, bytes, splitOn, same, fields, digitsValue, number, field, end, one, two, three, form, decode}
+use Rattle.promises.specs.Text.{Line, rig, begins, continues, other, mon, go, bytes, splitOn, same, fields, digitsValue, number, field, endOr, end, one, two, three, oneOrTwo, form, decode}
 use Rattle.promises.proofs.Pieces.{splitOn-some}
 use Rattle.decoding.specs.declared.Field.the-variants.{Last, More, Bad}
 use Rattle.decoding.specs.declared.Field.{Field}
@@ -109,9 +109,9 @@ field-by rest l x e = rw e (case (ltb (indexOf l 9) (length l)) more last)
         go (some n) q = rw q
 
 -- a line has at least one field
-end-more : (k : Line) (l : List ℕ) → end k (fields l) ≡ other
-unfolding end fields
-end-more k l = let (p, ps, e) = splitOn-some 9 l in rw e
+endOr-more : (k : Line) (more : List (List ℕ) → Line) (l : List ℕ) → endOr k more (fields l) ≡ more (fields l)
+unfolding endOr fields
+endOr-more k more l = let (p, ps, e) = splitOn-some 9 l in rw e
 
 pub next-le : (l : List ℕ) (n next : ℕ) → fieldOf l ≡ More n next → next ≤ length l
 unfolding fieldOf
@@ -135,9 +135,9 @@ only Bad = none
 
 -- one field, and no other after it
 pub only-by : (l : List ℕ) (x : Field) → x ≡ fieldOf l → (f : ℕ → Line) → one f (fields l) ≡ orOther f (only x)
-unfolding one end
+unfolding one end endOr
 only-by l (Last n) q f = field-by (λ a. end (f a)) l (Last n) q
-only-by l (More n next) q f = field-by (λ a. end (f a)) l (More n next) q ∙ end-more (f n) (drop next l)
+only-by l (More n next) q f = field-by (λ a. end (f a)) l (More n next) q ∙ endOr-more (f n) (λ fs. other) (drop next l)
 only-by l Bad q f = field-by (λ a. end (f a)) l Bad q
 
 -- no field after the first
@@ -163,6 +163,19 @@ module _ (f : ℕ → ℕ → Line) where
   unfolding two
   two-next = next-by (λ a. one (f a))
 
+module _ (f : ℕ → Line) (g : ℕ → ℕ → Line) where
+  pub one-last : (l : List ℕ) (n : ℕ) → Last n ≡ fieldOf l → oneOrTwo f g (fields l) ≡ f n
+  unfolding oneOrTwo endOr
+  one-last l n q = field-by (λ a. endOr (f a) (one (g a))) l (Last n) q
+
+  pub one-bad : (l : List ℕ) → Bad ≡ fieldOf l → oneOrTwo f g (fields l) ≡ other
+  unfolding oneOrTwo
+  one-bad l q = field-by (λ a. endOr (f a) (one (g a))) l Bad q
+
+  pub one-next : (l : List ℕ) (n next : ℕ) → More n next ≡ fieldOf l → oneOrTwo f g (fields l) ≡ one (g n) (fields (take (length l - next) (drop next l)))
+  unfolding oneOrTwo
+  one-next l n next q = next-by (λ a. endOr (f a) (one (g a))) l n next q ∙ endOr-more (f n) (one (g n)) (take (length l - next) (drop next l))
+
 module _ (f : ℕ → ℕ → ℕ → Line) where
   pub three-short : (l : List ℕ) (x : Field) → x ≡ fieldOf l → Short x → three f (fields l) ≡ other
   unfolding three two field
@@ -183,7 +196,7 @@ module _ (w : List ℕ) (fs : List (List ℕ)) where
   unfolding form
   form-rig p = rw p
 
-  pub form-mon : same w (bytes "rig") ≡ false → same w (bytes "mon") ≡ true → form (w ∷ fs) ≡ one (λ S. begins (mon S)) fs
+  pub form-mon : same w (bytes "rig") ≡ false → same w (bytes "mon") ≡ true → form (w ∷ fs) ≡ oneOrTwo (λ S. begins (mon S 0)) (λ S a. begins (mon S a)) fs
   unfolding form
   form-mon p q = rw (p, q)
 
@@ -197,7 +210,7 @@ module _ (w : List ℕ) (fs : List (List ℕ)) where
 
 -- a word alone is no form
 pub decode-alone : (l : List ℕ) → length l ≤ indexOf l 9 → decode l ≡ other
-unfolding decode fields form one two three field
+unfolding decode fields form one two three oneOrTwo field
 decode-alone l h = rw (splitOn-whole 9 l h) (go (same l (bytes "rig")) (same l (bytes "mon")) (same l (bytes "go")))
   where
     go : (a b c : Bool) → pick a other (pick b other (pick c other other)) ≡ other

@@ -31,7 +31,7 @@ valueOf (Value n) = some n
 valueOf Wrong = none
 
 abbrev pub kindOf : Kind → text.Kind
-kindOf k = mon (k .states)
+kindOf k = mon (k .states) (k .start)
 
 abbrev pub partOf : Part → text.Part
 partOf p = go (p .state) (p .event) (p .target)

@@ -3,7 +3,7 @@ ghost use mathlib.Core.Path.{_≡_};
 ghost use Prim.Native.Nat.{ℕ, _<_, _≤_};
 ghost use lib.ListN.{length};
 ghost use Rattle.lists.specs.Lists.{indexOf};
-ghost use Rattle.promises.specs.Text.{Line, continues, go, one, three, fields};
+ghost use Rattle.promises.specs.Text.{Line, begins, mon, continues, go, one, oneOrTwo, three, fields};
 ghost use Rattle.promises.specs.Text as text;
 ghost use Rattle.decoding.specs.Forms.{valueOf, fieldOf, orOther, formLine};
 
@@ -13,9 +13,11 @@ pub enum Decimal {
     Wrong,
 }
 
-// A line that begins a monitor, with its numbers: `mon`, S. (A struct, as an enum of one variant can't be matched on; a second kind makes it an enum.)
+// A line that begins a monitor, with its numbers: `mon`, S and the start. (A struct, as an enum of one variant can't be matched on; a second kind makes it an
+// enum.)
 pub struct Kind {
     pub states: usize,
+    pub start: usize,
 }
 
 // A line of the latest monitor, with its numbers: `go`, s, e, t. (A struct for the same reason.)
@@ -140,6 +142,23 @@ fn only_number(rest: &[u8]) -> Decimal
     }
 }
 
+// `mon`, S, which starts in 0, or `mon`, S, start
+fn mon_form(rest: &[u8]) -> Form
+    ensures { λ r. ⌜ formLine r ≡ oneOrTwo (λ S. begins (mon S 0)) (λ S a. begins (mon S a)) (fields (now (rest .entry))) ⌝ }
+{
+    match read_field(rest) {
+        Field::Last(s) => Form::Begins(Kind {
+            states: s,
+            start: 0,
+        }),
+        Field::More(s, a) => match only_number(&rest[a..]) {
+            Decimal::Value(start) => Form::Begins(Kind { states: s, start }),
+            Decimal::Wrong => Form::Other,
+        },
+        Field::Bad => Form::Other,
+    }
+}
+
 // `go`, s, e, t
 fn go_form(rest: &[u8]) -> Form
     ensures { λ r. ⌜ formLine r ≡ three (λ s e t. continues (go s e t)) (fields (now (rest .entry))) ⌝ }
@@ -178,10 +197,7 @@ pub fn decode(line: &[u8]) -> Form
             };
         }
         if same(word, b"mon") {
-            return match only_number(rest) {
-                Decimal::Value(s) => Form::Begins(Kind { states: s }),
-                Decimal::Wrong => Form::Other,
-            };
+            return mon_form(rest);
         }
         if same(word, b"go") {
             return go_form(rest);

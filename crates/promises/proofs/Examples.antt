@@ -14,7 +14,7 @@ use Rattle.automaton.specs.Counting.{N}
 use Rattle.automaton.specs.Ranking.{choose, unrank, firstViolation}
 use Rattle.automaton.proofs.Counting.{scenarios-sound, stays-live, stays-events}
 use Rattle.automaton.proofs.Ranking.{index-belongs, firstViolation-none}
-use Rattle.promises.specs.Text.{onto, splitOn, init, lastOf, lines, unended, fields, digitsValue, number, same, field, end, one, two, three, form, decode, decoded, addPart, extended, monitorsFrom, monitors, statesOf, startOf, latest, product, eventsOf, Readable, Fault, Case1, Case7}
+use Rattle.promises.specs.Text.{onto, splitOn, init, lastOf, lines, unended, fields, digitsValue, number, same, field, endOr, end, one, two, three, oneOrTwo, form, decode, decoded, addPart, extended, monitorsFrom, monitors, statesOf, startOf, latest, product, eventsOf, Readable, Fault, Case1, Case7}
 use Rattle.promises.specs.Answer.{served, refused, Served}
 use Rattle.promises.specs.Meaning.{Belongs}
 use Rattle.promises.specs.Reading.{leadsTo, moveBy, testBeginning, ofLatest, testContinuing, tests, lineCase, readingFrom, reading}
@@ -46,7 +46,7 @@ record Readings : Type 0 where
   of-too-many-joint-states : reading too-many-joint-states ≡ refused 6 4
 
 readings : Readings
-unfolding reading readingFrom lineCase tests testBeginning testContinuing ofLatest moveBy leadsTo orElse decoded lines unended splitOn onto init lastOf decode fields form one two three field end number digitsValue same monitors monitorsFrom extended addPart latest statesOf product eventsOf
+unfolding reading readingFrom lineCase tests testBeginning testContinuing ofLatest moveBy leadsTo orElse decoded lines unended splitOn onto init lastOf decode fields form one two three oneOrTwo field endOr end number digitsValue same monitors monitorsFrom extended addPart latest statesOf product eventsOf
 readings = record {
   of-A = refl;
   of-B = refl;
@@ -80,7 +80,7 @@ record Scenarios-A : Type 0 where
   leaves-at : firstViolation (rigAutomaton A) (start A) (0 ∷ 1 ∷ 1 ∷ []) ≡ 2
 
 scenarios-A : Scenarios-A
-unfolding decoded lines unended splitOn onto init lastOf decode fields form one two three field end number digitsValue same monitors monitorsFrom extended addPart latest statesOf product eventsOf startOf moveBy leadsTo orElse nextOf monitorOf standing linesAutomaton linesStart rigAutomaton start range both join idle joint sizes jointState keep prunedSet size passesFrom passes live N choose unrank firstViolation
+unfolding decoded lines unended splitOn onto init lastOf decode fields form one two three oneOrTwo field endOr end number digitsValue same monitors monitorsFrom extended addPart latest statesOf product eventsOf startOf moveBy leadsTo orElse nextOf monitorOf standing linesAutomaton linesStart rigAutomaton start range both join idle joint sizes jointState keep prunedSet size passesFrom passes live N choose unrank firstViolation
 scenarios-A = record { four-below = omega arith; four-is = refl; leaves-at = refl }
 
 -- the limit is met by 65,535 bytes: the other cases have a line as their place

@@ -67,7 +67,7 @@ product-append (k ∷ ms) m = ap (λ p. statesOf (k .kind) * p) (product-append 
 -- ---- what sound lines are
 
 unfoldable pub Ranged : Kind → Type 0
-Ranged (mon S) = (1 ≤ S) × (S ≤ 32)
+Ranged (mon S a) = (1 ≤ S) × (S ≤ 32) × (a < S)
 
 unfoldable pub PartRanged : ℕ → Kind → Part → Type 0
 PartRanged E k (go s e t) = (s < statesOf k) × (e < E) × (t < statesOf k)
@@ -98,7 +98,7 @@ pub record Formed (ls : List Line) : Type 0 where
 -- a monitor starts in one of its states
 pub start-below : (k : Kind) → Ranged k → startOf k < statesOf k
 unfolding Ranged startOf statesOf
-start-below (mon S) r = omega arith
+start-below (mon S a) r = r .2
 
 -- ---- what a sound line says
 
@@ -107,8 +107,8 @@ within a b h = ⊎-elim (λ k. k) (λ k. absurd (h k)) (split a b)
 
 begun : (ls : List Line) (k : Kind) → Sound ls (begins k) → Ranged k × (length (monitors ls) < 4) × (product (monitors ls) * statesOf k ≤ 1024)
 unfolding Case3 Case6 cases beginning Ranged
-begun ls (mon S) s = (
-  (within 1 S (λ h. s .ranged (inl (inl h))), within S 32 (λ h. s .ranged (inl (inr h)))),
+begun ls (mon S a) s = (
+  (within 1 S (λ h. s .ranged (inl (inl (inl h)))), within S 32 (λ h. s .ranged (inl (inl (inr h)))), within (suc a) S (λ h. s .ranged (inl (inr (omega arith))))),
   within (suc (length (monitors ls))) 4 (λ h. s .ranged (inr (omega arith))),
   within _ 1024 (s .fits),
 )
@@ -202,7 +202,7 @@ first-line (rig E) s = record {
   headed = inr (E, [], refl, within 1 E (λ h. s .ranged (inl h)), within E 16 (λ h. s .ranged (inr h)));
   monitored = no-monitor _;
 }
-first-line (begins (mon S)) s = absurd (s .placed refl)
+first-line (begins (mon S a)) s = absurd (s .placed refl)
 first-line (continues (go a b c)) s = absurd (s .placed (inl refl))
 first-line other s = absurd (s .formed tt)
 

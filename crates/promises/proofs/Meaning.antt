@@ -42,13 +42,13 @@ unfolding Once
 move-is E m k s e t i = let (u, q) = moves (m .parts) s e t i in q ∙ ap some (k .move-once s e u t (moved (m .parts) s e u q) i)
 
 -- a `mon` monitor admits just the sequences that its `go` lines lead on
-module _ (E S : ℕ) (ps : List Part) (k : Kept E (record { kind = mon S; parts = ps })) where
+module _ (E S s₀ : ℕ) (ps : List Part) (k : Kept E (record { kind = mon S s₀; parts = ps })) where
   in-range : (s e t : ℕ) → In (go s e t) ps → (s < S) × (e < E) × (t < S)
   unfolding PartRanged statesOf
   in-range s e t i = k .parts-ranged (go s e t) i
 
   abbrev table : Automaton
-  table = monitorOf E (record { kind = mon S; parts = ps })
+  table = monitorOf E (record { kind = mon S s₀; parts = ps })
 
   mon-admits : (s : ℕ) (v : List ℕ) → s < S → Follows ps s v ↔ automaton.Admits table s v
   unfolding Follows automaton.Admits monitorOf nextOf statesOf
@@ -57,7 +57,7 @@ module _ (E S : ℕ) (ps : List Part) (k : Kept E (record { kind = mon S; parts 
     where
       onward : (t : ℕ) → In (go s e t) ps → (s < S) × (e < E) × (t < S) → (t < S → Follows ps t v ↔ automaton.Admits table t v) → Follows ps t v
           → (s < S) × In e (range E) × automaton.Admits table (Option·getD (moveBy ps s e) S) v
-      onward t j (a, b, c) ih f = (a, range-in E e .1 b, rw (move-is E (record { kind = mon S; parts = ps }) k s e t j) (ih c .0 f))
+      onward t j (a, b, c) ih f = (a, range-in E e .1 b, rw (move-is E (record { kind = mon S s₀; parts = ps }) k s e t j) (ih c .0 f))
 
       back : (s < S) × In e (range E) × automaton.Admits table (Option·getD (moveBy ps s e) S) v
           → (Option·getD (moveBy ps s e) S < S → Follows ps (Option·getD (moveBy ps s e) S) v ↔ automaton.Admits table (Option·getD (moveBy ps s e) S) v)
@@ -69,7 +69,7 @@ module _ (E S : ℕ) (ps : List Part) (k : Kept E (record { kind = mon S; parts 
 kind-admits : (E : ℕ) (k : Kind) (ps : List Part) → Kept E (record { kind = k; parts = ps }) → (s : ℕ) (v : List ℕ) → s < statesOf k
     → Says k ps s v ↔ automaton.Admits (monitorOf E (record { kind = k; parts = ps })) s v
 unfolding Says statesOf
-kind-admits E (mon S) ps k s v h = mon-admits E S ps k s v h
+kind-admits E (mon S s₀) ps k s v h = mon-admits E S s₀ ps k s v h
 
 pub monitor-admits : (E : ℕ) (m : Monitor) → Kept E m → (s : ℕ) (v : List ℕ) → s < statesOf (m .kind) → Admits m s v ↔ automaton.Admits (monitorOf E m) s v
 unfolding Admits

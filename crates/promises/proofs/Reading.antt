@@ -115,7 +115,7 @@ told ls (rig E) = record {
   again = tells-never;
   too-many = tells-never;
 }
-told ls (begins (mon S)) = told-beginning ls (mon S) _ _ (tells-outside 1 32 S)
+told ls (begins (mon S a)) = told-beginning ls (mon S a) _ _ (tells-or (tells-outside 1 32 S) (tells-le S a))
 told ls (continues (go s e t)) =
     told-continuing ls _ _ _ _
     (λ m. tells-or (tells-le (statesOf (m .kind)) s) (tells-or (tells-le (eventsOf ls) e) (tells-le (statesOf (m .kind)) t)))

@@ -1,7 +1,7 @@
 -- A line is read as a form exactly if it is that form written out; a text is its lines.
 -- Why: parting at a byte and joining with it undo each other where no piece holds the byte; digits without a leading zero are those of their value. Assumes nothing.
 use mathlib.Core.Path.{_≡_, refl, sym, ap, ap₂, _∙_, subst}
-use mathlib.Core.Logic.{_⊎_, _≢_, ⊎-elim}
+use mathlib.Core.Logic.{_⊎_, inl, inr, _≢_, ⊎-elim}
 use mathlib.Core.Bool.{true, false, _&&_}
 use mathlib.Core.List.{List, [], _∷_, _++_, map}
 use mathlib.Core.List.{List·Memᴰ as In, List·Memᴰ·head as here, List·Memᴰ·tail as there, List·Memᴰ·not-nil}
@@ -17,7 +17,7 @@ use Rattle.lists.specs.Decimal.{decimal, value, valueFrom, Digit}
 use Rattle.lists.proofs.Tests.{contra, case, and-left, and-right, or-left, or-rest, split}
 use Rattle.lists.proofs.Tells.{Tells, tells-eq, tells-and}
 use Rattle.lists.proofs.Decimal.{decimal-one, decimal-digit, decimal-some, decimal-lead, decimal-value, value-decimal, decimal-short, decimal-long}
-use Rattle.promises.specs.Text.{splitOn, init, lastOf, lines, unended, fields, digitsValue, number, same, mon, go, Line, rig, begins, continues, other, field, end, one, two, three, bytes, form, decode}
+use Rattle.promises.specs.Text.{splitOn, init, lastOf, lines, unended, fields, digitsValue, number, same, mon, go, Line, rig, begins, continues, other, field, endOr, end, one, two, three, oneOrTwo, bytes, form, decode}
 use Rattle.promises.specs.Spelling.{spelled, Small, SpelledAs, Spelled, joined, Spelling}
 use Rattle.promises.proofs.Pieces.{preceded, Free, splitOn-some, splitOn-joined, splitOn-free, splitOn-pieces, init-last, in-init, last-in}
 
@@ -113,7 +113,7 @@ module _ (k : Line) (ne : k ≢ other) where
       go (some n) e = let (d, s) = number-is f n e in (n, fs, ap (λ g. g ∷ fs) d, s, rw e at q)
 
   end-is : (l : Line) (fs : List (List ℕ)) → end l fs ≡ k → (fs ≡ []) × (l ≡ k)
-  unfolding end
+  unfolding end endOr
   end-is l [] q = (refl, q)
   end-is l (f ∷ fs) q = absurd (ne (sym q))
 
@@ -139,13 +139,23 @@ module _ (k : Line) (ne : k ≢ other) where
       let (b, c, g, t, h) = two-is (f a) gs r in
       (a, b, c, e ∙ ap (λ gs. decimal a ∷ gs) g, small-more a _ s t, h)
 
+  one-or-two-is : (f : ℕ → Line) (g : ℕ → ℕ → Line) (fs : List (List ℕ)) → oneOrTwo f g fs ≡ k
+      → ((a : ℕ) × (fs ≡ map decimal (a ∷ [])) × Small (a ∷ []) × (f a ≡ k)) ⊎ ((a : ℕ) × (b : ℕ) × (fs ≡ map decimal (a ∷ b ∷ [])) × Small (a ∷ b ∷ []) × (g a b ≡ k))
+  unfolding oneOrTwo endOr Small
+  one-or-two-is f g fs q = let (a, gs, e, s, r) = field-is (λ a. endOr (f a) (one (g a))) fs q in whole a gs e s r
+    where
+      whole : (a : ℕ) (gs : List (List ℕ)) → fs ≡ decimal a ∷ gs → a < 100000 → endOr (f a) (one (g a)) gs ≡ k
+          → ((a : ℕ) × (fs ≡ map decimal (a ∷ [])) × Small (a ∷ []) × (f a ≡ k)) ⊎ ((a : ℕ) × (b : ℕ) × (fs ≡ map decimal (a ∷ b ∷ [])) × Small (a ∷ b ∷ []) × (g a b ≡ k))
+      whole a [] e s r = inl (a, e, small-more a [] s (λ n i. absurd (List·Memᴰ·not-nil i)), r)
+      whole a (x ∷ gs) e s r = let (b, i, t, j) = one-is (g a) (x ∷ gs) r in inr (a, b, e ∙ ap (λ gs. decimal a ∷ gs) i, small-more a _ s t, j)
+
 -- what is read as a form
 field-reads : (rest : ℕ → List (List ℕ) → Line) (n : ℕ) (gs : List (List ℕ)) → n < 100000 → field number rest (decimal n ∷ gs) ≡ rest n gs
 unfolding field
 field-reads rest n gs h = rw (number-reads n h (decimal n) refl)
 
 one-reads : (f : ℕ → Line) (a : ℕ) → Small (a ∷ []) → one f (map decimal (a ∷ [])) ≡ f a
-unfolding one end Small
+unfolding one end endOr Small
 one-reads f a s = field-reads (λ a. end (f a)) a [] (s a (here refl))
 
 two-reads : (f : ℕ → ℕ → Line) (a b : ℕ) → Small (a ∷ b ∷ []) → two f (map decimal (a ∷ b ∷ [])) ≡ f a b
@@ -155,6 +165,14 @@ two-reads f a b s = field-reads (λ a. one (f a)) a (map decimal (b ∷ [])) (s 
 three-reads : (f : ℕ → ℕ → ℕ → Line) (a b c : ℕ) → Small (a ∷ b ∷ c ∷ []) → three f (map decimal (a ∷ b ∷ c ∷ [])) ≡ f a b c
 unfolding three Small
 three-reads f a b c s = field-reads (λ a. two (f a)) a (map decimal (b ∷ c ∷ [])) (s a (here refl)) ∙ two-reads (f a) b c (λ n i. s n (there i))
+
+one-of-two-reads : (f : ℕ → Line) (g : ℕ → ℕ → Line) (a : ℕ) → Small (a ∷ []) → oneOrTwo f g (map decimal (a ∷ [])) ≡ f a
+unfolding oneOrTwo endOr Small
+one-of-two-reads f g a s = field-reads (λ a. endOr (f a) (one (g a))) a [] (s a (here refl))
+
+two-of-two-reads : (f : ℕ → Line) (g : ℕ → ℕ → Line) (a b : ℕ) → Small (a ∷ b ∷ []) → oneOrTwo f g (map decimal (a ∷ b ∷ [])) ≡ g a b
+unfolding oneOrTwo endOr Small
+two-of-two-reads f g a b s = field-reads (λ a. endOr (f a) (one (g a))) a (map decimal (b ∷ [])) (s a (here refl)) ∙ one-reads (g a) b (λ n i. s n (there i))
 
 -- ---- a word and its numbers
 
@@ -186,7 +204,10 @@ form-spelled l v fs e k ne q =
     case (same v (bytes "rig"))
     (λ t. let (a, g, s, r) = one-is k ne (λ E. rig E) fs (rw t at q) in subst (λ k. Spelled k l) r (spelled-fields "rig" (a ∷ []) l v fs e t g s))
     (λ t. case (same v (bytes "mon"))
-    (λ u. let (a, g, s, r) = one-is k ne (λ S. begins (mon S)) fs (rw (t, u) at q) in subst (λ k. Spelled k l) r (spelled-fields "mon" (a ∷ []) l v fs e u g s))
+    (λ u. ⊎-elim
+    (λ (a, g, s, r). subst (λ k. Spelled k l) r (inr (refl, spelled-fields "mon" (a ∷ []) l v fs e u g s)))
+    (λ (a, b, g, s, r). subst (λ k. Spelled k l) r (inl (spelled-fields "mon" (a ∷ b ∷ []) l v fs e u g s)))
+    (one-or-two-is k ne (λ S. begins (mon S 0)) (λ S a. begins (mon S a)) fs (rw (t, u) at q)))
     (λ u. case (same v (bytes "go"))
     (λ x. let (a, b, c, g, s, r) = three-is k ne (λ s e t. continues (go s e t)) fs (rw (t, u, x) at q) in subst (λ k. Spelled k l) r (spelled-fields "go" (a ∷ b ∷ c ∷ []) l v fs e x g s))
     (λ x. absurd (ne (sym (rw (t, u, x) at q))))))
@@ -194,7 +215,8 @@ form-spelled l v fs e k ne q =
 spelled-decodes : (k : Line) (l : List ℕ) → Spelled k l → decode l ≡ k
 unfolding decode Spelled form same
 spelled-decodes (rig E) l (q, s) = rw (q, fields-spelled "rig" (E ∷ []) refl) (one-reads (λ E. rig E) E s)
-spelled-decodes (begins (mon S)) l (q, s) = rw (q, fields-spelled "mon" (S ∷ []) refl) (one-reads (λ S. begins (mon S)) S s)
+spelled-decodes (begins (mon S a)) l (inl (q, s)) = rw (q, fields-spelled "mon" (S ∷ a ∷ []) refl) (two-of-two-reads (λ S. begins (mon S 0)) (λ S a. begins (mon S a)) S a s)
+spelled-decodes (begins (mon S a)) l (inr (z, (q, s))) = rw (z, q, fields-spelled "mon" (S ∷ []) refl) (one-of-two-reads (λ S. begins (mon S 0)) (λ S a. begins (mon S a)) S s)
 spelled-decodes (continues (go a b c)) l (q, s) = rw (q, fields-spelled "go" (a ∷ b ∷ c ∷ []) refl) (three-reads (λ s e t. continues (go s e t)) a b c s)
 spelled-decodes other l never = absurd never
 

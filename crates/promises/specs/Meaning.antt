@@ -20,7 +20,7 @@ Follows ps s [] = Unit {0}
 Follows ps s (e ∷ w) = (t : ℕ) × In (go s e t) ps × Follows ps t w
 
 unfoldable pub Says : Kind → List Part → ℕ → List ℕ → Type 0
-Says (mon S) ps s w = Follows ps s w
+Says (mon S a) ps s w = Follows ps s w
 
 -- 'A monitor admits a sequence if, from its start state, it admits each event in the state that the events before it led to.'
 unfoldable pub Admits : Monitor → ℕ → List ℕ → Type 0

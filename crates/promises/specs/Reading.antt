@@ -68,7 +68,7 @@ testContinuing ls out again = record {
 
 unfoldable pub tests : List Line → Line → Tests
 tests ls (rig E) = record { misformed = false; misplaced = not (empty ls); out-of-range = outside 1 16 E; again = false; too-many = false }
-tests ls (begins (mon S)) = testBeginning ls (mon S) (outside 1 32 S)
+tests ls (begins (mon S a)) = testBeginning ls (mon S a) (outside 1 32 S || leb S a)
 tests ls (continues (go s e t)) =
     testContinuing ls
     (λ m. leb (statesOf (m .kind)) s || (leb (eventsOf ls) e || leb (statesOf (m .kind)) t))

@@ -17,7 +17,7 @@ use Rattle.promises.specs.Text.{Kind, mon, Part, Line, Monitor, monitors
 
 -- '`mon`, S: a new monitor with states 0 to S−1'; S itself is the number that is no state. 'Without such a line it doesn't admit e in s.'
 unfoldable pub nextOf : Kind → List Part → ℕ → ℕ → ℕ
-nextOf (mon S) ps s e = Option·getD (moveBy ps s e) S
+nextOf (mon S a) ps s e = Option·getD (moveBy ps s e) S
 
 unfoldable pub monitorOf : ℕ → Monitor → Automaton
 monitorOf E m = record {

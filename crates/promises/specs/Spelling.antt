@@ -6,7 +6,7 @@
 --   Spelling           == a line is read as the form k exactly if it is k written out; likewise numbers and lines
 -- A new line form is one clause of Spelled. Assumes nothing.
 use mathlib.Core.Path.{_≡_}
-use mathlib.Core.Logic.{_↔_, _≢_}
+use mathlib.Core.Logic.{_⊎_, _↔_, _≢_}
 use mathlib.Core.List.{List, [], _∷_, _++_, List·Memᴰ as In}
 use mathlib.Core.Option.{some}
 use Prim.Native.Nat.{ℕ, _<_}
@@ -26,10 +26,10 @@ Small ns = (n : ℕ) → In n ns → n < 100000
 abbrev pub SpelledAs : String → List ℕ → List ℕ → Type 0
 SpelledAs w ns l = (l ≡ spelled w ns) × Small ns
 
--- '`rig`, E'; '`mon`, S'; '`go`, s, e, t'
+-- '`rig`, E'; '`mon`, S', and the start, which may be left out where it is 0 (02 no. 1); '`go`, s, e, t'
 unfoldable pub Spelled : Line → List ℕ → Type 0
 Spelled (rig E) l = SpelledAs "rig" (E ∷ []) l
-Spelled (begins (mon S)) l = SpelledAs "mon" (S ∷ []) l
+Spelled (begins (mon S a)) l = SpelledAs "mon" (S ∷ a ∷ []) l ⊎ ((a ≡ 0) × SpelledAs "mon" (S ∷ []) l)
 Spelled (continues (go s e t)) l = SpelledAs "go" (s ∷ e ∷ t ∷ []) l
 Spelled other l = ⊥
 

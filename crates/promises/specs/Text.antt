@@ -80,7 +80,7 @@ same (a ∷ as′) (b ∷ bs) = eqb a b && same as′ bs
 
 -- a line that begins a monitor
 pub data Kind : Type 0 where
-  mon : ℕ → Kind  -- `mon`, S
+  mon : ℕ → ℕ → Kind  -- `mon`, S, and 'the monitor's start state'
 
 -- a line of 'the latest monitor'
 pub data Part : Type 0 where
@@ -101,10 +101,13 @@ field {A} read rest (f ∷ fs) = onward (read f)
     onward none = other
     onward (some a) = rest a fs
 
--- the line l where no field is left
+-- the line l where no field is left, else what `more` makes of those that are
+unfoldable pub endOr : Line → (List (List ℕ) → Line) → List (List ℕ) → Line
+endOr l more [] = l
+endOr l more (f ∷ fs) = more (f ∷ fs)
+
 unfoldable pub end : Line → List (List ℕ) → Line
-end l [] = l
-end l (f ∷ fs) = other
+end l = endOr l (λ fs. other)
 
 -- one number, two and three
 unfoldable pub one : (ℕ → Line) → List (List ℕ) → Line
@@ -116,17 +119,21 @@ two f = field number (λ a. one (f a))
 unfoldable pub three : (ℕ → ℕ → ℕ → Line) → List (List ℕ) → Line
 three f = field number (λ a. two (f a))
 
+-- one number, or two
+unfoldable pub oneOrTwo : (ℕ → Line) → (ℕ → ℕ → Line) → List (List ℕ) → Line
+oneOrTwo f g = field number (λ a. endOr (f a) (one (g a)))
+
 -- the bytes of a word's characters
 abbrev pub bytes : String → List ℕ
 bytes no-character = []
 bytes (c before s) = code c ∷ bytes s
 
--- the words, each with the fields that its form has
+-- the words, each with the fields that its form has. 'A `mon` line may carry a third field, the monitor's start state. A line without it starts in 0.' (02 no. 1)
 unfoldable pub form : List (List ℕ) → Line
 form [] = other
 form (w ∷ fs) =
     pick (same w (bytes "rig")) (one (λ E. rig E) fs)
-    (pick (same w (bytes "mon")) (one (λ S. begins (mon S)) fs)
+    (pick (same w (bytes "mon")) (oneOrTwo (λ S. begins (mon S 0)) (λ S a. begins (mon S a)) fs)
     (pick (same w (bytes "go")) (three (λ s e t. continues (go s e t)) fs)
     other))
 
@@ -164,11 +171,11 @@ monitors ls = monitorsFrom [] ls
 
 -- '`mon`, S: a new monitor with states 0 to S−1'
 unfoldable pub statesOf : Kind → ℕ
-statesOf (mon S) = S
+statesOf (mon S a) = S
 
--- 'starting in 0'
+-- 'the monitor's start state' (02 no. 1)
 unfoldable pub startOf : Kind → ℕ
-startOf (mon S) = 0
+startOf (mon S a) = a
 
 -- 'the latest monitor'
 unfoldable pub latest : List Monitor → Option Monitor
@@ -230,8 +237,8 @@ continuing ls out again = record {
 unfoldable pub cases : List Line → Line → Cases
 -- 'the first line and only there'; 'E from 1 to 16'
 cases ls (rig E) = record { misformed = ⊥; misplaced = ls ≢ []; out-of-range = Outside 1 16 E; again = ⊥; too-many = ⊥ }
--- 'S from 1 to 32'
-cases ls (begins (mon S)) = beginning ls (mon S) (Outside 1 32 S)
+-- 'S from 1 to 32'; 'A start not below S is refused 3.' (02 no. 1)
+cases ls (begins (mon S a)) = beginning ls (mon S a) (Outside 1 32 S ⊎ (S ≤ a))
 -- 'moves from s to t on event e': s and t below S, e below E
 cases ls (continues (go s e t)) =
     continuing ls

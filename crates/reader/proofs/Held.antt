@@ -1,5 +1,6 @@
 -- What the reader's state says of the lines that it has read, none of them bad: every test that the reader makes is the paper's, and a line more keeps it so.
---   Holds r ls z mv ct == the sizes z and the tables mv and ct are those of the lines ls, read into the record r
+--   OfKind k c s          == c is the number of states and s the start of the kind k, both in range
+--   Holds r ls z mv ct st == the sizes z and the tables mv, ct and st are those of the lines ls, read into the record r
 -- Assumes nothing.
 use mathlib.Core.Path.{_≡_, refl, sym, ap, _∙_}
 use mathlib.Core.Logic.{_⊎_, ⊎-elim}
@@ -15,7 +16,7 @@ use lib.Dec.{eqb, ltb, leb}
 use borrow.Author.Tests.{eq-eqb, ne-eqb, eqb-true, eqb-false, ltb-false, leb-false, not-false}
 use Rattle.lists.specs.Lists.{pick}
 use Rattle.lists.proofs.Tests.{contra, case, or-left, or-rest, ℕ-trichotomy}
-use Rattle.promises.specs.Text.{Kind, mon, Part, go, Line, rig, begins, continues, Monitor, addPart, extended, monitorsFrom, monitors, statesOf, latest, product, eventsOf}
+use Rattle.promises.specs.Text.{Kind, mon, Part, go, Line, rig, begins, continues, Monitor, addPart, extended, monitorsFrom, monitors, statesOf, startOf, latest, product, eventsOf}
 use Rattle.promises.specs.Reading.{empty, isSome, moveBy, outside, testBeginning, ofLatest, testContinuing, tests, lineCase}
 use Rattle.promises.proofs.Lines.{monitors-more, length-addPart, product-addPart, product-append}
 use Rattle.rig.specs.declared.Rig.{Rig}
@@ -26,31 +27,36 @@ use Rattle.decoding.specs.Forms.{formLine}
 use Rattle.reader.specs.declared.Sizes.{Sizes}
 use Rattle.reader.specs.Reading.{withPart, withLine, recordFrom}
 use Rattle.reader.specs.Record.{nobody}
-use Rattle.reader.specs.Taking.{Allowed, rigCase, rigSizes, monCase, monSizes, monCounts, goCase, goMoves, caseOf, sizesAfter, movesAfter, countsAfter}
+use Rattle.reader.specs.Taking.{Allowed, rigCase, rigSizes, monCase, monSizes, monCounts, monStarts, goCase, goMoves, caseOf, sizesAfter, movesAfter, countsAfter, startsAfter}
 use Rattle.reader.proofs.Monitors.{monitorAt, events-snoc, empty-nil, empty-snoc, empty-length, addPart-at, addPart-beside, latest-at, new-before, new-at, new-after}
 use Rattle.reader.proofs.Tables.{Table, seen, table-blank, table-beside, table-go}
 
 abbrev pub statesAt : List Monitor → ℕ → ℕ
 statesAt ms k = statesOf (monitorAt ms k .kind)
 
--- the monitors ms, as counts and tables: what holds of the first n of them and of their parts of the move table
-pub record Tabled (ms : List Monitor) (n E : ℕ) (mv ct : List ℕ) : Type 0 where
-  pub tables : (k : ℕ) → k < 4 → Table mv k (monitorAt ms k .parts) E (statesAt ms k)
-  pub counts-are : (k : ℕ) → k < n → getD ct k 0 ≡ statesAt ms k
-  pub some-state : (k : ℕ) → k < n → 1 ≤ statesAt ms k
-  pub few-states : (k : ℕ) → k < n → statesAt ms k ≤ 32
+pub record OfKind (k : Kind) (c s : ℕ) : Type 0 where
+  pub count-is : c ≡ statesOf k
+  pub start-is : s ≡ startOf k
+  pub few-states : statesOf k ≤ 32
+  pub start-below : startOf k < statesOf k
 
-pub record Holds (r : Rig) (ls : List Line) (z : Sizes) (mv ct : List ℕ) : Type 0 where
+-- the monitors ms, as counts, starts and tables: what holds of the first n of them and of their parts of the move table
+pub record Tabled (ms : List Monitor) (n E : ℕ) (mv ct st : List ℕ) : Type 0 where
+  pub tables : (k : ℕ) → k < 4 → Table mv k (monitorAt ms k .parts) E (statesAt ms k)
+  pub kinds : (k : ℕ) → k < n → OfKind (monitorAt ms k .kind) (getD ct k 0) (getD st k 0)
+
+pub record Holds (r : Rig) (ls : List Line) (z : Sizes) (mv ct st : List ℕ) : Type 0 where
   pub events-are : eventsOf ls ≡ z .events
   pub begun : empty ls ≡ eqb (z .events) 0
   pub monitors-are : length (monitors ls) ≡ z .monitors
   pub joint-is : product (monitors ls) ≡ z .joint
   pub latest-is : (k : ℕ) → suc k ≡ z .monitors → statesAt (monitors ls) k ≡ z .latest
-  pub tabled : Tabled (monitors ls) (z .monitors) (z .events) mv ct
-  pub recorded : recordFrom r ls ≡ record { moves = mv; counts = ct; monitors = z .monitors; events = z .events }
+  pub tabled : Tabled (monitors ls) (z .monitors) (z .events) mv ct st
+  pub recorded : recordFrom r ls ≡ record { moves = mv; counts = ct; starts = st; monitors = z .monitors; events = z .events }
   pub room : Allowed z
   pub long : length mv ≡ 2048
   pub wide : length ct ≡ 4
+  pub wide-starts : length st ≡ 4
 
 recordFrom-snoc : (r : Rig) (ls : List Line) (l : Line) → recordFrom r (ls ++ (l ∷ [])) ≡ withLine (recordFrom r ls) l
 unfolding recordFrom
@@ -59,10 +65,10 @@ recordFrom-snoc r (k ∷ ls) l = recordFrom-snoc (withLine r k) ls l
 
 -- ---- no line yet
 
-pub holds-none : (mv ct : List ℕ) → ((i : ℕ) → i < 2048 → getD mv i 0 ≡ 255) → length mv ≡ 2048 → length ct ≡ 4
-    → Holds (record { moves = mv; counts = ct; monitors = 0; events = 0 }) [] (record { events = 0; monitors = 0; latest = 0; joint = 1 }) mv ct
+pub holds-none : (mv ct st : List ℕ) → ((i : ℕ) → i < 2048 → getD mv i 0 ≡ 255) → length mv ≡ 2048 → length ct ≡ 4 → length st ≡ 4
+    → Holds (record { moves = mv; counts = ct; starts = st; monitors = 0; events = 0 }) [] (record { events = 0; monitors = 0; latest = 0; joint = 1 }) mv ct st
 unfolding eventsOf monitors monitorsFrom product recordFrom
-holds-none mv ct blank long wide = record {
+holds-none mv ct st blank long wide wide-starts = record {
   events-are = refl;
   begun = refl;
   monitors-are = refl;
@@ -70,14 +76,13 @@ holds-none mv ct blank long wide = record {
   latest-is = λ k q. absurd (omega arith);
   tabled = record {
     tables = λ k h. table-blank mv k 0 _ (λ s e hs he. blank (moveIndex k s e) (omega arith));
-    counts-are = λ k h. absurd (omega arith);
-    some-state = λ k h. absurd (omega arith);
-    few-states = λ k h. absurd (omega arith);
+    kinds = λ k h. absurd (omega arith);
   };
   recorded = refl;
   room = record { few-events = omega arith; few-monitors = omega arith; few-latest = omega arith; few-joint = omega arith };
   long = long;
   wide = wide;
+  wide-starts = wide-starts;
 }
 
 -- ---- tests
@@ -96,41 +101,39 @@ pick-zero false n m h q = (refl, q)
 -- ---- the tables with one line more
 
 -- the first line: no monitor has a move yet
-more-events : (ms : List Monitor) (n E F : ℕ) (mv ct : List ℕ) → E ≡ 0 → Tabled ms n E mv ct → Tabled ms n F mv ct
-more-events ms n E F mv ct q T = record {
+more-events : (ms : List Monitor) (n E F : ℕ) (mv ct st : List ℕ) → E ≡ 0 → Tabled ms n E mv ct st → Tabled ms n F mv ct st
+more-events ms n E F mv ct st q T = record {
   tables = λ k h. let U = T .tables k h in record { entry = U .entry; within = λ s e u m. let w = U .within s e u m in absurd (omega arith) };
-  counts-are = T .counts-are;
-  some-state = T .some-state;
-  few-states = T .few-states;
+  kinds = T .kinds;
 }
 
 -- a monitor more, of the kind k
 abbrev fresh : Kind → Monitor
 fresh k = record { kind = k; parts = [] }
 
-module _ (ms : List Monitor) (n E : ℕ) (k : Kind) (mv ct : List ℕ) (ln : length ms ≡ n) (wide : length ct ≡ 4) (few : n < 4) (low : 1 ≤ statesOf k) (high : statesOf k ≤ 32) (T : Tabled ms n E mv ct) where
-  -- what holds of the monitors so far, and of the new one, holds of all
-  each-new : (P : ℕ → ℕ → Type 0) → ((i : ℕ) → i < n → P i (statesAt ms i)) → P n (statesOf k) → (i : ℕ) → i < n + 1 → P i (statesAt (ms ++ (fresh k ∷ [])) i)
-  each-new P f p i h = ⊎-elim old new (eq-or-lt-of-le (below i h))
-    where
-      below : (i : ℕ) → i < n + 1 → i ≤ n
-      below i h = omega arith
-
-      old : i ≡ n → P i (statesAt (ms ++ (fresh k ∷ [])) i)
-      old q = rw (new-at ms (fresh k) i (q ∙ sym ln), q) p
-
-      new : i < n → P i (statesAt (ms ++ (fresh k ∷ [])) i)
-      new l = rw (new-before ms (fresh k) i (omega arith)) (f i l)
-
-  one-more : Tabled (ms ++ (fresh k ∷ [])) (n + 1) E mv (set ct n (statesOf k))
+module _ (ms : List Monitor) (n E : ℕ) (k : Kind) (mv ct st : List ℕ) (ln : length ms ≡ n) (wide : length ct ≡ 4) (wide-starts : length st ≡ 4) (few : n < 4) (high : statesOf k ≤ 32) (below : startOf k < statesOf k)
+    (T : Tabled ms n E mv ct st) where
+  one-more : Tabled (ms ++ (fresh k ∷ [])) (n + 1) E mv (set ct n (statesOf k)) (set st n (startOf k))
   unfolding moveBy
   one-more = record {
     tables = λ i h. ⊎-elim (before i h) (⊎-elim (at i h) (after i h)) (ℕ-trichotomy i (length ms));
-    counts-are = each-new (λ i v. getD (set ct n (statesOf k)) i 0 ≡ v) (λ i h. getD-set-other ct n i (statesOf k) 0 (λ q. omega arith) ∙ T .counts-are i h) (getD-set-same ct n (statesOf k) 0 (omega arith));
-    some-state = each-new (λ i v. 1 ≤ v) (λ i h. T .some-state i h) low;
-    few-states = each-new (λ i v. v ≤ 32) (λ i h. T .few-states i h) high;
+    kinds = λ i h. ⊎-elim (new i) (old i) (eq-or-lt-of-le (within i h));
   }
     where
+      within : (i : ℕ) → i < n + 1 → i ≤ n
+      within i h = omega arith
+
+      new : (i : ℕ) → i ≡ n → OfKind (monitorAt (ms ++ (fresh k ∷ [])) i .kind) (getD (set ct n (statesOf k)) i 0) (getD (set st n (startOf k)) i 0)
+      new i q = rw (new-at ms (fresh k) i (q ∙ sym ln), q) (record {
+        count-is = getD-set-same ct n (statesOf k) 0 (omega arith);
+        start-is = getD-set-same st n (startOf k) 0 (omega arith);
+        few-states = high;
+        start-below = below;
+      })
+
+      old : (i : ℕ) → i < n → OfKind (monitorAt (ms ++ (fresh k ∷ [])) i .kind) (getD (set ct n (statesOf k)) i 0) (getD (set st n (startOf k)) i 0)
+      old i l = rw (new-before ms (fresh k) i (omega arith), getD-set-other ct n i (statesOf k) 0 (λ q. omega arith), getD-set-other st n i (startOf k) 0 (λ q. omega arith)) (T .kinds i l)
+
       before : (i : ℕ) → i < 4 → i < length ms → Table mv i (monitorAt (ms ++ (fresh k ∷ [])) i .parts) E (statesAt (ms ++ (fresh k ∷ [])) i)
       before i h l = rw (new-before ms (fresh k) i l) (T .tables i h)
 
@@ -144,35 +147,30 @@ kind-addPart : (p : Part) (ms : List Monitor) (i : ℕ) → monitorAt (addPart p
 kind-addPart p ms i = case (eqb (suc i) (length ms)) (λ q. ap (λ m. m .kind) (addPart-at p ms i (eqb-true (suc i) (length ms) q))) (λ q. ap (λ m. m .kind) (addPart-beside p ms i (eqb-false (suc i) (length ms) q)))
 
 -- a move more, of the monitor m, which is the last
-module _ (ms : List Monitor) (n E m s e t : ℕ) (mv ct : List ℕ) (last : suc m ≡ length ms) (long : length mv ≡ 2048) (fewE : E ≤ 16) (fewS : statesAt ms m ≤ 32)
-    (hm : m < 4) (hs : s < statesAt ms m) (he : e < E) (ht : t < statesAt ms m) (free : moveAt mv m s e ≡ 255) (T : Tabled ms n E mv ct) where
-  one-move : Tabled (addPart (go s e t) ms) n E (set mv (moveIndex m s e) t) ct
+module _ (ms : List Monitor) (n E m s e t : ℕ) (mv ct st : List ℕ) (last : suc m ≡ length ms) (long : length mv ≡ 2048) (fewE : E ≤ 16) (fewS : statesAt ms m ≤ 32)
+    (hm : m < 4) (hs : s < statesAt ms m) (he : e < E) (ht : t < statesAt ms m) (free : moveAt mv m s e ≡ 255) (T : Tabled ms n E mv ct st) where
+  one-move : Tabled (addPart (go s e t) ms) n E (set mv (moveIndex m s e) t) ct st
   one-move = record {
     tables = λ k h. case (eqb k m) (λ q. at k h (eqb-true k m q)) (λ q. beside k h (eqb-false k m q));
-    counts-are = λ k h. T .counts-are k h ∙ sym (kinds k);
-    some-state = λ k h. rw (kinds k) (T .some-state k h);
-    few-states = λ k h. rw (kinds k) (T .few-states k h);
+    kinds = λ k h. rw (kind-addPart (go s e t) ms k) (T .kinds k h);
   }
     where
-      kinds : (k : ℕ) → statesAt (addPart (go s e t) ms) k ≡ statesAt ms k
-      kinds k = ap statesOf (kind-addPart (go s e t) ms k)
-
       at : (k : ℕ) → k < 4 → k ≡ m → Table (set mv (moveIndex m s e) t) k (monitorAt (addPart (go s e t) ms) k .parts) E (statesAt (addPart (go s e t) ms) k)
       at k h q = rw (q, addPart-at (go s e t) ms m last) (table-go mv m s e t (monitorAt ms m .parts) E (statesAt ms m) (T .tables m hm) hm long fewS fewE hs he ht free)
 
       beside : (k : ℕ) → k < 4 → (k ≡ m → ⊥) → Table (set mv (moveIndex m s e) t) k (monitorAt (addPart (go s e t) ms) k .parts) E (statesAt (addPart (go s e t) ms) k)
       beside k h ne = rw (addPart-beside (go s e t) ms k (λ q. ne (omega arith))) (table-beside mv k m s e t (monitorAt ms k .parts) E (statesAt ms k) ne (omega arith) (omega arith) (T .tables k h))
 
-module _ (r : Rig) (ls : List Line) (z : Sizes) (mv ct : List ℕ) (H : Holds r ls z mv ct) where
+module _ (r : Rig) (ls : List Line) (z : Sizes) (mv ct st : List ℕ) (H : Holds r ls z mv ct st) where
   -- ---- the reader's tests are the paper's
 
   rig-case : (e : ℕ) → rigCase z e ≡ lineCase ls (rig e)
   unfolding rigCase lineCase tests
   rig-case e = rw (H .begun)
 
-  mon-case : (s : ℕ) → monCase z s ≡ lineCase ls (begins (mon s))
+  mon-case : (s a : ℕ) → monCase z s a ≡ lineCase ls (begins (mon s a))
   unfolding monCase lineCase tests testBeginning statesOf
-  mon-case s = rw (H .begun, H .monitors-are, H .joint-is)
+  mon-case s a = rw (H .begun, H .monitors-are, H .joint-is)
 
   none-yet : empty ls ≡ true → z .monitors ≡ 0
   unfolding monitors monitorsFrom
@@ -215,16 +213,16 @@ module _ (r : Rig) (ls : List Line) (z : Sizes) (mv ct : List ℕ) (H : Holds r 
   pub case-is : (f : Form) → caseOf mv z f ≡ lineCase ls (formLine f)
   unfolding lineCase tests
   case-is (RigForm e) = rig-case e
-  case-is (Begins k) = mon-case (k .states)
+  case-is (Begins k) = mon-case (k .states) (k .start)
   case-is (Continues p) = go-case (p .state) (p .event) (p .target)
   case-is Other = refl
 
   -- ---- one line more
 
-  recorded-more : (l : Line) → recordFrom r (ls ++ (l ∷ [])) ≡ withLine (record { moves = mv; counts = ct; monitors = z .monitors; events = z .events }) l
+  recorded-more : (l : Line) → recordFrom r (ls ++ (l ∷ [])) ≡ withLine (record { moves = mv; counts = ct; starts = st; monitors = z .monitors; events = z .events }) l
   recorded-more l = recordFrom-snoc r ls l ∙ ap (λ q. withLine q l) (H .recorded)
 
-  holds-rig : (e : ℕ) → rigCase z e ≡ 0 → Holds r (ls ++ (rig e ∷ [])) (rigSizes z e) mv ct
+  holds-rig : (e : ℕ) → rigCase z e ≡ 0 → Holds r (ls ++ (rig e ∷ [])) (rigSizes z e) mv ct st
   unfolding rigCase withLine extended eventsOf
   holds-rig e q =
       let (p, q₁) = pick-zero (not (eqb (z .events) 0)) 5 _ (omega arith) q in
@@ -240,18 +238,19 @@ module _ (r : Rig) (ls : List Line) (z : Sizes) (mv ct : List ℕ) (H : Holds r 
         monitors-are = rw ms (H .monitors-are);
         joint-is = rw ms (H .joint-is);
         latest-is = rw ms (H .latest-is);
-        tabled = rw ms (more-events (monitors ls) (z .monitors) (z .events) e mv ct (eqb-true (z .events) 0 first) (H .tabled));
+        tabled = rw ms (more-events (monitors ls) (z .monitors) (z .events) e mv ct st (eqb-true (z .events) 0 first) (H .tabled));
         recorded = recorded-more (rig e);
         room = record { few-events = high; few-monitors = H .room .few-monitors; few-latest = H .room .few-latest; few-joint = H .room .few-joint };
         long = H .long;
         wide = H .wide;
+        wide-starts = H .wide-starts;
       }
 
   -- a line that begins a monitor of the kind k
-  holds-begins : (k : Kind) → eqb (z .events) 0 ≡ false → z .monitors < 4 → 1 ≤ statesOf k → statesOf k ≤ 32 → z .joint * statesOf k ≤ 1024
-      → Holds r (ls ++ (begins k ∷ [])) (record { events = z .events; monitors = z .monitors + 1; latest = statesOf k; joint = z .joint * statesOf k }) mv (set ct (z .monitors) (statesOf k))
+  holds-begins : (k : Kind) → eqb (z .events) 0 ≡ false → z .monitors < 4 → statesOf k ≤ 32 → startOf k < statesOf k → z .joint * statesOf k ≤ 1024
+      → Holds r (ls ++ (begins k ∷ [])) (record { events = z .events; monitors = z .monitors + 1; latest = statesOf k; joint = z .joint * statesOf k }) mv (set ct (z .monitors) (statesOf k)) (set st (z .monitors) (startOf k))
   unfolding withLine extended
-  holds-begins k p few low high small =
+  holds-begins k p few high below small =
       let ms : monitors (ls ++ (begins k ∷ [])) ≡ monitors ls ++ (fresh k ∷ []) = monitors-more ls (begins k) in
       record {
         events-are = events-snoc ls (begins k) (H .begun ∙ p) ∙ H .events-are;
@@ -259,27 +258,28 @@ module _ (r : Rig) (ls : List Line) (z : Sizes) (mv ct : List ℕ) (H : Holds r 
         monitors-are = rw (ms, length-append, H .monitors-are);
         joint-is = rw (ms, product-append, H .joint-is);
         latest-is = λ i l. rw (ms, new-at (monitors ls) (fresh k) i (omega (arith, H .monitors-are)));
-        tabled = rw ms (one-more (monitors ls) (z .monitors) (z .events) k mv ct (H .monitors-are) (H .wide) few low high (H .tabled));
+        tabled = rw ms (one-more (monitors ls) (z .monitors) (z .events) k mv ct st (H .monitors-are) (H .wide) (H .wide-starts) few high below (H .tabled));
         recorded = recorded-more (begins k);
         room = record { few-events = H .room .few-events; few-monitors = omega arith; few-latest = high; few-joint = small };
         long = H .long;
         wide = length-set ct (z .monitors) (statesOf k) ∙ H .wide;
+        wide-starts = length-set st (z .monitors) (startOf k) ∙ H .wide-starts;
       }
 
-  holds-mon : (s : ℕ) → monCase z s ≡ 0 → Holds r (ls ++ (begins (mon s) ∷ [])) (monSizes z s) mv (monCounts ct z s)
-  unfolding monCase statesOf
-  holds-mon s q =
+  holds-mon : (s a : ℕ) → monCase z s a ≡ 0 → Holds r (ls ++ (begins (mon s a) ∷ [])) (monSizes z s) mv (monCounts ct z s) (monStarts st z a)
+  unfolding monCase statesOf startOf
+  holds-mon s a q =
       let (p, q₁) = pick-zero (eqb (z .events) 0) 5 _ (omega arith) q in
-      let (o, q₂) = pick-zero (outside 1 32 s || leb 4 (z .monitors)) 3 _ (omega arith) q₁ in
+      let (o, q₂) = pick-zero ((outside 1 32 s || leb s a) || leb 4 (z .monitors)) 3 _ (omega arith) q₁ in
       let (j, q₃) = pick-zero (ltb 1024 (z .joint * s)) 6 0 (omega arith) q₂ in
-      let range = or-left (outside 1 32 s) _ o in
-      holds-begins (mon s) p
-      (leb-false 4 (z .monitors) (or-rest (outside 1 32 s) _ o))
-      (ltb-false s 1 (or-left (ltb s 1) _ range))
-      (ltb-false 32 s (or-rest (ltb s 1) _ range))
+      let range = or-left (outside 1 32 s || leb s a) _ o in
+      holds-begins (mon s a) p
+      (leb-false 4 (z .monitors) (or-rest (outside 1 32 s || leb s a) _ o))
+      (ltb-false 32 s (or-rest (ltb s 1) _ (or-left (outside 1 32 s) _ range)))
+      (leb-false s a (or-rest (outside 1 32 s) _ range))
       (ltb-false 1024 (z .joint * s) j)
 
-  holds-go : (s e t : ℕ) → goCase mv z s e t ≡ 0 → Holds r (ls ++ (continues (go s e t) ∷ [])) z (goMoves mv z s e t) ct
+  holds-go : (s e t : ℕ) → goCase mv z s e t ≡ 0 → Holds r (ls ++ (continues (go s e t) ∷ [])) z (goMoves mv z s e t) ct st
   unfolding goCase withPart withLine extended
   holds-go s e t q =
       let (p, q₁) = pick-zero (eqb (z .monitors) 0) 5 _ (omega arith) q in
@@ -298,15 +298,16 @@ module _ (r : Rig) (ls : List Line) (z : Sizes) (mv ct : List ℕ) (H : Holds r 
         monitors-are = rw (ms, length-addPart) (H .monitors-are);
         joint-is = rw (ms, product-addPart) (H .joint-is);
         latest-is = λ k l. rw ms (ap statesOf (kind-addPart (go s e t) (monitors ls) k) ∙ H .latest-is k l);
-        tabled = rw ms (one-move (monitors ls) (z .monitors) (z .events) (z .monitors - 1) s e t mv ct (last p) (H .long) (H .room .few-events) (rw (last-states p) (H .room .few-latest)) (omega (arith, H .room .few-monitors)) (rw (last-states p) hs) he (rw (last-states p) ht) free (H .tabled));
+        tabled = rw ms (one-move (monitors ls) (z .monitors) (z .events) (z .monitors - 1) s e t mv ct st (last p) (H .long) (H .room .few-events) (rw (last-states p) (H .room .few-latest)) (omega (arith, H .room .few-monitors)) (rw (last-states p) hs) he (rw (last-states p) ht) free (H .tabled));
         recorded = recorded-more (continues (go s e t));
         room = H .room;
         long = length-set mv (moveIndex (z .monitors - 1) s e) t ∙ H .long;
         wide = H .wide;
+        wide-starts = H .wide-starts;
       }
 
-  pub holds-more : (f : Form) → caseOf mv z f ≡ 0 → Holds r (ls ++ (formLine f ∷ [])) (sizesAfter z f) (movesAfter mv z f) (countsAfter ct z f)
+  pub holds-more : (f : Form) → caseOf mv z f ≡ 0 → Holds r (ls ++ (formLine f ∷ [])) (sizesAfter z f) (movesAfter mv z f) (countsAfter ct z f) (startsAfter st z f)
   holds-more (RigForm e) q = holds-rig e q
-  holds-more (Begins k) q = holds-mon (k .states) q
+  holds-more (Begins k) q = holds-mon (k .states) (k .start) q
   holds-more (Continues p) q = holds-go (p .state) (p .event) (p .target) q
   holds-more Other q = absurd (omega arith)

@@ -1,6 +1,6 @@
 -- The reader on its way through a text: what it has passed, and what is left to read. Assumes nothing.
 --   wholeReading t         == what reading the lines of t gives
---   Passed r t z n i mv ct == the lines before byte i of t are read into r with no refusal; the next one is line n
+--   Passed r t z n i mv ct st == the lines before byte i of t are read into r with no refusal; the next one is line n
 use mathlib.Core.Path.{_≡_, refl, sym, ap, ap₂, _∙_}
 use mathlib.Core.Bool.{Bool, true, false}
 use mathlib.Core.List.{List, [], _∷_, _++_, append-assoc, append-nil}
@@ -24,7 +24,7 @@ use Rattle.reader.specs.declared.Reading.{Reading}
 use Rattle.reader.specs.declared.Sizes.{Sizes}
 use Rattle.reader.specs.declared.Taken.the-variants.{Next, Bad}
 use Rattle.reader.specs.Reading.{answerOf, recordFrom, whereServed, recordOf}
-use Rattle.reader.specs.Taking.{onlyIf, taken, refusal, caseOf, sizesAfter, movesAfter, countsAfter}
+use Rattle.reader.specs.Taking.{onlyIf, taken, refusal, caseOf, sizesAfter, movesAfter, countsAfter, startsAfter}
 use Rattle.reader.proofs.Lines.{decoded-first, unended-first, decoded-none, unended-all}
 use Rattle.reader.proofs.Monitors.{empty-length}
 use Rattle.reader.proofs.Held.{Holds, holds-none, case-is, holds-more}
@@ -32,18 +32,18 @@ use Rattle.reader.proofs.Held.{Holds, holds-none, case-is, holds-more}
 abbrev pub wholeReading : List ℕ → Answer
 wholeReading t = readingFrom [] (decoded t) (unended t)
 
-pub record Passed (r : Rig) (t : List ℕ) (z : Sizes) (line at : ℕ) (mv ct : List ℕ) : Type 0 where
+pub record Passed (r : Rig) (t : List ℕ) (z : Sizes) (line at : ℕ) (mv ct st : List ℕ) : Type 0 where
   pub front : List Line
-  pub holds : Holds r front z mv ct
+  pub holds : Holds r front z mv ct st
   pub counted : suc (length front) ≡ line
   pub inside : at ≤ length t
   pub early : line ≤ at + 1
   pub left : wholeReading t ≡ readingFrom front (decoded (drop at t)) (unended (drop at t))
   pub split : decoded t ≡ front ++ decoded (drop at t)
 
-pub passed-none : (t mv ct : List ℕ) → ((i : ℕ) → i < 2048 → getD mv i 0 ≡ 255) → length mv ≡ 2048 → length ct ≡ 4
-    → Passed (record { moves = mv; counts = ct; monitors = 0; events = 0 }) t (record { events = 0; monitors = 0; latest = 0; joint = 1 }) 1 0 mv ct
-passed-none t mv ct blank long wide = record { front = []; holds = holds-none mv ct blank long wide; counted = refl; inside = omega arith; early = omega arith; left = refl; split = refl }
+pub passed-none : (t mv ct st : List ℕ) → ((i : ℕ) → i < 2048 → getD mv i 0 ≡ 255) → length mv ≡ 2048 → length ct ≡ 4 → length st ≡ 4
+    → Passed (record { moves = mv; counts = ct; starts = st; monitors = 0; events = 0 }) t (record { events = 0; monitors = 0; latest = 0; joint = 1 }) 1 0 mv ct st
+passed-none t mv ct st blank long wide wide-starts = record { front = []; holds = holds-none mv ct st blank long wide wide-starts; counted = refl; inside = omega arith; early = omega arith; left = refl; split = refl }
 
 -- ---- what a line comes to
 
@@ -63,7 +63,7 @@ taken-bad n m z q = go (eqb n 0) refl q
 
 -- ---- the next line
 
-module _ (r : Rig) (t : List ℕ) (z : Sizes) (line at : ℕ) (mv ct : List ℕ) (P : Passed r t z line at mv ct) where
+module _ (r : Rig) (t : List ℕ) (z : Sizes) (line at : ℕ) (mv ct st : List ℕ) (P : Passed r t z line at mv ct st) where
   -- the last line is not ended
   pub stops-unended : at < length t → (end : ℕ) → end ≡ indexOf (take (length t - at) (drop at t)) 10 → end ≡ length (take (length t - at) (drop at t)) → wholeReading t ≡ refused 2 line
   unfolding readingFrom
@@ -98,7 +98,7 @@ module _ (r : Rig) (t : List ℕ) (z : Sizes) (line at : ℕ) (mv ct : List ℕ)
     unfolding readingFrom
     stops-bad n b =
         let (p, m) = taken-bad (caseOf mv z f) n (sizesAfter z f) b in
-        let c : lineCase (P .front) (formLine f) ≡ n = sym (case-is r (P .front) z mv ct (P .holds) f) ∙ sym m in
+        let c : lineCase (P .front) (formLine f) ≡ n = sym (case-is r (P .front) z mv ct st (P .holds) f) ∙ sym m in
         let p′ : eqb n 0 ≡ false = rw (← m) at p in
         P .left ∙ rw (lines-left, c, p′, P .counted)
 
@@ -108,16 +108,17 @@ module _ (r : Rig) (t : List ℕ) (z : Sizes) (line at : ℕ) (mv ct : List ℕ)
     reads-on c = rw (lines-left, unended-left, c)
 
     -- no case holds of it
-    pub goes-on : (y : Sizes) (nv nt : List ℕ) → Next y ≡ taken (caseOf mv z f) (sizesAfter z f) → nv ≡ onlyIf (caseOf mv z f) (movesAfter mv z f) mv
-        → nt ≡ onlyIf (caseOf mv z f) (countsAfter ct z f) ct → Passed r t y (line + 1) (at + (end + 1)) nv nt
-    goes-on y nv nt b mq cq =
+    pub goes-on : (y : Sizes) (nv nt ns : List ℕ) → Next y ≡ taken (caseOf mv z f) (sizesAfter z f) → nv ≡ onlyIf (caseOf mv z f) (movesAfter mv z f) mv
+        → nt ≡ onlyIf (caseOf mv z f) (countsAfter ct z f) ct → ns ≡ onlyIf (caseOf mv z f) (startsAfter st z f) st → Passed r t y (line + 1) (at + (end + 1)) nv nt ns
+    goes-on y nv nt ns b mq cq sq =
         let (p, s) = taken-next (caseOf mv z f) (sizesAfter z f) y b in
-        let c : lineCase (P .front) (formLine f) ≡ 0 = sym (case-is r (P .front) z mv ct (P .holds) f) ∙ p in
+        let c : lineCase (P .front) (formLine f) ≡ 0 = sym (case-is r (P .front) z mv ct st (P .holds) f) ∙ p in
         let m′ : nv ≡ movesAfter mv z f = rw p at mq in
         let c′ : nt ≡ countsAfter ct z f = rw p at cq in
+        let s′ : ns ≡ startsAfter st z f = rw p at sq in
         record {
           front = P .front ++ (formLine f ∷ []);
-          holds = rw (s, m′, c′) (holds-more r (P .front) z mv ct (P .holds) f p);
+          holds = rw (s, m′, c′, s′) (holds-more r (P .front) z mv ct st (P .holds) f p);
           counted = rw length-append (omega (arith, P .counted));
           inside = omega (arith, ended, length-drop at t);
           early = omega (arith, P .early);
@@ -142,7 +143,7 @@ module _ (r : Rig) (t : List ℕ) (z : Sizes) (line at : ℕ) (mv ct : List ℕ)
     unfolding readingFrom
     ends-served q = P .left ∙ rw (no-lines, no-tail, empty-length (monitors (P .front)), P .holds .monitors-are, ne-eqb (z .monitors) 0 q)
 
-    pub ends-record : recordFrom r (decoded t) ≡ record { moves = mv; counts = ct; monitors = z .monitors; events = z .events }
+    pub ends-record : recordFrom r (decoded t) ≡ record { moves = mv; counts = ct; starts = st; monitors = z .monitors; events = z .events }
     ends-record = ap (recordFrom r) (P .split ∙ ap (λ l. P .front ++ l) no-lines ∙ append-nil (P .front)) ∙ P .holds .recorded
 
 -- ---- the answer

@@ -25,14 +25,14 @@ use Rattle.promises.proofs.Lines.{PartRanged, readable-formed}
 use Rattle.promises.proofs.Meaning.{move-is, sizes-standing}
 use Rattle.promises.proofs.Reading.{moved, sound-case, readable-said}
 use Rattle.rig.specs.declared.Rig.{Rig}
-use Rattle.rig.specs.Record.{moveAt, countOf, moveOf, monitorAt, standing, recordAutomaton, recordStart, WellFormed, emptyRig}
+use Rattle.rig.specs.Record.{moveAt, countOf, startAt, moveOf, monitorAt, standing, recordAutomaton, recordStart, WellFormed, emptyRig}
 use Rattle.decoding.specs.declared.Form.{Form}
 use Rattle.decoding.specs.declared.Form.the-variants.{Rig as RigForm, Begins, Continues, Other}
 use Rattle.decoding.specs.Forms.{formLine}
 use Rattle.reader.specs.declared.Sizes.{Sizes}
 use Rattle.reader.specs.Reading.{recordFrom, whereServed, recordOf}
 use Rattle.reader.specs.Record.{nobody, monitorIn, ReadFrom}
-use Rattle.reader.specs.Taking.{sizesAfter, movesAfter, countsAfter}
+use Rattle.reader.specs.Taking.{sizesAfter, movesAfter, countsAfter, startsAfter}
 use Rattle.reader.proofs.Monitors.{empty-nil}
 use Rattle.reader.proofs.Tables.{Table}
 use Rattle.reader.proofs.Held.{Tabled, Holds, holds-none, case-is, holds-more}
@@ -44,18 +44,19 @@ pub record Held (r : Rig) (ls : List Line) : Type 0 where
   pub sizes-are : Sizes
   pub moves-are : List ℕ
   pub counts-are : List ℕ
-  pub holds : Holds r ls sizes-are moves-are counts-are
+  pub starts-are : List ℕ
+  pub holds : Holds r ls sizes-are moves-are counts-are starts-are
 
 formOf : Line → Form
 formOf (rig e) = RigForm e
-formOf (begins (mon s)) = Begins (record { states = s })
+formOf (begins (mon s a)) = Begins (record { states = s; start = a })
 formOf (continues (go s e t)) = Continues (record { state = s; event = e; target = t })
 formOf other = Other
 
 line-form : (l : Line) → formLine (formOf l) ≡ l
 unfolding formOf
 line-form (rig e) = refl
-line-form (begins (mon s)) = refl
+line-form (begins (mon s a)) = refl
 line-form (continues (go s e t)) = refl
 line-form other = refl
 
@@ -64,7 +65,14 @@ held-more r ls f H q =
     let z = H .sizes-are in
     let mv = H .moves-are in
     let ct = H .counts-are in
-    record { sizes-are = sizesAfter z f; moves-are = movesAfter mv z f; counts-are = countsAfter ct z f; holds = holds-more r ls z mv ct (H .holds) f (case-is r ls z mv ct (H .holds) f ∙ q) }
+    let st = H .starts-are in
+    record {
+      sizes-are = sizesAfter z f;
+      moves-are = movesAfter mv z f;
+      counts-are = countsAfter ct z f;
+      starts-are = startsAfter st z f;
+      holds = holds-more r ls z mv ct st (H .holds) f (case-is r ls z mv ct st (H .holds) f ∙ q);
+    }
 
 held-all : (r : Rig) (front back : List Line) → Held r front → AllSound front back → Held r (front ++ back)
 unfolding AllSound
@@ -79,7 +87,8 @@ held-none = record {
   sizes-are = record { events = 0; monitors = 0; latest = 0; joint = 1 };
   moves-are = replicate 2048 255;
   counts-are = replicate 4 0;
-  holds = holds-none (replicate 2048 255) (replicate 4 0) (λ i h. getD-replicate 2048 i 255 0 h) (length-replicate {A = ℕ} 2048 255) (length-replicate {A = ℕ} 4 0);
+  starts-are = replicate 4 0;
+  holds = holds-none (replicate 2048 255) (replicate 4 0) (replicate 4 0) (λ i h. getD-replicate 2048 i 255 0 h) (length-replicate {A = ℕ} 2048 255) (length-replicate {A = ℕ} 4 0) (length-replicate {A = ℕ} 4 0);
 }
 
 held-readable : (t : List ℕ) → Readable t → Held emptyRig (decoded t)
@@ -87,14 +96,10 @@ held-readable t R = held-all emptyRig [] (decoded t) held-none (R .sound)
 
 -- ---- one monitor
 
--- a `mon` monitor moves along its `go` lines, from state 0 on
+-- a `mon` monitor moves along its `go` lines
 next-is : (k : Kind) (ps : List Part) (s e : ℕ) → nextOf k ps s e ≡ Option·getD (moveBy ps s e) (statesOf k)
 unfolding nextOf statesOf
-next-is (mon S) ps s e = refl
-
-start-is : (k : Kind) → startOf k ≡ 0
-unfolding startOf
-start-is (mon S) = refl
+next-is (mon S a) ps s e = refl
 
 -- an entry in range is where the monitor moves; any other stands for no move
 entry-moves : (v S E s e : ℕ) → s < S → e < E → v < S → pick ((ltb s S && ltb e E) && ltb v S) v S ≡ v
@@ -138,13 +143,13 @@ module _ (r : Rig) (m : Monitor) (k : ℕ) (T : Table (r .moves) k (m .parts) (r
 pub record Recorded (ls : List Line) (r : Rig) : Type 0 where
   pub events-are : r .events ≡ eventsOf ls
   pub monitors-are : r .monitors ≡ length (monitors ls)
-  pub tabled : Tabled (monitors ls) (r .monitors) (r .events) (r .moves) (r .counts)
+  pub tabled : Tabled (monitors ls) (r .monitors) (r .events) (r .moves) (r .counts) (r .starts)
   pub few-events : r .events ≤ 16
   pub few-monitors : r .monitors ≤ 4
 
 module _ (ls : List Line) (r : Rig) (H : Recorded ls r) where
   at-monitor : (k : ℕ) → k < r .monitors → monitorAt r k ≡ lines.monitorOf (r .events) (getD (monitors ls) k nobody)
-  at-monitor k h = monitor-is r (getD (monitors ls) k nobody) k (H .tabled .tables k (omega (arith, H .few-monitors))) (H .tabled .counts-are k h) (H .tabled .few-states k h) (H .few-events)
+  at-monitor k h = monitor-is r (getD (monitors ls) k nobody) k (H .tabled .tables k (omega (arith, H .few-monitors))) (H .tabled .kinds k h .count-is) (H .tabled .kinds k h .few-states) (H .few-events)
 
   pub standing-is : standing r ≡ lines.standing (eventsOf ls) (monitors ls)
   unfolding standing lines.standing
@@ -154,7 +159,7 @@ module _ (ls : List Line) (r : Rig) (H : Recorded ls r) where
       nowhere = record { of = monitorAt r 0; state = 0 }
 
       inRecord : ℕ → At
-      inRecord k = record { of = monitorAt r k; state = 0 }
+      inRecord k = record { of = monitorAt r k; state = startAt r k }
 
       inLines : Monitor → At
       inLines m = record { of = lines.monitorOf (eventsOf ls) m; state = startOf (m .kind) }
@@ -162,7 +167,7 @@ module _ (ls : List Line) (r : Rig) (H : Recorded ls r) where
       same : (i : ℕ) → i < r .monitors → getD (tabulate inRecord (r .monitors)) i nowhere ≡ getD (map inLines (monitors ls)) i nowhere
       same i h =
           getD-tabulate inRecord (r .monitors) i nowhere h
-          ∙ ap₂ (λ a x. record { of = a; state = x }) (at-monitor i h ∙ ap (λ E. lines.monitorOf E (getD (monitors ls) i nobody)) (H .events-are)) (sym (start-is (getD (monitors ls) i nobody .kind)))
+          ∙ ap₂ (λ a x. record { of = a; state = x }) (at-monitor i h ∙ ap (λ E. lines.monitorOf E (getD (monitors ls) i nobody)) (H .events-are)) (H .tabled .kinds i h .start-is)
           ∙ sym (getD-map-lt inLines (monitors ls) i nobody nowhere (rw (← H .monitors-are) h))
 
   pub automaton-of : recordAutomaton r ≡ linesAutomaton ls
@@ -179,7 +184,7 @@ module _ (t : List ℕ) (R : Readable t) where
   held : Held emptyRig (decoded t)
   held = held-readable t R
 
-  recordOf-is : recordOf t ≡ record { moves = held .moves-are; counts = held .counts-are; monitors = held .sizes-are .monitors; events = held .sizes-are .events }
+  recordOf-is : recordOf t ≡ record { moves = held .moves-are; counts = held .counts-are; starts = held .starts-are; monitors = held .sizes-are .monitors; events = held .sizes-are .events }
   unfolding recordOf
   recordOf-is = ap (λ a. whereServed a (recordFrom emptyRig (decoded t)) emptyRig) (readable-said t R) ∙ held .holds .recorded
 
@@ -223,8 +228,9 @@ module _ (t : List ℕ) (R : Readable t) where
     few-events = recorded .few-events;
     some-monitor = some-monitor;
     few-monitors = recorded .few-monitors;
-    some-state = λ m h. rw (recorded .tabled .counts-are m h) (recorded .tabled .some-state m h);
-    few-states = λ m h. rw (recorded .tabled .counts-are m h) (recorded .tabled .few-states m h);
+    some-state = λ m h. let k = recorded .tabled .kinds m h in rw (k .count-is) (omega (arith, k .start-below));
+    few-states = λ m h. let k = recorded .tabled .kinds m h in rw (k .count-is) (k .few-states);
+    start-below = λ m h. let k = recorded .tabled .kinds m h in rw (k .count-is, k .start-is) (k .start-below);
     few-joint = rw joint-of few-joint;
   }
 
@@ -238,21 +244,21 @@ module _ (t : List ℕ) (R : Readable t) where
 
       is : moveOf (recordOf t) m s e ≡ Option·getD (moveBy (monitorIn t m .parts) s e) (statesOf (monitorIn t m .kind))
       is =
-          moves-as (recordOf t) (monitorIn t m) m (recorded .tabled .tables m (omega (arith, recorded .few-monitors))) (recorded .tabled .counts-are m h)
-          (recorded .tabled .few-states m h) (recorded .few-events) s e
+          moves-as (recordOf t) (monitorIn t m) m (recorded .tabled .tables m (omega (arith, recorded .few-monitors))) (recorded .tabled .kinds m h .count-is)
+          (recorded .tabled .kinds m h .few-states) (recorded .few-events) s e
 
       to : (moveOf (recordOf t) m s e ≡ u) × (u < countOf (recordOf t) m) → In (go s e u) (monitorIn t m .parts)
       to (q, l) = step (moveBy (monitorIn t m .parts) s e) refl
         where
           step : (o : Option ℕ) → moveBy (monitorIn t m .parts) s e ≡ o → In (go s e u) (monitorIn t m .parts)
-          step none p = let z : statesOf (monitorIn t m .kind) ≡ u = sym (is ∙ ap (λ o. Option·getD o (statesOf (monitorIn t m .kind))) p) ∙ q in absurd (omega (arith, recorded .tabled .counts-are m h))
+          step none p = let z : statesOf (monitorIn t m .kind) ≡ u = sym (is ∙ ap (λ o. Option·getD o (statesOf (monitorIn t m .kind))) p) ∙ q in absurd (omega (arith, recorded .tabled .kinds m h .count-is))
           step (some v) p = let z : v ≡ u = sym (is ∙ ap (λ o. Option·getD o (statesOf (monitorIn t m .kind))) p) ∙ q in rw z at (moved (monitorIn t m .parts) s e v p)
 
       from : In (go s e u) (monitorIn t m .parts) → (moveOf (recordOf t) m s e ≡ u) × (u < countOf (recordOf t) m)
       from i =
           let kept = readable-formed t R .monitored .each (monitorIn t m) known in
           let w = kept .parts-ranged (go s e u) i in
-          (is ∙ ap (λ o. Option·getD o (statesOf (monitorIn t m .kind))) (move-is (eventsOf (decoded t)) (monitorIn t m) kept s e u i), rw (recorded .tabled .counts-are m h) (w .2))
+          (is ∙ ap (λ o. Option·getD o (statesOf (monitorIn t m .kind))) (move-is (eventsOf (decoded t)) (monitorIn t m) kept s e u i), rw (recorded .tabled .kinds m h .count-is) (w .2))
 
   pub read-from : ReadFrom t (recordOf t)
   unfolding rigAutomaton start
@@ -260,7 +266,8 @@ module _ (t : List ℕ) (R : Readable t) where
     well-formed = well-formed;
     events-are = recorded .events-are;
     monitors-are = recorded .monitors-are;
-    counts-are = recorded .tabled .counts-are;
+    counts-are = λ m h. recorded .tabled .kinds m h .count-is;
+    starts-are = λ m h. recorded .tabled .kinds m h .start-is;
     moves-are = moves-of;
     automaton-is = automaton-of (decoded t) (recordOf t) recorded;
     start-is = start-of (decoded t) (recordOf t) recorded;

@@ -10,7 +10,7 @@ use mathlib.Core.List.{List, [], _∷_}
 use Prim.Native.Nat.{ℕ, _+_, _-_}
 use lib.ListN.{set}
 use Rattle.promises.specs.Answer.{Answer, served, refused}
-use Rattle.promises.specs.Text.{Part, go, Line, rig, begins, continues, other, statesOf, decoded}
+use Rattle.promises.specs.Text.{Part, go, Line, rig, begins, continues, other, statesOf, startOf, decoded}
 use Rattle.promises.specs.Reading.{reading}
 use Rattle.rig.specs.declared.Rig.{Rig}
 use Rattle.rig.specs.Record.{moveIndex, emptyRig}
@@ -24,12 +24,18 @@ answerOf (Refused number place) = refused number place
 
 -- '`go`, s, e, t: the latest monitor moves from s to t on event e'
 unfoldable pub withPart : Rig → Part → Rig
-withPart r (go s e t) = record { moves = set (r .moves) (moveIndex (r .monitors - 1) s e) t; counts = r .counts; monitors = r .monitors; events = r .events }
+withPart r (go s e t) = record { moves = set (r .moves) (moveIndex (r .monitors - 1) s e) t; counts = r .counts; starts = r .starts; monitors = r .monitors; events = r .events }
 
--- '`rig`, E'; '`mon`, S: a new monitor'
+-- '`rig`, E'; '`mon`, S: a new monitor'; 'The rig record keeps one start for each monitor' (02 no. 1)
 unfoldable pub withLine : Rig → Line → Rig
-withLine r (rig E) = record { moves = r .moves; counts = r .counts; monitors = r .monitors; events = E }
-withLine r (begins k) = record { moves = r .moves; counts = set (r .counts) (r .monitors) (statesOf k); monitors = r .monitors + 1; events = r .events }
+withLine r (rig E) = record { moves = r .moves; counts = r .counts; starts = r .starts; monitors = r .monitors; events = E }
+withLine r (begins k) = record {
+  moves = r .moves;
+  counts = set (r .counts) (r .monitors) (statesOf k);
+  starts = set (r .starts) (r .monitors) (startOf k);
+  monitors = r .monitors + 1;
+  events = r .events;
+}
 withLine r (continues p) = withPart r p
 withLine r other = r
 

@@ -9,13 +9,13 @@ use mathlib.Core.List.{List, [], List·Memᴰ as In}
 use Prim.Native.Nat.{ℕ, _<_}
 use lib.ListN.{length, getD}
 use Rattle.automaton.specs.Joint.{sizes}
-use Rattle.promises.specs.Text.{mon, go, Monitor, monitors, decoded, statesOf, eventsOf, jointStates}
+use Rattle.promises.specs.Text.{mon, go, Monitor, monitors, decoded, statesOf, startOf, eventsOf, jointStates}
 use Rattle.promises.specs.Rig.{rigAutomaton, start}
 use Rattle.rig.specs.declared.Rig.{Rig}
-use Rattle.rig.specs.Record.{countOf, moveOf, standing, recordAutomaton, recordStart, WellFormed}
+use Rattle.rig.specs.Record.{countOf, startAt, moveOf, standing, recordAutomaton, recordStart, WellFormed}
 
 abbrev pub nobody : Monitor
-nobody = record { kind = mon 0; parts = [] }
+nobody = record { kind = mon 0 0; parts = [] }
 
 abbrev pub monitorIn : List ℕ → ℕ → Monitor
 monitorIn t m = getD (monitors (decoded t)) m nobody
@@ -26,6 +26,7 @@ pub record ReadFrom (t : List ℕ) (r : Rig) : Type 0 where
   pub events-are : r .events ≡ eventsOf (decoded t)
   pub monitors-are : r .monitors ≡ length (monitors (decoded t))
   pub counts-are : (m : ℕ) → m < r .monitors → countOf r m ≡ statesOf (monitorIn t m .kind)
+  pub starts-are : (m : ℕ) → m < r .monitors → startAt r m ≡ startOf (monitorIn t m .kind)
   -- a monitor moves from s on e to u exactly when its further lines have `go` s e u
   pub moves-are : (m s e u : ℕ) → m < r .monitors → ((moveOf r m s e ≡ u) × (u < countOf r m)) ↔ In (go s e u) (monitorIn t m .parts)
   -- the joint automaton that the record stands for is the one that the lines describe

@@ -1,13 +1,13 @@
--- One line more, in the reader's own state: the sizes so far and the two tables. The laws of `proofs/Held` tie it to the lines.
+-- One line more, in the reader's own state: the sizes so far and the tables. The laws of `proofs/Held` tie it to the lines.
 --   Allowed z             == sizes within the paper's limits
 --   onlyIf n a b       == a where the number n is 0, else b
 --   taken n z          == Next z where the number n is 0, else Bad n
 --   refusal n p        == the answer to a text that is refused
 --   rigCase, monCase, goCase == the number of the first case that holds of such a line, 0 where none does
---   rigSizes, monSizes, monCounts, goMoves == what such a line changes, where no case holds of it
---   kindCase, kindSizes, kindCounts == the same for any line that begins a monitor
+--   rigSizes, monSizes, monCounts, monStarts, goMoves == what such a line changes, where no case holds of it
+--   kindCase, kindSizes, kindCounts, kindStarts == the same for any line that begins a monitor
 --   partCase, partMoves == the same for any line of the latest monitor
---   caseOf, sizesAfter, movesAfter, countsAfter == the same for any line
+--   caseOf, sizesAfter, movesAfter, countsAfter, startsAfter == the same for any line
 -- A new line form is one section and its clauses of those for its group. Assumes nothing.
 use mathlib.Core.Bool.{not, _||_}
 use mathlib.Core.List.{List}
@@ -50,16 +50,19 @@ rigCase z e = pick (not (eqb (z .events) 0)) 5 (pick (outside 1 16 e) 3 0)
 abbrev pub rigSizes : Sizes → ℕ → Sizes
 rigSizes z e = record { events = e; monitors = z .monitors; latest = z .latest; joint = z .joint }
 
--- ---- `mon`, S
+-- ---- `mon`, S and the start a
 
-unfoldable pub monCase : Sizes → ℕ → ℕ
-monCase z s = pick (eqb (z .events) 0) 5 (pick (outside 1 32 s || leb 4 (z .monitors)) 3 (pick (ltb 1024 (z .joint * s)) 6 0))
+unfoldable pub monCase : Sizes → ℕ → ℕ → ℕ
+monCase z s a = pick (eqb (z .events) 0) 5 (pick ((outside 1 32 s || leb s a) || leb 4 (z .monitors)) 3 (pick (ltb 1024 (z .joint * s)) 6 0))
 
 abbrev pub monSizes : Sizes → ℕ → Sizes
 monSizes z s = record { events = z .events; monitors = z .monitors + 1; latest = s; joint = z .joint * s }
 
 abbrev pub monCounts : List ℕ → Sizes → ℕ → List ℕ
 monCounts ct z s = set ct (z .monitors) s
+
+abbrev pub monStarts : List ℕ → Sizes → ℕ → List ℕ
+monStarts st z a = set st (z .monitors) a
 
 -- ---- `go`, s, e, t
 
@@ -76,13 +79,16 @@ goMoves mv z s e t = set mv (moveIndex (z .monitors - 1) s e) t
 -- ---- any line
 
 abbrev pub kindCase : Sizes → Kind → ℕ
-kindCase z k = monCase z (k .states)
+kindCase z k = monCase z (k .states) (k .start)
 
 abbrev pub kindSizes : Sizes → Kind → Sizes
 kindSizes z k = monSizes z (k .states)
 
 abbrev pub kindCounts : List ℕ → Sizes → Kind → List ℕ
 kindCounts ct z k = monCounts ct z (k .states)
+
+abbrev pub kindStarts : List ℕ → Sizes → Kind → List ℕ
+kindStarts st z k = monStarts st z (k .start)
 
 abbrev pub partCase : List ℕ → Sizes → Part → ℕ
 partCase mv z p = goCase mv z (p .state) (p .event) (p .target)
@@ -113,3 +119,9 @@ countsAfter ct z (Rig e) = ct
 countsAfter ct z (Begins k) = kindCounts ct z k
 countsAfter ct z (Continues p) = ct
 countsAfter ct z Other = ct
+
+abbrev pub startsAfter : List ℕ → Sizes → Form → List ℕ
+startsAfter st z (Rig e) = st
+startsAfter st z (Begins k) = kindStarts st z k
+startsAfter st z (Continues p) = st
+startsAfter st z Other = st

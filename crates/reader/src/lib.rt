@@ -6,7 +6,7 @@ ghost use Prim.Native.Nat.{_<_};
 ghost use lib.ListN.{length};
 ghost use Rattle.promises.specs.Reading as promised;
 ghost use Rattle.reader.specs.Reading.{answerOf, recordOf};
-ghost use Rattle.reader.specs.Taking.{Allowed, taken, rigCase, rigSizes, monCase, monSizes, monCounts, goCase, goMoves, caseOf, sizesAfter, movesAfter, countsAfter, onlyIf};
+ghost use Rattle.reader.specs.Taking.{Allowed, taken, rigCase, rigSizes, monCase, monSizes, monCounts, monStarts, goCase, goMoves, caseOf, sizesAfter, movesAfter, countsAfter, startsAfter, onlyIf};
 ghost use Rattle.reader.specs.Taking as taking;
 
 // What reading answers: the text is readable, or a number and a place.
@@ -66,11 +66,12 @@ fn take_rig(z: Sizes, e: usize) -> Taken
     })
 }
 
-// `mon`, S: 'S from 1 to 32', 'One to four monitors', P 'at most 1,024'.
-fn take_mon(counts: &mut [u8], z: Sizes, s: usize) -> Taken
-    requires { ⌜ (length (now counts) ≡ 4) × Allowed z ⌝ }
-    ensures { λ r. ⌜ r ≡ taken (monCase z s) (monSizes z s) ⌝ }
-    ensures { λ _. ⌜ now (counts .exit) ≡ onlyIf (monCase z s) (monCounts (now (counts .entry)) z s) (now (counts .entry)) ⌝ }
+// `mon`, S and the start a: 'S from 1 to 32', 'One to four monitors', P 'at most 1,024', and a below S.
+fn take_mon(counts: &mut [u8], starts: &mut [u8], z: Sizes, s: usize, a: usize) -> Taken
+    requires { ⌜ (length (now counts) ≡ 4) × (length (now starts) ≡ 4) × Allowed z ⌝ }
+    ensures { λ r. ⌜ r ≡ taken (monCase z s a) (monSizes z s) ⌝ }
+    ensures { λ _. ⌜ now (counts .exit) ≡ onlyIf (monCase z s a) (monCounts (now (counts .entry)) z s) (now (counts .entry)) ⌝ }
+    ensures { λ _. ⌜ now (starts .exit) ≡ onlyIf (monCase z s a) (monStarts (now (starts .entry)) z a) (now (starts .entry)) ⌝ }
 {
     if z.events == 0 {
         return Taken::Bad(5); // first line not `rig`
@@ -81,6 +82,9 @@ fn take_mon(counts: &mut [u8], z: Sizes, s: usize) -> Taken
     if 32 < s {
         return Taken::Bad(3); // more than 32 states
     }
+    if s <= a {
+        return Taken::Bad(3); // the start is no state
+    }
     if 4 <= z.monitors {
         return Taken::Bad(3); // a fifth monitor
     }
@@ -90,6 +94,7 @@ fn take_mon(counts: &mut [u8], z: Sizes, s: usize) -> Taken
     }
     let m = z.monitors;
     counts[m] = s as u8;
+    starts[m] = a as u8;
     Taken::Next(Sizes {
         events: z.events,
         monitors: m + 1,
@@ -125,15 +130,22 @@ fn take_go(moves: &mut [u8], z: Sizes, s: usize, e: usize, t: usize) -> Taken
 }
 
 // One line more.
-fn take_line(moves: &mut [u8], counts: &mut [u8], z: Sizes, line: Form) -> Taken
-    requires { ⌜ (length (now moves) ≡ 2048) × (length (now counts) ≡ 4) × Allowed z ⌝ }
+fn take_line(
+    moves: &mut [u8],
+    counts: &mut [u8],
+    starts: &mut [u8],
+    z: Sizes,
+    line: Form,
+) -> Taken
+    requires { ⌜ (length (now moves) ≡ 2048) × (length (now counts) ≡ 4) × (length (now starts) ≡ 4) × Allowed z ⌝ }
     ensures { λ r. ⌜ r ≡ taken (caseOf (now (moves .entry)) z line) (sizesAfter z line) ⌝ }
     ensures { λ _. ⌜ now (moves .exit) ≡ onlyIf (caseOf (now (moves .entry)) z line) (movesAfter (now (moves .entry)) z line) (now (moves .entry)) ⌝ }
     ensures { λ _. ⌜ now (counts .exit) ≡ onlyIf (caseOf (now (moves .entry)) z line) (countsAfter (now (counts .entry)) z line) (now (counts .entry)) ⌝ }
+    ensures { λ _. ⌜ now (starts .exit) ≡ onlyIf (caseOf (now (moves .entry)) z line) (startsAfter (now (starts .entry)) z line) (now (starts .entry)) ⌝ }
 {
     match line {
         Form::Rig(e) => take_rig(z, e),
-        Form::Begins(k) => take_mon(counts, z, k.states),
+        Form::Begins(k) => take_mon(counts, starts, z, k.states, k.start),
         Form::Continues(p) => take_go(moves, z, p.state, p.event, p.target),
         Form::Other => Taken::Bad(2),
     }
@@ -149,6 +161,7 @@ pub fn read(text: &[u8]) -> Reading
     }
     let mut moves = [255u8; 2048];
     let mut counts = [0u8; 4];
+    let mut starts = [0u8; 4];
     let mut sizes = Sizes {
         events: 0,
         monitors: 0,
@@ -164,7 +177,7 @@ pub fn read(text: &[u8]) -> Reading
             return refused(2, line);
         }
         let form = decoding::decode(&rest[..end]);
-        match take_line(&mut moves, &mut counts, sizes, form) {
+        match take_line(&mut moves, &mut counts, &mut starts, sizes, form) {
             Taken::Next(z) => {
                 sizes = z;
             }
@@ -183,6 +196,7 @@ pub fn read(text: &[u8]) -> Reading
         rig: Rig {
             moves,
             counts,
+            starts,
             monitors: sizes.monitors,
             events: sizes.events,
         },

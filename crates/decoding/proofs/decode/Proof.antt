@@ -64,26 +64,14 @@ slice-aggregate-same-2 c = search needs
 same-requires-2 : tie.Need-same-requires-2
 same-requires-2 c κs = search needs
 
-only-number-requires-2 : tie.Need-only-number-requires-2
-only-number-requires-2 c κs = search needs
-
-enum-known-s : tie.Need-enum-known-s
-enum-known-s c = search needs
-
-enum-told-2 : tie.Need-enum-told-2
-enum-told-2 c = search needs
+mon-form-requires : tie.Need-mon-form-requires
+mon-form-requires c κs = search needs
 
 returns-3 : tie.Need-returns-3
 returns-3 c =
-    let l = c .before .before .before .before .before .before .before .before .before .before .before .before .before .before .before .args .line .now in
-    let u = c .before .before .before .before .before .before .before .before .before .before .before .before .before .until in
-    sym (decode-first l (u .result) (u .ensures) (c .before .before .before .before .before .before .before .before .before .before .before .before .if1 .taken) ∙ form-mon (take (u .result) l) _ (sym (c .before .before .before .before .before .before .before .before .same .ensures) ∙ c .before .before .before .before .before .before .before .if2 .left) (sym (c .before .before .before .before .before .same2 .ensures) ∙ c .before .before .before .before .if3 .taken) ∙ c .before .before .before .only-number2 .ensures (λ S. begins (mon S)) ∙ ap (λ d. orOther (λ S. begins (mon S)) (valueOf d)) (c .before .s .given .1))
-
-returns-4 : tie.Need-returns-4
-returns-4 c =
-    let l = c .before .before .before .before .before .before .before .before .before .before .before .before .before .before .args .line .now in
-    let u = c .before .before .before .before .before .before .before .before .before .before .before .before .until in
-    sym (decode-first l (u .result) (u .ensures) (c .before .before .before .before .before .before .before .before .before .before .before .if1 .taken) ∙ form-mon (take (u .result) l) _ (sym (c .before .before .before .before .before .before .before .same .ensures) ∙ c .before .before .before .before .before .before .if2 .left) (sym (c .before .before .before .before .same2 .ensures) ∙ c .before .before .before .if3 .taken) ∙ c .before .before .only-number2 .ensures (λ S. begins (mon S)) ∙ ap (λ d. orOther (λ S. begins (mon S)) (valueOf d)) (c .enum-told2 .given .1))
+    let l = c .before .before .before .before .before .before .before .before .before .before .before .before .args .line .now in
+    let u = c .before .before .before .before .before .before .before .before .before .before .until in
+    c .mon-form .ensures ∙ sym (decode-first l (u .result) (u .ensures) (c .before .before .before .before .before .before .before .before .before .if1 .taken) ∙ form-mon (take (u .result) l) _ (sym (c .before .before .before .before .before .same .ensures) ∙ c .before .before .before .before .if2 .left) (sym (c .before .before .same2 .ensures) ∙ c .before .if3 .taken))
 
 slice-aggregate-same-3 : tie.Need-slice-aggregate-same-3
 slice-aggregate-same-3 c = search needs
@@ -94,20 +82,20 @@ same-requires-3 c κs = search needs
 go-form-requires : tie.Need-go-form-requires
 go-form-requires c κs = search needs
 
-returns-5 : tie.Need-returns-5
-returns-5 c =
+returns-4 : tie.Need-returns-4
+returns-4 c =
     let l = c .before .before .before .before .before .before .before .before .before .before .before .before .before .before .before .args .line .now in
     let u = c .before .before .before .before .before .before .before .before .before .before .before .before .before .until in
     c .go-form .ensures ∙ sym (decode-first l (u .result) (u .ensures) (c .before .before .before .before .before .before .before .before .before .before .before .before .if1 .taken) ∙ form-go (take (u .result) l) _ (sym (c .before .before .before .before .before .before .before .before .same .ensures) ∙ c .before .before .before .before .before .before .before .if2 .left) (sym (c .before .before .before .before .before .same2 .ensures) ∙ c .before .before .before .before .if3 .left) (sym (c .before .before .same3 .ensures) ∙ c .before .if4 .taken))
 
-returns-6 : tie.Need-returns-6
-returns-6 c =
+returns-5 : tie.Need-returns-5
+returns-5 c =
     let l = c .before .before .before .before .before .before .before .before .before .before .before .before .before .before .args .line .now in
     let u = c .before .before .before .before .before .before .before .before .before .before .before .before .until in
     sym (decode-first l (u .result) (u .ensures) (c .before .before .before .before .before .before .before .before .before .before .before .if1 .taken) ∙ form-other (take (u .result) l) _ (sym (c .before .before .before .before .before .before .before .same .ensures) ∙ c .before .before .before .before .before .before .if2 .left) (sym (c .before .before .before .before .same2 .ensures) ∙ c .before .before .before .if3 .left) (sym (c .before .same3 .ensures) ∙ c .if4 .left))
 
-returns-7 : tie.Need-returns-7
-returns-7 c = sym (decode-alone (c .before .before .before .args .line .now) (rw (← c .before .until .ensures) (c .if1 .left)))
+returns-6 : tie.Need-returns-6
+returns-6 c = sym (decode-alone (c .before .before .before .args .line .now) (rw (← c .before .until .ensures) (c .if1 .left)))
 
 pub decode-spec : {M : Type 1} → statement M
 decode-spec =
@@ -128,14 +116,11 @@ decode-spec =
     returns-2
     slice-aggregate-same-2
     same-requires-2
-    only-number-requires-2
-    enum-known-s
-    enum-told-2
+    mon-form-requires
     returns-3
-    returns-4
     slice-aggregate-same-3
     same-requires-3
     go-form-requires
+    returns-4
     returns-5
-    returns-6
-    returns-7)
+    returns-6)

@@ -29,33 +29,40 @@ enum-told c = search needs
 
 returns : tie.Need-returns
 returns c =
-    let st = c .before .before .before .before .before .before .args in
+    let st = c .before .before .before .before .before .before .before .args in
     let f = c .before .before .line .given in
     let q = f .1 in
-    (rw q (c .take-rig .ensures), (rw q (kept (rigCase (st .z) (f .0 .0)) (st .moves .now)), rw q (kept (rigCase (st .z) (f .0 .0)) (st .counts .now))))
+    let n = rigCase (st .z) (f .0 .0) in
+    (rw q (c .take-rig .ensures), (rw q (kept n (st .moves .now)), (rw q (kept n (st .counts .now)), rw q (kept n (st .starts .now)))))
 
 same-length : tie.Need-same-length
 same-length c = search needs
 
-returns-2 : tie.Need-returns-2
-returns-2 c =
-    let st = c .before .before .before .before .before .before .before .before .before .args in
-    let f = c .before .before .before .before .before .line2 .given in
-    let q = f .1 in
-    (rw q (c .before .before .take-mon .ensures .0), (rw q (kept (monCase (st .z) (f .0 .0 .states)) (st .moves .now)), rw q (c .before .before .take-mon .ensures .1)))
-
 same-length-2 : tie.Need-same-length-2
 same-length-2 c = search needs
 
+returns-2 : tie.Need-returns-2
+returns-2 c =
+    let st = c .before .before .before .before .before .before .before .before .before .before .before .before .before .args in
+    let f = c .before .before .before .before .before .before .before .before .line2 .given in
+    let q = f .1 in
+    let t = c .before .before .before .before .take-mon .ensures in
+    (rw q (t .0), (rw q (kept (monCase (st .z) (f .0 .0 .states) (f .0 .0 .start)) (st .moves .now)), (rw q (t .1 .0), rw q (t .1 .1))))
+
+same-length-3 : tie.Need-same-length-3
+same-length-3 c = search needs
+
 returns-3 : tie.Need-returns-3
 returns-3 c =
-    let st = c .before .before .before .before .before .before .before .before .before .args in
+    let st = c .before .before .before .before .before .before .before .before .before .before .args in
     let f = c .before .before .before .before .before .line3 .given in
     let q = f .1 in
-    (rw q (c .before .before .take-go .ensures .0), (rw q (c .before .before .take-go .ensures .1), rw q (kept (goCase (st .moves .now) (st .z) (f .0 .0 .state) (f .0 .0 .event) (f .0 .0 .target)) (st .counts .now))))
+    let t = c .before .before .take-go .ensures in
+    let n = goCase (st .moves .now) (st .z) (f .0 .0 .state) (f .0 .0 .event) (f .0 .0 .target) in
+    (rw q (t .0), (rw q (t .1), (rw q (kept n (st .counts .now)), rw q (kept n (st .starts .now)))))
 
 returns-4 : tie.Need-returns-4
-returns-4 c = (rw (c .enum-told .given .1), (rw (c .enum-told .given .1), rw (c .enum-told .given .1)))
+returns-4 c = let q = c .enum-told .given .1 in (rw q, (rw q, (rw q, rw q)))
 
 pub take-line-spec : {M : Type 1} → statement M
 take-line-spec =
@@ -70,7 +77,8 @@ take-line-spec =
     enum-told
     returns
     same-length
-    returns-2
     same-length-2
+    returns-2
+    same-length-3
     returns-3
     returns-4)
