@@ -1,7 +1,7 @@
 -- Tables that are filled from the front, entry by entry or row by row. Assumes nothing.
 use mathlib.Core.Path.{_≡_, refl, sym, ap, _∙_}
 use mathlib.Core.Logic.{⊎-elim}
-use mathlib.Core.List.{List, [], _∷_, _++_}
+use mathlib.Core.List.{List, [], _∷_, _++_, map, map-append}
 use Prim.Native.Nat.{ℕ, zero, suc, _+_, _*_, _<_, _≤_}
 use native.Mathlib.Nat.{eq-or-lt-of-le, le-of-suc-le-suc, not-suc-le-zero, suc-mul, zero-mul, mul-le-mul-right}
 use native.Mathlib.Numerals.{add-one}
@@ -28,6 +28,11 @@ pub tabulate-cong : {A : Type 0} (f g : ℕ → A) (n : ℕ) → ((x : ℕ) → 
 unfolding tabulate
 tabulate-cong f g zero h = refl
 tabulate-cong f g (suc n) h = rw (tabulate-cong f g n (λ x l. h x (omega arith)), h n (omega arith))
+
+pub map-tabulate : {A B : Type 0} (g : A → B) (f : ℕ → A) (n : ℕ) → map g (tabulate f n) ≡ tabulate (λ x. g (f x)) n
+unfolding tabulate
+map-tabulate g f zero = refl
+map-tabulate g f (suc n) = rw (map-append, map-tabulate g f n)
 
 -- one entry more: what is stored at i is the table's entry there
 pub tabulate-more : {A : Type 0} (f : ℕ → A) (d : List A) (i : ℕ) (v z : A) → i < length d → v ≡ f i → set (tabulate f i ++ drop i d) i v ≡ tabulate f (i + 1) ++ drop (i + 1) d
