@@ -17,8 +17,7 @@ use Rattle.promises.specs.Rig.{rigAutomaton}
 use Rattle.promises.specs.Calls.{sized}
 use Rattle.promises.proofs.Meaning.{rig-states}
 use Rattle.promises.proofs.Reading.{reading-serves, reading-refuses, fault-number}
-use Rattle.pruning.specs.Digits.{span}
-use Rattle.pruning.proofs.Digits.{states-are, span-some}
+use Rattle.pruning.proofs.Digits.{start-lt}
 use Rattle.reader.specs.Reading.{answerOf, recordOf}
 use Rattle.reader.specs.declared.Verdict.the-variants.{Readable as Read, Refused as Unread}
 use Rattle.reader.specs.Record.{ReadFrom}
@@ -38,59 +37,44 @@ refused-early n p m q le e = let z : n ≡ m = cc in omega arith
 passed-not : (n p : ℕ) → Refused n p ≡ Passed → ⊥
 passed-not n p e = let z : _≡_ {A = ℕ} 0 1 = cc in omega arith
 
-states-some : (r : Rig) → WellFormed r → 0 < recordAutomaton r .states
-states-some r w =
-    let some : 1 ≤ span (r .counts) (r .monitors - 0) 0 = span-some (r .counts) (r .monitors) (w .some-state) 0 (omega arith) in
-    rw (states-are r) (rw (sub-zero (r .monitors)) at some)
-
-pub sizes-7 : (r : Rig) (h room : ℕ) → 1000 < h → ChecksSizes r h room (record { checked = Refused 7 0; rig = r; states = 0 })
+pub sizes-7 : (r : Rig) (h room : ℕ) → 1000 < h → ChecksSizes r h room (record { checked = Refused 7 0; rig = r; states = 0; start = 0 })
 sizes-7 r h room c = record {
   answer = λ a. rw (lt-ltb 1000 h c);
   early = λ n p. refused-early 7 0 n p (omega arith);
-  refused-states = λ n p e. refl;
+  refused-states = λ n p e. (refl, refl);
   same = refl;
   passed = λ e. absurd (passed-not 7 0 e);
 }
 
-pub sizes-8 : (r : Rig) (h room states : ℕ) → h ≤ 1000 → states ≡ recordAutomaton r .states → room < (h + 1) * states → ChecksSizes r h room (record { checked = Refused 8 0; rig = r; states = 0 })
+pub sizes-8 : (r : Rig) (h room states : ℕ) → h ≤ 1000 → states ≡ recordAutomaton r .states → room < (h + 1) * states → ChecksSizes r h room (record { checked = Refused 8 0; rig = r; states = 0; start = 0 })
 sizes-8 r h room states c q lt = record {
   answer = λ a. rw (le-ltb 1000 h c, ← q, lt-ltb room ((h + 1) * states) lt);
   early = λ n p. refused-early 8 0 n p (omega arith);
-  refused-states = λ n p e. refl;
+  refused-states = λ n p e. (refl, refl);
   same = refl;
   passed = λ e. absurd (passed-not 8 0 e);
 }
 
-pub sizes-on : (r : Rig) (h room states : ℕ) → WellFormed r → h ≤ 1000 → states ≡ recordAutomaton r .states → (h + 1) * states ≤ room
-    → ChecksSizes r h room (record { checked = Passed; rig = r; states = states })
-sizes-on r h room states w c q le = record {
+pub sizes-on : (r : Rig) (h room states x : ℕ) → WellFormed r → h ≤ 1000 → states ≡ recordAutomaton r .states → (h + 1) * states ≤ room → x ≡ recordStart r
+    → ChecksSizes r h room (record { checked = Passed; rig = r; states = states; start = x })
+sizes-on r h room states x w c q le e = record {
   answer = λ a. rw (le-ltb 1000 h c, ← q, le-ltb room ((h + 1) * states) le);
-  early = λ n p e. absurd (passed-not n p (sym e));
-  refused-states = λ n p e. absurd (passed-not n p (sym e));
+  early = λ n p f. absurd (passed-not n p (sym f));
+  refused-states = λ n p f. absurd (passed-not n p (sym f));
   same = refl;
-  passed = λ e. record { well-formed = w; joint = q; some-states = rw q (states-some r w); horizon = c; enough = le };
+  passed = λ f. record { well-formed = w; joint = q; starts = e; start-below = rw (q, e) (start-lt r w); horizon = c; enough = le };
 }
 
 -- ---- the text
 
--- every monitor starts in 0, so all of them together do
-zero-start : (f : ℕ → At) → ((m : ℕ) → f m .state ≡ 0) → (n : ℕ) → jointState (tabulate f n) ≡ 0
-unfolding tabulate jointState sizes
-zero-start f z zero = refl
-zero-start f z (suc n) = joint-number (tabulate f n) (f n ∷ []) ∙ rw (zero-start f z n, z n, zero-mul (f n .of .states * 1), zero-mul 1)
-
-pub record-start : (r : Rig) → recordStart r ≡ 0
-unfolding recordStart standing
-record-start r = zero-start _ (λ m. refl) (r .monitors)
-
 -- a refused text: the refusal is that of reading, whatever the rest says
 pub loads-refused : (t : List ℕ) (h room n p : ℕ) (r : Rig) → answerOf (Unread n p) ≡ promised.reading t → r ≡ recordOf t
-    → Loads t h room (record { checked = Refused n p; rig = r; states = 0 })
+    → Loads t h room (record { checked = Refused n p; rig = r; states = 0; start = 0 })
 unfolding sized
 loads-refused t h room n p r q e = record {
   answer = λ cells a l. rw (sym q);
   early = λ m k. refused-early n p m k (omega (arith, fault-number t n p (reading-refuses t n p .0 (sym q))));
-  refused-states = λ m k f. refl;
+  refused-states = λ m k f. (refl, refl);
   is-record = e;
   ready = λ f. absurd (passed-not n p f);
 }
@@ -107,7 +91,7 @@ loads-readable t h room r o q e w = record {
     readable = readable;
     automaton = automaton;
     events = rw e (from .events-are);
-    starts = sym (from .start-is) ∙ record-start (recordOf t);
+    starts = w .passed c .starts ∙ ap recordStart e ∙ from .start-is;
     fits = w .passed c;
   });
 }

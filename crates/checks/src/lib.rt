@@ -10,11 +10,12 @@ pub enum Checked {
     Refused(u64, u64),
 }
 
-// What rows 1 to 8 come to, with the record and its joint states where they are passed.
+// What rows 1 to 8 come to, with the record; and where they are passed, how many joint states it has and the number of the start.
 pub struct Loaded {
     pub checked: Checked,
     pub rig: Rig,
     pub states: usize,
+    pub start: usize,
 }
 
 // Rows 1 to 8: the text, the horizon, and the room for the cells.
@@ -29,6 +30,7 @@ pub fn load(text: &[u8], h: u64, room: usize) -> Loaded
             checked: Checked::Refused(number, place),
             rig,
             states: 0,
+            start: 0,
         },
         Verdict::Readable => check_sizes(rig, h, room),
     }
@@ -44,6 +46,7 @@ fn check_sizes(rig: Rig, h: u64, room: usize) -> Loaded
             checked: Checked::Refused(7, 0),
             rig,
             states: 0,
+            start: 0,
         };
     }
     let states = pruning::joint_states(rig);
@@ -52,11 +55,14 @@ fn check_sizes(rig: Rig, h: u64, room: usize) -> Loaded
             checked: Checked::Refused(8, 0),
             rig,
             states: 0,
+            start: 0,
         };
     }
+    let start = pruning::joint_start(rig);
     Loaded {
         checked: Checked::Passed,
         rig,
         states,
+        start,
     }
 }

@@ -31,11 +31,14 @@ returns-2 c =
     let st = c .before .before .before .args in
     sizes-8 (st .rig) (st .h) (st .room) (c .before .joint-states .result) (c .before .before .if1 .left) (c .before .joint-states .ensures) (c .if2 .taken)
 
+joint-start-requires : tie.Need-joint-start-requires
+joint-start-requires c κs = c .before .before .before .pre
+
 returns-3 : tie.Need-returns-3
 returns-3 c =
-    let st = c .before .before .before .args in
-    sizes-on (st .rig) (st .h) (st .room) (c .before .joint-states .result) (c .before .before .before .pre) (c .before .before .if1 .left) (c .before .joint-states .ensures) (c .if2 .left)
+    let st = c .before .before .before .before .args in
+    sizes-on (st .rig) (st .h) (st .room) (c .before .before .joint-states .result) (c .joint-start .result) (c .before .before .before .before .pre) (c .before .before .before .if1 .left) (c .before .before .joint-states .ensures) (c .before .if2 .left) (c .joint-start .ensures)
 
 pub check-sizes-spec : {M : Type 1} → statement M
 check-sizes-spec =
-    tie.close (tie.spec returns joint-states-requires add-if2 mul-if2 returns-2 returns-3)
+    tie.close (tie.spec returns joint-states-requires add-if2 mul-if2 returns-2 joint-start-requires returns-3)
