@@ -5,7 +5,7 @@ use mathlib.Core.Bool.{true, false}
 use mathlib.Core.List.{List, [], _∷_}
 use Prim.Native.Nat.{ℕ, _+_, _*_, _≤_, _<_, min}
 use native.Mathlib.Omega.{arith}
-use native.Mathlib.Nat.{add-zero, suc-mul}
+use native.Mathlib.Nat.{suc-mul}
 use native.Mathlib.Numerals.{add-one}
 use lib.ListN.{length, getD}
 use lib.Dec.{leb, eqb}
@@ -17,7 +17,7 @@ use Rattle.automaton.specs.Counting.{N, most, cell}
 use Rattle.rig.specs.Record.{recordAutomaton}
 use Rattle.promises.specs.Answer.{Answer, served, refused}
 use Rattle.promises.specs.Rig.{rigAutomaton}
-use Rattle.promises.specs.Calls.{countRows, filled, fills, cellsAfter, outputAfter, sized, total, counted, count, countCells}
+use Rattle.promises.specs.Calls.{countRows, countFrom, filled, fills, cellsAfter, outputAfter, sized, total, counted, count, countCells}
 use Rattle.promises.proofs.Buffers.{filled-at}
 use Rattle.checks.specs.Loading.{checkedOr, Ready, Loads}
 use Rattle.checks.specs.declared.Checked.{Checked}
@@ -30,19 +30,19 @@ use Rattle.filling.specs.Filling.{TellsRows, FilledBy}
 -- ---- the cells
 
 -- the start's cell
-pub start-cell : (A : Automaton) (h : ℕ) (cells after : List ℕ) (p : ℕ) → p ≡ A .states → 0 < p → after ≡ filled A h cells → getD after (h * p) 0 ≡ min (N A h 0) most
+pub start-cell : (A : Automaton) (h x : ℕ) (cells after : List ℕ) (p : ℕ) → p ≡ A .states → x < p → after ≡ filled A h cells → getD after (h * p + x) 0 ≡ min (N A h x) most
 unfolding cell
-start-cell A h cells after p q some e =
-    ap (λ (l : List ℕ). getD l (h * p) 0) e
-    ∙ ap (λ (i : ℕ). getD (filled A h cells) i 0) (ap (λ (n : ℕ). h * n) q ∙ sym (add-zero (h * A .states)))
-    ∙ filled-at A h cells h 0 (omega arith) (omega arith)
+start-cell A h x cells after p q lt e =
+    ap (λ (l : List ℕ). getD l (h * p + x) 0) e
+    ∙ ap (λ (n : ℕ). getD (filled A h cells) (h * n + x) 0) q
+    ∙ filled-at A h cells h x (omega arith) (omega arith)
 
 -- the cell tells rows 9 and 10, and else it is N
-pub fills-told : (A : Automaton) (p h s : ℕ) (k : Checked) (cells left table : List ℕ) → p ≡ A .states → 0 < p → left ≡ filled A h cells → TellsRows (getD left (h * p) 0) k
-    → s ≡ passes A → Tabled A p table → FilledBy A p 0 h (record { checked = k; count = getD left (h * p) 0; passes = s }) cells left table
-fills-told A p h s k cells left table q some e t r n = record {
-  answer = λ a. t .answer (N A h 0) a (start-cell A h cells left p q some e);
-  counted = start-cell A h cells left p q some e;
+pub fills-told : (A : Automaton) (p x h s : ℕ) (k : Checked) (cells left table : List ℕ) → p ≡ A .states → x < p → left ≡ filled A h cells → TellsRows (getD left (h * p + x) 0) k
+    → s ≡ passes A → Tabled A p table → FilledBy A p x h (record { checked = k; count = getD left (h * p + x) 0; passes = s }) cells left table
+fills-told A p x h s k cells left table q lt e t r n = record {
+  answer = λ a. t .answer (N A h x) a (start-cell A h x cells left p q lt e);
+  counted = start-cell A h x cells left p q lt e;
   some = t .some;
   few = t .few;
   passed = r;
@@ -84,8 +84,8 @@ module _ (A : Automaton) (p x h : ℕ) (f : Filled) (cells left table : List ℕ
     pub told-count : served (f .count ∷ f .passes ∷ []) ≡ countRows (N A h x) (served (N A h x ∷ passes A ∷ []))
     told-count = rw (told-exact, fs .passed) (told-passed (served (N A h x ∷ passes A ∷ [])))
 
-pub cell-room : (h p n : ℕ) → 0 < p → (h + 1) * p ≤ n → h * p < n
-cell-room h p n some le = omega (arith, suc-mul h p, ap (λ (i : ℕ). i * p) (add-one h))
+pub cell-room : (h p x n : ℕ) → x < p → (h + 1) * p ≤ n → h * p + x < n
+cell-room h p x n lt le = omega (arith, suc-mul h p, ap (λ (i : ℕ). i * p) (add-one h))
 
 -- ---- rows 1 to 8, as the whole call sees them
 
@@ -114,15 +114,15 @@ module _ (t : List ℕ) (h room : ℕ) (o : Loaded) (op : Loads t h room o) (cel
     pub passed-answer : (a : Answer) → sized t h cells a ≡ a
     passed-answer a = op .answer cells a l ∙ ap (λ (k : Checked). checkedOr k a) e
 
-    ready : Ready t h room (o .rig) (o .states)
+    ready : Ready t h room (o .rig) (o .states) (o .start)
     ready = op .ready e
 
     -- rows 9 and 10 on the record's automaton are those on the text's
-    pub counted-is : (a : Answer) → countRows (N (recordAutomaton (o .rig)) h 0) a ≡ counted t h a
+    pub counted-is : (a : Answer) → countRows (N (recordAutomaton (o .rig)) h (o .start)) a ≡ counted t h a
     unfolding counted total
     counted-is a = rw (ready .automaton, ready .starts)
 
-    pub total-is : N (recordAutomaton (o .rig)) h 0 ≡ total t h
+    pub total-is : N (recordAutomaton (o .rig)) h (o .start) ≡ total t h
     unfolding total
     total-is = rw (ready .automaton, ready .starts)
 
@@ -131,7 +131,7 @@ module _ (t : List ℕ) (h room : ℕ) (o : Loaded) (op : Loads t h room o) (cel
     unfolding cellsAfter
     passed-cells a after f q = rw (passed-answer a, f, ← ready .automaton) q
 
-    pub count-is : countRows (N (recordAutomaton (o .rig)) h 0) (served (N (recordAutomaton (o .rig)) h 0 ∷ passes (recordAutomaton (o .rig)) ∷ [])) ≡ count t h cells
+    pub count-is : countFrom (recordAutomaton (o .rig)) h (o .start) ≡ count t h cells
     unfolding count
     count-is = rw (passed-answer, ← ready .automaton, ← total-is) (counted-is _)
 

@@ -2,9 +2,10 @@
 use checks::Checked;
 use rig::Rig;
 ghost use mathlib.Core.Path.{_≡_};
+ghost use Prim.Native.Nat.{_+_, _*_, _≤_};
 ghost use lib.ListN.{length};
 ghost use Rattle.automaton.specs.Pruning.{passes};
-ghost use Rattle.rig.specs.Record.{recordAutomaton};
+ghost use Rattle.rig.specs.Record.{recordAutomaton, WellFormed};
 ghost use Rattle.promises.specs.Calls.{filled};
 ghost use Rattle.checks.specs.Loading.{Fits};
 ghost use Rattle.counting.specs.Tabled.{Tabled};
@@ -18,12 +19,19 @@ pub struct Filled {
 }
 
 // Prunes the rig, fills the table and the cells of rows 0 to h, and tells rows 9 and 10 by the cell of the start.
-pub fn fill_cells(rig: Rig, states: usize, h: usize, cells: &mut [u64], table: &mut [u16]) -> Filled
-    requires { ⌜ Fits rig states h (length (now cells)) × (length (now table) ≡ 16384) ⌝ }
-    ensures { λ f. ⌜ FilledBy (recordAutomaton rig) states 0 h f (now (cells .entry)) (now (cells .exit)) (now (table .exit)) ⌝ }
+pub fn fill_cells(
+    rig: Rig,
+    states: usize,
+    start: usize,
+    h: usize,
+    cells: &mut [u64],
+    table: &mut [u16],
+) -> Filled
+    requires { ⌜ Fits rig states start h (length (now cells)) × (length (now table) ≡ 16384) ⌝ }
+    ensures { λ f. ⌜ FilledBy (recordAutomaton rig) states start h f (now (cells .entry)) (now (cells .exit)) (now (table .exit)) ⌝ }
 {
     let passes = prune_and_fill(rig, states, h, cells, table);
-    let count = cells[h * states];
+    let count = cells[h * states + start];
     Filled {
         checked: check_count(count),
         count,
@@ -33,7 +41,7 @@ pub fn fill_cells(rig: Rig, states: usize, h: usize, cells: &mut [u64], table: &
 
 // Prunes the rig, and fills the table and the cells. Gives the number of passes.
 fn prune_and_fill(rig: Rig, states: usize, h: usize, cells: &mut [u64], table: &mut [u16]) -> usize
-    requires { ⌜ Fits rig states h (length (now cells)) × (length (now table) ≡ 16384) ⌝ }
+    requires { ⌜ WellFormed rig × (states ≡ recordAutomaton rig .states) × ((h + 1) * states ≤ length (now cells)) × (length (now table) ≡ 16384) ⌝ }
     ensures { λ r. ⌜ r ≡ passes (recordAutomaton rig) ⌝ }
     ensures { λ _. ⌜ now (cells .exit) ≡ filled (recordAutomaton rig) h (now (cells .entry)) ⌝ }
     ensures { λ _. ⌜ Tabled (recordAutomaton rig) states (now (table .exit)) ⌝ }

@@ -15,6 +15,9 @@ prune-and-fill-requires c κs = search needs
 mul-count : tie.Need-mul-count
 mul-count c = search needs
 
+add-count : tie.Need-add-count
+add-count c = search needs
+
 mul-count-2 : tie.Need-mul-count-2
 mul-count-2 c = search needs
 
@@ -34,8 +37,8 @@ returns : tie.Need-returns
 returns c =
     let st = c .before .before .before .before .before .before .before .before .before .before .before in
     let f = c .before .before .before .before .before .before .prune-and-fill in
-    fills-told (recordAutomaton (st .args .rig)) (st .args .states) (st .args .h) (f .result) (c .check-count .result) (st .args .cells .now) (f .last .1 .1 .1 .0) (f .last .1 .1 .1 .1 .0)
-    (st .pre .0 .joint) (st .pre .0 .some-states) (f .ensures .1 .0) (c .check-count .ensures) (f .ensures .0) (f .ensures .1 .1)
+    fills-told (recordAutomaton (st .args .rig)) (st .args .states) (st .args .start) (st .args .h) (f .result) (c .check-count .result) (st .args .cells .now) (f .last .1 .1 .1 .0) (f .last .1 .1 .1 .1 .0)
+    (st .pre .0 .joint) (st .pre .0 .start-below) (f .ensures .1 .0) (c .check-count .ensures) (f .ensures .0) (f .ensures .1 .1)
 
 pub fill-cells-spec : {M : Type 1} → statement M
 fill-cells-spec =
@@ -43,6 +46,7 @@ fill-cells-spec =
     (tie.spec
     prune-and-fill-requires
     mul-count
+    add-count
     mul-count-2
     slice-read-count
     check-count-requires

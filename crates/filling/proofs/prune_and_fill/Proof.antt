@@ -17,8 +17,8 @@ slice-aggregate-prune c = search needs
 prune-requires : tie.Need-prune-requires
 prune-requires c κs =
     let st = c .before .before .before .before in
-    let few = states-few (st .args .rig) (st .pre .0 .well-formed) in
-    (st .pre .0 .well-formed, (omega (arith, length-replicate {A = ℕ} 1024 0), omega (arith, st .pre .1)))
+    let few = states-few (st .args .rig) (st .pre .0) in
+    (st .pre .0, (omega (arith, length-replicate {A = ℕ} 1024 0), omega (arith, st .pre .3)))
 
 slice-aggregate-fill : tie.Need-slice-aggregate-fill
 slice-aggregate-fill c = search needs
@@ -27,9 +27,9 @@ fill-requires : tie.Need-fill-requires
 fill-requires c κs =
     let st = c .before .before .before .before .before .before .before .before .before .before .before in
     let p = c .before .before .before .before .before .before .prune in
-    let few = states-few (st .args .rig) (st .pre .0 .well-formed) in
-    let t = tabled (st .args .rig) (st .args .states) (p .last .1 .1 .0) (st .args .table .now) (st .pre .0 .well-formed) (st .pre .0 .joint) (p .ensures .1 .1) in
-    (st .pre .0 .enough, omega (arith, p .kept .1 .1 .0), omega (arith, p .kept .1 .0, length-replicate {A = ℕ} 1024 0), tabled-bounded (recordAutomaton (st .args .rig)) (st .args .states) (p .last .1 .1 .0) t (omega arith))
+    let few = states-few (st .args .rig) (st .pre .0) in
+    let t = tabled (st .args .rig) (st .args .states) (p .last .1 .1 .0) (st .args .table .now) (st .pre .0) (st .pre .1) (p .ensures .1 .1) in
+    (st .pre .2, omega (arith, p .kept .1 .1 .0), omega (arith, p .kept .1 .0, length-replicate {A = ℕ} 1024 0), tabled-bounded (recordAutomaton (st .args .rig)) (st .args .states) (p .last .1 .1 .0) t (omega arith))
 
 same-length : tie.Need-same-length
 same-length c = search needs
@@ -42,7 +42,7 @@ returns c =
     let st = c .before .before .before .before .before .before .before .before .before .before .before .before .before .before in
     let p = c .before .before .before .before .before .before .before .before .before .prune in
     let A = recordAutomaton (st .args .rig) in
-    let t = tabled (st .args .rig) (st .args .states) (p .last .1 .1 .0) (st .args .table .now) (st .pre .0 .well-formed) (st .pre .0 .joint) (p .ensures .1 .1) in
+    let t = tabled (st .args .rig) (st .args .states) (p .last .1 .1 .0) (st .args .table .now) (st .pre .0) (st .pre .1) (p .ensures .1 .1) in
     (p .ensures .0, (c .before .before .fill .ensures A t (flagged A (p .last .1 .0) _ (p .ensures .1 .0)), t))
 
 pub prune-and-fill-spec : {M : Type 1} → statement M
