@@ -31,41 +31,41 @@ use Rattle.generator.specs.Outcomes.{listFrom, outputFrom, indexFrom}
 -- ---- Scenarios
 
 -- the list walker's place is that of refusal 11; where there is none, every scenario is written
-module _ (A : Automaton) (h n k : ℕ) (is out after : List ℕ) (e : n ≡ N A h 0) (q : k ≡ firstBad (notBelow n) is)
-    (w : after ≡ pick (ltb k (length is)) out (withScenarios A h 0 is out)) where
-  place-is : k ≡ firstBad (notBelow (N A h 0)) is
+module _ (A : Automaton) (h x n k : ℕ) (is out after : List ℕ) (e : n ≡ N A h x) (q : k ≡ firstBad (notBelow n) is)
+    (w : after ≡ pick (ltb k (length is)) out (withScenarios A h x is out)) where
+  place-is : k ≡ firstBad (notBelow (N A h x)) is
   place-is = q ∙ ap (λ (m : ℕ). firstBad (notBelow m) is) e
 
-  pub listed-bad : k < length is → (refused 11 k ≡ indicesRow (N A h 0) is) × (after ≡ outputAfter (refused 11 k) (concatMap (unrank A h 0) is) out)
+  pub listed-bad : k < length is → (refused 11 k ≡ indicesRow (N A h x) is) × (after ≡ outputAfter (refused 11 k) (concatMap (unrank A h x) is) out)
   unfolding unlessAt outputAfter
   listed-bad lt = (rw (← place-is, lt-ltb k (length is) lt), w ∙ rw (lt-ltb k (length is) lt))
 
-  pub listed-good : length is ≤ k → (served [] ≡ indicesRow (N A h 0) is) × (after ≡ outputAfter (served []) (concatMap (unrank A h 0) is) out)
+  pub listed-good : length is ≤ k → (served [] ≡ indicesRow (N A h x) is) × (after ≡ outputAfter (served []) (concatMap (unrank A h x) is) out)
   unfolding unlessAt outputAfter
   listed-good le = (
     rw (← place-is, le-ltb k (length is) le),
-    w ∙ rw (le-ltb k (length is) le) (served-fresh A h 0 is out (good-all (N A h 0) is (rw place-is at le))),
+    w ∙ rw (le-ltb k (length is) le) (served-fresh A h x is out (good-all (N A h x) is (rw place-is at le))),
   )
 
 -- ---- Index
 
 -- refusal 14, or the index, as ranking tells it
-module _ (A : Automaton) (s : List ℕ) (r : Ranked) (f : r ≡ rankedAs A 0 s) where
-  pub ranked-index : (i : ℕ) → r ≡ Index i → served (i ∷ []) ≡ sequenceRow A 0 s
+module _ (A : Automaton) (x : ℕ) (s : List ℕ) (r : Ranked) (f : r ≡ rankedAs A x s) where
+  pub ranked-index : (i : ℕ) → r ≡ Index i → served (i ∷ []) ≡ sequenceRow A x s
   unfolding rankedAs
   ranked-index i g =
-      let q : rankedAs A 0 s ≡ Index i = sym f ∙ g in
-      case (ltb (firstViolation A 0 s) (length s))
-      (λ b. let w : Violation (firstViolation A 0 s) ≡ Index i = rw b at q in let z : _≡_ {A = ℕ} 0 1 = cc in absurd (omega arith))
-      (λ b. rw b (let w : Index (rank A 0 s) ≡ Index i = rw b at q in cc))
+      let q : rankedAs A x s ≡ Index i = sym f ∙ g in
+      case (ltb (firstViolation A x s) (length s))
+      (λ b. let w : Violation (firstViolation A x s) ≡ Index i = rw b at q in let z : _≡_ {A = ℕ} 0 1 = cc in absurd (omega arith))
+      (λ b. rw b (let w : Index (rank A x s) ≡ Index i = rw b at q in cc))
 
-  pub ranked-violation : (k : ℕ) → r ≡ Violation k → refused 14 k ≡ sequenceRow A 0 s
+  pub ranked-violation : (k : ℕ) → r ≡ Violation k → refused 14 k ≡ sequenceRow A x s
   unfolding rankedAs
   ranked-violation k g =
-      let q : rankedAs A 0 s ≡ Violation k = sym f ∙ g in
-      case (ltb (firstViolation A 0 s) (length s))
-      (λ b. rw b (let w : Violation (firstViolation A 0 s) ≡ Violation k = rw b at q in cc))
-      (λ b. let w : Index (rank A 0 s) ≡ Violation k = rw b at q in let z : _≡_ {A = ℕ} 0 1 = cc in absurd (omega arith))
+      let q : rankedAs A x s ≡ Violation k = sym f ∙ g in
+      case (ltb (firstViolation A x s) (length s))
+      (λ b. rw b (let w : Violation (firstViolation A x s) ≡ Violation k = rw b at q in cc))
+      (λ b. let w : Index (rank A x s) ≡ Violation k = rw b at q in let z : _≡_ {A = ℕ} 0 1 = cc in absurd (omega arith))
 
 -- ---- Scenarios and Index as the text sees them
 
@@ -98,7 +98,7 @@ module _ (t : List ℕ) (h room : ℕ) (o : Loaded) (op : Loads t h room o) (cel
   short-written q = rw (← short-output q)
 
   module _ (fit : length is * h ≤ length out) where
-    pub scenarios-are : listFrom (recordAutomaton (o .rig)) h 0 is ≡ scenarios t h is cells out
+    pub scenarios-are : listFrom (recordAutomaton (o .rig)) h (o .start) is ≡ scenarios t h is cells out
     unfolding scenarios
     scenarios-are = rw (passed-answer t h room o op cells l e, le-ltb (length out) (length is * h) fit, total-is t h room o op cells l e) (rw (← total-is t h room o op cells l e) (counted-is t h room o op cells l e _))
 
@@ -107,9 +107,9 @@ module _ (t : List ℕ) (h room : ℕ) (o : Loaded) (op : Loads t h room o) (cel
     scenarios-cells-are after q =
         passed-cells t h room o op cells l e _ after (rw (le-ltb (length out) (length is * h) fit) (countRows-fills (total t h) _ (at-11 (total t h) is))) q
 
-    pub written-are : (a : Answer) (after : List ℕ) → a ≡ scenarios t h is cells out → after ≡ outputFrom (recordAutomaton (o .rig)) h 0 a is out → after ≡ written t h is cells out
+    pub written-are : (a : Answer) (after : List ℕ) → a ≡ scenarios t h is cells out → after ≡ outputFrom (recordAutomaton (o .rig)) h (o .start) a is out → after ≡ written t h is cells out
     unfolding written
-    written-are a after f q = rw (← f, ← op .ready e .automaton, op .ready e .starts) q
+    written-are a after f q = rw (← f, ← op .ready e .automaton, ← op .ready e .starts) q
 
 module _ (t s : List ℕ) (room : ℕ) (o : Loaded) (op : Loads t (length s) room o) (cells : List ℕ) (l : length cells ≡ room) (e : o .checked ≡ Passed) where
   -- 13
@@ -130,11 +130,11 @@ module _ (t s : List ℕ) (room : ℕ) (o : Loaded) (op : Loads t (length s) roo
     unfolding unlessAt
     good-events a = rw (← op .ready e .events, ← q, le-ltb k (length s) le)
 
-    pub index-is : indexFrom (recordAutomaton (o .rig)) 0 s ≡ index t s cells
+    pub index-is : indexFrom (recordAutomaton (o .rig)) (o .start) s ≡ index t s cells
     unfolding index
     index-is =
-        counted-is t (length s) room o op cells l e (sequenceRow (recordAutomaton (o .rig)) 0 s)
-        ∙ rw (op .ready e .automaton, ← op .ready e .starts) (sym (passed-answer t (length s) room o op cells l e _ ∙ good-events _))
+        counted-is t (length s) room o op cells l e (sequenceRow (recordAutomaton (o .rig)) (o .start) s)
+        ∙ rw (op .ready e .automaton, op .ready e .starts) (sym (passed-answer t (length s) room o op cells l e _ ∙ good-events _))
 
     pub index-cells-are : (after : List ℕ) → after ≡ filled (recordAutomaton (o .rig)) (length s) cells → after ≡ indexCells t s cells
     unfolding indexCells index counted

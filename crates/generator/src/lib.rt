@@ -44,13 +44,13 @@ fn first_not_event(sequence: &[u8], events: usize) -> usize
 }
 
 // Count, once the checks are passed.
-fn count_cells(rig: Rig, states: usize, h: usize, cells: &mut [u64]) -> Counted
-    requires { ⌜ Fits rig states h (length (now cells)) ⌝ }
-    ensures { λ r. ⌜ countAnswer r ≡ countFrom (recordAutomaton rig) h 0 ⌝ }
+fn count_cells(rig: Rig, states: usize, start: usize, h: usize, cells: &mut [u64]) -> Counted
+    requires { ⌜ Fits rig states start h (length (now cells)) ⌝ }
+    ensures { λ r. ⌜ countAnswer r ≡ countFrom (recordAutomaton rig) h start ⌝ }
     ensures { λ _. ⌜ now (cells .exit) ≡ filled (recordAutomaton rig) h (now (cells .entry)) ⌝ }
 {
     let mut table = [0u16; 16384];
-    let f = filling::fill_cells(rig, states, h, cells, &mut table);
+    let f = filling::fill_cells(rig, states, start, h, cells, &mut table);
     let checked = f.checked;
     match checked {
         Checked::Refused(number, place) => Counted::Refused(number, place),
@@ -68,7 +68,7 @@ pub fn count(text: &[u8], h: u64, cells: &mut [u64]) -> Counted
     let rig = o.rig;
     match checked {
         Checked::Refused(number, place) => Counted::Refused(number, place),
-        Checked::Passed => count_cells(rig, o.states, h as usize, cells),
+        Checked::Passed => count_cells(rig, o.states, o.start, h as usize, cells),
     }
 }
 
@@ -76,23 +76,24 @@ pub fn count(text: &[u8], h: u64, cells: &mut [u64]) -> Counted
 fn list_cells(
     rig: Rig,
     states: usize,
+    start: usize,
     h: usize,
     list: &[u64],
     cells: &mut [u64],
     out: &mut [u8],
 ) -> Listed
-    requires { ⌜ Fits rig states h (length (now cells)) × (length (now list) * h ≤ length (now out)) ⌝ }
-    ensures { λ r. ⌜ listAnswer r ≡ listFrom (recordAutomaton rig) h 0 (now (list .entry)) ⌝ }
+    requires { ⌜ Fits rig states start h (length (now cells)) × (length (now list) * h ≤ length (now out)) ⌝ }
+    ensures { λ r. ⌜ listAnswer r ≡ listFrom (recordAutomaton rig) h start (now (list .entry)) ⌝ }
     ensures { λ _. ⌜ now (cells .exit) ≡ filled (recordAutomaton rig) h (now (cells .entry)) ⌝ }
-    ensures { λ r. ⌜ now (out .exit) ≡ outputFrom (recordAutomaton rig) h 0 (listAnswer r) (now (list .entry)) (now (out .entry)) ⌝ }
+    ensures { λ r. ⌜ now (out .exit) ≡ outputFrom (recordAutomaton rig) h start (listAnswer r) (now (list .entry)) (now (out .entry)) ⌝ }
 {
     let mut table = [0u16; 16384];
-    let f = filling::fill_cells(rig, states, h, cells, &mut table);
+    let f = filling::fill_cells(rig, states, start, h, cells, &mut table);
     let checked = f.checked;
     match checked {
         Checked::Refused(number, place) => Listed::Refused(number, place),
         Checked::Passed => {
-            let at = ranking::unrank_list(cells, &table, states, 0, h, f.count, list, out);
+            let at = ranking::unrank_list(cells, &table, states, start, h, f.count, list, out);
             if at < list.len() {
                 return Listed::Refused(11, at as u64);
             }
@@ -114,7 +115,7 @@ pub fn scenarios(text: &[u8], h: u64, list: &[u64], cells: &mut [u64], out: &mut
         Checked::Refused(number, place) => Listed::Refused(number, place),
         Checked::Passed => {
             if ranking::fits(list.len(), h as usize, out.len()) {
-                return list_cells(rig, o.states, h as usize, list, cells, out);
+                return list_cells(rig, o.states, o.start, h as usize, list, cells, out);
             }
             Listed::Refused(12, 0)
         }
@@ -122,19 +123,25 @@ pub fn scenarios(text: &[u8], h: u64, list: &[u64], cells: &mut [u64], out: &mut
 }
 
 // Index, once the checks up to 13 are passed.
-fn index_cells(rig: Rig, states: usize, sequence: &[u8], cells: &mut [u64]) -> Indexed
-    requires { ⌜ Fits rig states (length (now sequence)) (length (now cells)) ⌝ }
-    ensures { λ r. ⌜ indexAnswer r ≡ indexFrom (recordAutomaton rig) 0 (now (sequence .entry)) ⌝ }
+fn index_cells(
+    rig: Rig,
+    states: usize,
+    start: usize,
+    sequence: &[u8],
+    cells: &mut [u64],
+) -> Indexed
+    requires { ⌜ Fits rig states start (length (now sequence)) (length (now cells)) ⌝ }
+    ensures { λ r. ⌜ indexAnswer r ≡ indexFrom (recordAutomaton rig) start (now (sequence .entry)) ⌝ }
     ensures { λ _. ⌜ now (cells .exit) ≡ filled (recordAutomaton rig) (length (now (sequence .entry))) (now (cells .entry)) ⌝ }
 {
     let h = sequence.len();
     let mut table = [0u16; 16384];
-    let f = filling::fill_cells(rig, states, h, cells, &mut table);
+    let f = filling::fill_cells(rig, states, start, h, cells, &mut table);
     let checked = f.checked;
     match checked {
         Checked::Refused(number, place) => Indexed::Refused(number, place),
         Checked::Passed => {
-            let ranked = ranking::rank(cells, &table, states, 0, sequence);
+            let ranked = ranking::rank(cells, &table, states, start, sequence);
             match ranked {
                 Ranked::Index(i) => Indexed::Served(i),
                 Ranked::Violation(k) => Indexed::Refused(14, k as u64),
@@ -159,7 +166,7 @@ pub fn index(text: &[u8], sequence: &[u8], cells: &mut [u64]) -> Indexed
             if at < h {
                 return Indexed::Refused(13, at as u64);
             }
-            index_cells(rig, o.states, sequence, cells)
+            index_cells(rig, o.states, o.start, sequence, cells)
         }
     }
 }

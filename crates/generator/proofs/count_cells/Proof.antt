@@ -28,7 +28,7 @@ returns c =
     let st = c .before .before .before .before .before .before .before .before .before .before .args in
     let f = c .before .before .before .before .before .before .fill-cells in
     let k = c .before .checked .given in
-    (told-refused (recordAutomaton (st .rig)) (st .states) 0 (st .h) (f .result) _ _ _ (f .ensures) (k .0 .0) (k .0 .1 .0) (k .1) _, f .ensures .cells-filled)
+    (told-refused (recordAutomaton (st .rig)) (st .states) (st .start) (st .h) (f .result) _ _ _ (f .ensures) (k .0 .0) (k .0 .1 .0) (k .1) _, f .ensures .cells-filled)
 
 same-length-2 : tie.Need-same-length-2
 same-length-2 c = search needs
@@ -37,7 +37,7 @@ returns-2 : tie.Need-returns-2
 returns-2 c =
     let st = c .before .before .before .before .before .before .before .before .before .args in
     let f = c .before .before .before .before .before .fill-cells in
-    (told-count (recordAutomaton (st .rig)) (st .states) 0 (st .h) (f .result) _ _ _ (f .ensures) (c .enum-told .given .1), f .ensures .cells-filled)
+    (told-count (recordAutomaton (st .rig)) (st .states) (st .start) (st .h) (f .result) _ _ _ (f .ensures) (c .enum-told .given .1), f .ensures .cells-filled)
 
 pub count-cells-spec : {M : Type 1} → statement M
 count-cells-spec =

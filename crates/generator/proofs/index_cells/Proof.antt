@@ -33,8 +33,8 @@ rank-requires c κs =
     let f = c .before .before .before .before .before .before .before .fill-cells in
     let z = st .pre in (
       omega (arith, states-few (st .args .rig) (z .well-formed), z .joint),
-      z .some-states,
-      omega (arith, f .kept .1 .1 .1 .0, cell-room (length (st .args .sequence .now)) (st .args .states) (length (st .args .cells .now)) (z .some-states) (z .enough)),
+      z .start-below,
+      omega (arith, f .kept .1 .1 .1 .1 .0, cell-room (length (st .args .sequence .now)) (st .args .states) (st .args .start) (length (st .args .cells .now)) (z .start-below) (z .enough)),
     )
 
 enum-known-ranked : tie.Need-enum-known-ranked
@@ -51,7 +51,7 @@ returns c =
     let st = c .before .before .before .before .before .before .before .before .before .before .before .args in
     let f = c .before .before .before .before .before .before .fill-cells in
     let k = c .before .checked .given in
-    (told-refused (recordAutomaton (st .rig)) (st .states) 0 (length (st .sequence .now)) (f .result) _ _ _ (f .ensures) (k .0 .0) (k .0 .1 .0) (k .1) _, f .ensures .cells-filled)
+    (told-refused (recordAutomaton (st .rig)) (st .states) (st .start) (length (st .sequence .now)) (f .result) _ _ _ (f .ensures) (k .0 .0) (k .0 .1 .0) (k .1) _, f .ensures .cells-filled)
 
 same-length-2 : tie.Need-same-length-2
 same-length-2 c = search needs
@@ -65,8 +65,8 @@ returns-2 c =
     let e = c .before .before .before .before .before .before .enum-told .given .1 in
     let k = c .before .ranked .given in
     let A = recordAutomaton (st .rig) in
-    let exact = filled-exact A (st .states) h 0 _ _ (st .cells .now) (f .ensures .tabled) (f .ensures .cells-filled) (told-few A (st .states) 0 h (f .result) _ _ _ (f .ensures) e) in
-    (ranked-index A (st .sequence .now) (r .result) (r .ensures A exact) (k .0 .0) (k .1) ∙ told-passed A (st .states) 0 h (f .result) _ _ _ (f .ensures) e _, f .ensures .cells-filled)
+    let exact = filled-exact A (st .states) h (st .start) _ _ (st .cells .now) (f .ensures .tabled) (f .ensures .cells-filled) (told-few A (st .states) (st .start) h (f .result) _ _ _ (f .ensures) e) in
+    (ranked-index A (st .start) (st .sequence .now) (r .result) (r .ensures A exact) (k .0 .0) (k .1) ∙ told-passed A (st .states) (st .start) h (f .result) _ _ _ (f .ensures) e _, f .ensures .cells-filled)
 
 same-length-3 : tie.Need-same-length-3
 same-length-3 c = search needs
@@ -80,8 +80,8 @@ returns-3 c =
     let e = c .before .before .before .before .before .before .enum-told .given .1 in
     let k = c .before .ranked2 .given in
     let A = recordAutomaton (st .rig) in
-    let exact = filled-exact A (st .states) h 0 _ _ (st .cells .now) (f .ensures .tabled) (f .ensures .cells-filled) (told-few A (st .states) 0 h (f .result) _ _ _ (f .ensures) e) in
-    (ranked-violation A (st .sequence .now) (r .result) (r .ensures A exact) (k .0 .0) (k .1) ∙ told-passed A (st .states) 0 h (f .result) _ _ _ (f .ensures) e _, f .ensures .cells-filled)
+    let exact = filled-exact A (st .states) h (st .start) _ _ (st .cells .now) (f .ensures .tabled) (f .ensures .cells-filled) (told-few A (st .states) (st .start) h (f .result) _ _ _ (f .ensures) e) in
+    (ranked-violation A (st .start) (st .sequence .now) (r .result) (r .ensures A exact) (k .0 .0) (k .1) ∙ told-passed A (st .states) (st .start) h (f .result) _ _ _ (f .ensures) e _, f .ensures .cells-filled)
 
 pub index-cells-spec : {M : Type 1} → statement M
 index-cells-spec =

@@ -34,8 +34,8 @@ unrank-list-requires c κs =
     let f = c .before .before .before .before .before .before .before .before .fill-cells in
     let z = st .pre .0 in (
       omega (arith, states-few (st .args .rig) (z .well-formed), z .joint),
-      z .some-states,
-      omega (arith, f .kept .1 .1 .1 .0, cell-room (st .args .h) (st .args .states) (length (st .args .cells .now)) (z .some-states) (z .enough)),
+      z .start-below,
+      omega (arith, f .kept .1 .1 .1 .1 .0, cell-room (st .args .h) (st .args .states) (st .args .start) (length (st .args .cells .now)) (z .start-below) (z .enough)),
       st .pre .1,
     )
 
@@ -52,11 +52,11 @@ returns c =
     let u = c .before .before .before .unrank-list in
     let e = c .before .before .before .before .before .before .before .enum-told .given .1 in
     let A = recordAutomaton (st .rig) in
-    let x = told-exact A (st .states) 0 (st .h) (f .result) _ _ _ (f .ensures) e in
-    let exact = filled-exact A (st .states) (st .h) 0 _ _ (st .cells .now) (f .ensures .tabled) (f .ensures .cells-filled) (told-few A (st .states) 0 (st .h) (f .result) _ _ _ (f .ensures) e) in
+    let x = told-exact A (st .states) (st .start) (st .h) (f .result) _ _ _ (f .ensures) e in
+    let exact = filled-exact A (st .states) (st .h) (st .start) _ _ (st .cells .now) (f .ensures .tabled) (f .ensures .cells-filled) (told-few A (st .states) (st .start) (st .h) (f .result) _ _ _ (f .ensures) e) in
     let w = u .ensures .1 A exact x in
-    let a = listed-bad A (st .h) (f .result .count) (u .result) (st .list .now) (st .out .now) (u .last .1 .1 .1 .1 .1 .1 .1 .0) x (u .ensures .0) w (c .if1 .taken) in
-    (a .0 ∙ told-passed A (st .states) 0 (st .h) (f .result) _ _ _ (f .ensures) e _, (f .ensures .cells-filled, a .1))
+    let a = listed-bad A (st .h) (st .start) (f .result .count) (u .result) (st .list .now) (st .out .now) (u .last .1 .1 .1 .1 .1 .1 .1 .0) x (u .ensures .0) w (c .if1 .taken) in
+    (a .0 ∙ told-passed A (st .states) (st .start) (st .h) (f .result) _ _ _ (f .ensures) e _, (f .ensures .cells-filled, a .1))
 
 same-length-3 : tie.Need-same-length-3
 same-length-3 c = search needs
@@ -67,7 +67,7 @@ returns-2 c =
     let st = c .before .before .before .before .before .before .before .before .before .before .before .before .args in
     let f = c .before .before .before .before .before .before .fill-cells in
     let k = c .before .checked .given in
-    (told-refused (recordAutomaton (st .rig)) (st .states) 0 (st .h) (f .result) _ _ _ (f .ensures) (k .0 .0) (k .0 .1 .0) (k .1) _, (f .ensures .cells-filled, refl))
+    (told-refused (recordAutomaton (st .rig)) (st .states) (st .start) (st .h) (f .result) _ _ _ (f .ensures) (k .0 .0) (k .0 .1 .0) (k .1) _, (f .ensures .cells-filled, refl))
 
 same-length-4 : tie.Need-same-length-4
 same-length-4 c = search needs
@@ -82,11 +82,11 @@ returns-3 c =
     let u = c .before .before .before .unrank-list in
     let e = c .before .before .before .before .before .before .before .enum-told .given .1 in
     let A = recordAutomaton (st .rig) in
-    let x = told-exact A (st .states) 0 (st .h) (f .result) _ _ _ (f .ensures) e in
-    let exact = filled-exact A (st .states) (st .h) 0 _ _ (st .cells .now) (f .ensures .tabled) (f .ensures .cells-filled) (told-few A (st .states) 0 (st .h) (f .result) _ _ _ (f .ensures) e) in
+    let x = told-exact A (st .states) (st .start) (st .h) (f .result) _ _ _ (f .ensures) e in
+    let exact = filled-exact A (st .states) (st .h) (st .start) _ _ (st .cells .now) (f .ensures .tabled) (f .ensures .cells-filled) (told-few A (st .states) (st .start) (st .h) (f .result) _ _ _ (f .ensures) e) in
     let w = u .ensures .1 A exact x in
-    let a = listed-good A (st .h) (f .result .count) (u .result) (st .list .now) (st .out .now) (u .last .1 .1 .1 .1 .1 .1 .1 .0) x (u .ensures .0) w (c .if1 .left) in
-    (a .0 ∙ told-passed A (st .states) 0 (st .h) (f .result) _ _ _ (f .ensures) e _, (f .ensures .cells-filled, a .1))
+    let a = listed-good A (st .h) (st .start) (f .result .count) (u .result) (st .list .now) (st .out .now) (u .last .1 .1 .1 .1 .1 .1 .1 .0) x (u .ensures .0) w (c .if1 .left) in
+    (a .0 ∙ told-passed A (st .states) (st .start) (st .h) (f .result) _ _ _ (f .ensures) e _, (f .ensures .cells-filled, a .1))
 
 pub list-cells-spec : {M : Type 1} → statement M
 list-cells-spec =
