@@ -123,13 +123,7 @@ pub fn scenarios(text: &[u8], h: u64, list: &[u64], cells: &mut [u64], out: &mut
 }
 
 // Index, once the checks up to 13 are passed.
-fn index_cells(
-    rig: Rig,
-    states: usize,
-    start: usize,
-    sequence: &[u8],
-    cells: &mut [u64],
-) -> Indexed
+fn index_cells(rig: Rig, states: usize, start: usize, sequence: &[u8], cells: &mut [u64]) -> Indexed
     requires { ⌜ Fits rig states start (length (now sequence)) (length (now cells)) ⌝ }
     ensures { λ r. ⌜ indexAnswer r ≡ indexFrom (recordAutomaton rig) start (now (sequence .entry)) ⌝ }
     ensures { λ _. ⌜ now (cells .exit) ≡ filled (recordAutomaton rig) (length (now (sequence .entry))) (now (cells .entry)) ⌝ }

@@ -45,13 +45,13 @@ pub begins-as : (a a′ : Answer) (A A′ : Automaton) (x x′ h h′ : ℕ) (c 
 begins-as a a′ A A′ x x′ h h′ c d l cells table p q r s w = rw (← p, ← q, ← r, ← s) w
 
 pub begins-refused : (n p : ℕ) (A : Automaton) (x h m : ℕ) (d l cells table : List ℕ) → Leads (headLine (refused n p)) m d l
-    → Begins (refused n p) A x h (record { length = m; index = 0; lines = 0; horizon = 0; states = 1 }) d l cells table
+    → Begins (refused n p) A x h (record { length = m; index = 0; lines = 0; horizon = 0; states = 1; start = 0 }) d l cells table
 begins-refused n p A x h m d l cells table w = record {
-  limits = record { short = omega arith; some-states = omega arith; few-states = omega arith; enough = omega arith; few-lines = omega arith };
+  limits = record { short = omega arith; start-below = omega arith; few-states = omega arith; enough = omega arith; few-lines = omega arith };
   first = w;
   none-yet = refl;
   follows = refl;
-  idle = λ e. (refl, refl);
+  idle = λ e. (refl, refl, refl);
   serves = λ lt. absurd (omega arith);
 }
 
@@ -61,14 +61,14 @@ rows-room : (h p n : ℕ) → (h + 1) * p ≤ n → h * p ≤ n
 rows-room h p n le = omega (arith, suc-mul h p, ap (λ (i : ℕ). i * p) (add-one h))
 
 -- cells that are filled, and a count that is exact, serve the lines
-pub begins-counted : (r : Rig) (states h m n : ℕ) (f : Filled) (old d l cells table : List ℕ) → Fits r states h (length old) → length old ≡ 8192
-    → FilledBy (recordAutomaton r) states 0 h f old cells table → f .checked ≡ Passed → n ≡ min (f .count) 1000
+pub begins-counted : (r : Rig) (states x h m n : ℕ) (f : Filled) (old d l cells table : List ℕ) → Fits r states x h (length old) → length old ≡ 8192
+    → FilledBy (recordAutomaton r) states x h f old cells table → f .checked ≡ Passed → n ≡ min (f .count) 1000
     → Leads (numbersOf (bytes "count") (f .count) (f .passes)) m d l
-    → Begins (countFrom (recordAutomaton r) h 0) (recordAutomaton r) 0 h (record { length = m; index = 0; lines = n; horizon = h; states = states }) d l cells table
-begins-counted r states h m n f old d l cells table z long fs e q w = rw (← told-count A states 0 h f old cells table fs e) (record {
+    → Begins (countFrom (recordAutomaton r) h x) (recordAutomaton r) x h (record { length = m; index = 0; lines = n; horizon = h; states = states; start = x }) d l cells table
+begins-counted r states x h m n f old d l cells table z long fs e q w = rw (← told-count A states x h f old cells table fs e) (record {
   limits = record {
     short = z .horizon;
-    some-states = z .some-states;
+    start-below = z .start-below;
     few-states = omega (arith, states-few r (z .well-formed), z .joint);
     enough = omega (arith, rows-room h states (length old) (z .enough));
     few-lines = omega arith;
@@ -81,7 +81,7 @@ begins-counted r states h m n f old d l cells table z long fs e q w = rw (← to
     refl,
     record {
       starts = refl;
-      exact = filled-exact A states h 0 table cells old (fs .tabled) (fs .cells-filled) (told-few A states 0 h f old cells table fs e);
+      exact = filled-exact A states h x table cells old (fs .tabled) (fs .cells-filled) (told-few A states x h f old cells table fs e);
       below = omega (arith, count-is);
     },
   );
@@ -90,11 +90,11 @@ begins-counted r states h m n f old d l cells table z long fs e q w = rw (← to
     A : Automaton
     A = recordAutomaton r
 
-    count-is : f .count ≡ N A h 0
-    count-is = told-exact A states 0 h f old cells table fs e
+    count-is : f .count ≡ N A h x
+    count-is = told-exact A states x h f old cells table fs e
 
     some-count : 1 ≤ f .count
-    some-count = rw count-is (told-some A states 0 h f old cells table fs e)
+    some-count = rw count-is (told-some A states x h f old cells table fs e)
 
 -- ---- the input
 
@@ -177,7 +177,7 @@ module _ (input : List ℕ) (r : Asked) (a : r ≡ askedAs (asked input) (indexO
 -- ---- the line of an index
 
 pub leads-next : (t : List ℕ) (c : Cursor) (cells table es d line l : List ℕ) (r : ℕ) → Serves t c cells table → c .index < c .lines
-    → EventsBy table cells (c .states) (c .horizon) (c .index) d es
+    → EventsBy table cells (c .states) (c .start) (c .horizon) (c .index) d es
     → r ≡ length (lineOf (c .index) (take (c .horizon) es)) → l ≡ lineOf (c .index) (take (c .horizon) es) ++ drop (length (lineOf (c .index) (take (c .horizon) es))) line
     → Leads (scenarioLine t (c .horizon) (c .index)) r line l
 unfolding scenarioLine
@@ -189,17 +189,22 @@ leads-next t c cells table es d line l r ls lt u e w = rw (← events-are) (reco
     h : ℕ
     h = c .horizon
 
-    is-below : c .index < N A h 0
+    x : ℕ
+    x = start t
+
+    is-below : c .index < N A h x
     is-below = omega (arith, ls .below)
+
+    written : EventsBy table cells (c .states) x h (c .index) d es
+    written = rw (ls .starts) at u
 
     events-are : take (c .horizon) es ≡ unrank (rigAutomaton t) (c .horizon) (start t) (c .index)
     events-are =
-        ap (take h) (u A (ls .exact) is-below)
-        ∙ take-at (unrank A h 0 (c .index)) (drop h d) h (length-unrank A h 0 (c .index) is-below)
-        ∙ ap (λ (x : ℕ). unrank A h x (c .index)) (sym (ls .starts))
+        ap (take h) (written A (ls .exact) is-below)
+        ∙ take-at (unrank A h x (c .index)) (drop h d) h (length-unrank A h x (c .index) is-below)
 
 -- what unranking wrote to the part lent, seen in the whole
-pub events-front : (table cells : List ℕ) (p h i : ℕ) (part ys rest : List ℕ) → length part ≡ h → UnrankedBy table cells p 0 i part ys
-    → (A : Automaton) → Exact A p h 0 table cells → i < N A h 0 → ys ++ rest ≡ unrank A h 0 i ++ rest
-events-front table cells p h i part ys rest q u A x b =
-    ap (λ (l : List ℕ). l ++ rest) (subst (λ (n : ℕ). Exact A p n 0 table cells → i < N A n 0 → ys ≡ unrank A n 0 i) q (u A) x b)
+pub events-front : (table cells : List ℕ) (p x h i : ℕ) (part ys rest : List ℕ) → length part ≡ h → UnrankedBy table cells p x i part ys
+    → (A : Automaton) → Exact A p h x table cells → i < N A h x → ys ++ rest ≡ unrank A h x i ++ rest
+events-front table cells p x h i part ys rest q u A e b =
+    ap (λ (l : List ℕ). l ++ rest) (subst (λ (n : ℕ). Exact A p n x table cells → i < N A n x → ys ≡ unrank A n x i) q (u A) e b)

@@ -33,9 +33,9 @@ module _ (input : List ℕ) (c : Cursor) (cells table : List ℕ) where
     line-within = omega (arith, s .told, sym (length-take (c .length) line) ∙ ap length (s .written))
 
     pub stands-next : (n : ℕ) (left : List ℕ) → c .index < c .lines → Leads (scenarioLine (text input) (c .horizon) (c .index)) n line left
-        → StandsAt input (suc k) (record { length = n; index = c .index + 1; lines = c .lines; horizon = c .horizon; states = c .states }) cells table left
+        → StandsAt input (suc k) (record { length = n; index = c .index + 1; lines = c .lines; horizon = c .horizon; states = c .states; start = c .start }) cells table left
     stands-next n left lt w = record {
-      limits = record { short = s .limits .short; some-states = s .limits .some-states; few-states = s .limits .few-states; enough = s .limits .enough; few-lines = s .limits .few-lines };
+      limits = record { short = s .limits .short; start-below = s .limits .start-below; few-states = s .limits .few-states; enough = s .limits .enough; few-lines = s .limits .few-lines };
       told = w .told ∙ ap length line-is;
       written = ap (take n) (w .written) ∙ take-at (scenarioLine (text input) (c .horizon) (c .index)) _ n (sym (w .told)) ∙ line-is;
       comes-next = omega (arith, s .comes-next);
@@ -50,9 +50,9 @@ module _ (input : List ℕ) (c : Cursor) (cells table : List ℕ) where
         line-is : scenarioLine (text input) (c .horizon) (c .index) ≡ lineAt input (suc k)
         line-is = rw (s .serves (omega arith) .0, at) (sym (later-line input k (omega (arith, s .comes-next, s .follows))))
 
-    pub stands-ended : c .lines ≤ c .index → StandsAt input (suc k) (record { length = 0; index = c .index; lines = c .lines; horizon = c .horizon; states = c .states }) cells table line
+    pub stands-ended : c .lines ≤ c .index → StandsAt input (suc k) (record { length = 0; index = c .index; lines = c .lines; horizon = c .horizon; states = c .states; start = c .start }) cells table line
     stands-ended le = record {
-      limits = record { short = s .limits .short; some-states = s .limits .some-states; few-states = s .limits .few-states; enough = s .limits .enough; few-lines = s .limits .few-lines };
+      limits = record { short = s .limits .short; start-below = s .limits .start-below; few-states = s .limits .few-states; enough = s .limits .enough; few-lines = s .limits .few-lines };
       told = rw none-left;
       written = rw none-left;
       comes-next = omega (arith, s .comes-next);

@@ -47,7 +47,7 @@ pub record OwnedBuffers (cells table line : List ℕ) : Type 0 where
 
 pub record WithinLimits (c : Cursor) (room : ℕ) : Type 0 where
   pub short : c .horizon ≤ 1000
-  pub some-states : 0 < c .states
+  pub start-below : c .start < c .states
   pub few-states : c .states ≤ 1024
   pub enough : c .horizon * c .states ≤ room
   pub few-lines : c .lines ≤ 1000
@@ -57,13 +57,13 @@ pub record Leads (s : List ℕ) (n : ℕ) (line left : List ℕ) : Type 0 where
   pub written : left ≡ s ++ drop (length s) line
 
 pub record Lists (A : Automaton) (x : ℕ) (c : Cursor) (cells table : List ℕ) : Type 0 where
-  pub starts : x ≡ 0
-  pub exact : Exact A (c .states) (c .horizon) 0 table cells
-  pub below : c .lines ≤ N A (c .horizon) 0
+  pub starts : c .start ≡ x
+  pub exact : Exact A (c .states) (c .horizon) x table cells
+  pub below : c .lines ≤ N A (c .horizon) x
 
 -- the scenario of index i is written over the first h bytes
-abbrev pub EventsBy : List ℕ → List ℕ → ℕ → ℕ → ℕ → List ℕ → List ℕ → Type 0
-EventsBy table cells states h i events left = (A : Automaton) → Exact A states h 0 table cells → i < N A h 0 → left ≡ unrank A h 0 i ++ drop h events
+abbrev pub EventsBy : List ℕ → List ℕ → ℕ → ℕ → ℕ → ℕ → List ℕ → List ℕ → Type 0
+EventsBy table cells states x h i events left = (A : Automaton) → Exact A states h x table cells → i < N A h x → left ≡ unrank A h x i ++ drop h events
 
 abbrev pub Serves : List ℕ → Cursor → List ℕ → List ℕ → Type 0
 Serves t c cells table = Lists (rigAutomaton t) (start t) c cells table
@@ -73,17 +73,17 @@ pub record Begins (a : Answer) (A : Automaton) (x h : ℕ) (c : Cursor) (line le
   pub first : Leads (headLine a) (c .length) line left
   pub none-yet : c .index ≡ 0
   pub follows : c .lines ≡ follow a
-  -- beside a refusal horizon and states are fixed too
-  pub idle : c .lines ≡ 0 → (c .horizon ≡ 0) × (c .states ≡ 1)
+  -- beside a refusal horizon, states and start are fixed too
+  pub idle : c .lines ≡ 0 → (c .horizon ≡ 0) × (c .states ≡ 1) × (c .start ≡ 0)
   pub serves : 0 < c .lines → (c .horizon ≡ h) × Lists A x c cells table
 
 -- the line `no`, whatever the automaton, the horizon, the cells and the table are
 abbrev pub BeginsRefused : ℕ → ℕ → Cursor → List ℕ → List ℕ → Type 0
 BeginsRefused number place c line left = (A : Automaton) (x h : ℕ) (cells table : List ℕ) → Begins (refused number place) A x h c line left cells table
 
--- what Count answers from row 9 on, from state 0
-abbrev pub BeginsCounted : Automaton → ℕ → Cursor → List ℕ → List ℕ → List ℕ → List ℕ → Type 0
-BeginsCounted A h c line left cells table = Begins (countFrom A h 0) A 0 h c line left cells table
+-- what Count answers from row 9 on, from the start x
+abbrev pub BeginsCounted : Automaton → ℕ → ℕ → Cursor → List ℕ → List ℕ → List ℕ → List ℕ → Type 0
+BeginsCounted A x h c line left cells table = Begins (countFrom A h x) A x h c line left cells table
 
 -- the line of the index that comes next, wherever the lines are served
 abbrev pub LeadsNext : Cursor → List ℕ → List ℕ → ℕ → List ℕ → List ℕ → Type 0
@@ -98,7 +98,7 @@ pub record StandsAt (input : List ℕ) (k : ℕ) (c : Cursor) (cells table line 
   pub written : take (c .length) line ≡ lineAt input k
   pub comes-next : c .index ≡ min k (c .lines)
   pub follows : c .lines ≡ follow (answer input)
-  pub idle : c .lines ≡ 0 → (c .horizon ≡ 0) × (c .states ≡ 1)
+  pub idle : c .lines ≡ 0 → (c .horizon ≡ 0) × (c .states ≡ 1) × (c .start ≡ 0)
   pub serves : 0 < c .lines → (c .horizon ≡ horizon input) × Serves (text input) c cells table
 
 -- c stands somewhere in the listing of some input

@@ -29,6 +29,7 @@ pub struct Cursor {
     pub lines: u64,
     pub horizon: usize,
     pub states: usize,
+    pub start: usize,
 }
 
 // Whether a line begins with `ask` and byte 9.
@@ -85,6 +86,7 @@ fn refuse(number: u64, place: u64, line: &mut [u8]) -> Cursor
         lines: 0,
         horizon: 0,
         states: 1,
+        start: 0,
     }
 }
 
@@ -99,17 +101,18 @@ fn first_lines(n: u64) -> u64
 fn begin_counted(
     rig: Rig,
     states: usize,
+    start: usize,
     h: usize,
     cells: &mut [u64],
     table: &mut [u16],
     line: &mut [u8],
 ) -> Cursor
-    requires { ⌜ Fits rig states h (length (now cells)) ⌝ }
+    requires { ⌜ Fits rig states start h (length (now cells)) ⌝ }
     requires { ⌜ OwnedBuffers (now cells) (now table) (now line) ⌝ }
-    ensures { λ c. ⌜ BeginsCounted (recordAutomaton rig) h c (now (line .entry)) (now (line .exit)) (now (cells .exit)) (now (table .exit)) ⌝ }
+    ensures { λ c. ⌜ BeginsCounted (recordAutomaton rig) start h c (now (line .entry)) (now (line .exit)) (now (cells .exit)) (now (table .exit)) ⌝ }
     ensures { λ _. ⌜ now (cells .exit) ≡ filled (recordAutomaton rig) h (now (cells .entry)) ⌝ }
 {
-    let f = filling::fill_cells(rig, states, h, cells, table);
+    let f = filling::fill_cells(rig, states, start, h, cells, table);
     let checked = f.checked;
     match checked {
         Checked::Refused(number, place) => refuse(number, place, line),
@@ -119,6 +122,7 @@ fn begin_counted(
             lines: first_lines(f.count),
             horizon: h,
             states,
+            start,
         },
     }
 }
@@ -140,7 +144,7 @@ fn begin_text(
     let rig = o.rig;
     match checked {
         Checked::Refused(number, place) => refuse(number, place, line),
-        Checked::Passed => begin_counted(rig, o.states, h, cells, table, line),
+        Checked::Passed => begin_counted(rig, o.states, o.start, h, cells, table, line),
     }
 }
 
@@ -161,14 +165,15 @@ fn write_events(
     cells: &[u64],
     table: &[u16; 16384],
     states: usize,
+    start: usize,
     h: usize,
     i: u64,
     events: &mut [u8],
 )
-    requires { ⌜ (states ≤ 1024) × (0 < states) × (h * states ≤ length (now cells)) × (h ≤ length (now events)) ⌝ }
-    ensures { λ _. ⌜ EventsBy (now (table .entry)) (now (cells .entry)) states h i (now (events .entry)) (now (events .exit)) ⌝ }
+    requires { ⌜ (states ≤ 1024) × (start < states) × (h * states ≤ length (now cells)) × (h ≤ length (now events)) ⌝ }
+    ensures { λ _. ⌜ EventsBy (now (table .entry)) (now (cells .entry)) states start h i (now (events .entry)) (now (events .exit)) ⌝ }
 {
-    ranking::unrank(cells, table, states, 0, i, &mut events[..h]);
+    ranking::unrank(cells, table, states, start, i, &mut events[..h]);
 }
 
 // Writes the line of the index that comes next at the front of `line`. Gives the line's length.
@@ -178,7 +183,7 @@ fn write_next(c: Cursor, cells: &[u64], table: &[u16; 16384], line: &mut [u8]) -
 {
     let h = c.horizon;
     let mut events = [0u8; 1000];
-    write_events(cells, table, c.states, h, c.index, &mut events);
+    write_events(cells, table, c.states, c.start, h, c.index, &mut events);
     line::write_line(c.index, &events[..h], line)
 }
 

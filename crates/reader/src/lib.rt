@@ -130,13 +130,7 @@ fn take_go(moves: &mut [u8], z: Sizes, s: usize, e: usize, t: usize) -> Taken
 }
 
 // One line more.
-fn take_line(
-    moves: &mut [u8],
-    counts: &mut [u8],
-    starts: &mut [u8],
-    z: Sizes,
-    line: Form,
-) -> Taken
+fn take_line(moves: &mut [u8], counts: &mut [u8], starts: &mut [u8], z: Sizes, line: Form) -> Taken
     requires { ⌜ (length (now moves) ≡ 2048) × (length (now counts) ≡ 4) × (length (now starts) ≡ 4) × Allowed z ⌝ }
     ensures { λ r. ⌜ r ≡ taken (caseOf (now (moves .entry)) z line) (sizesAfter z line) ⌝ }
     ensures { λ _. ⌜ now (moves .exit) ≡ onlyIf (caseOf (now (moves .entry)) z line) (movesAfter (now (moves .entry)) z line) (now (moves .entry)) ⌝ }

@@ -49,8 +49,8 @@ returns c =
     let f = c .before .before .before .before .before .before .before .before .before .before .before .fill-cells in
     let k = c .before .before .before .before .before .checked .given in
     let A = recordAutomaton (st .rig) in
-    let a = told-refused A (st .states) 0 (st .h) (f .result) _ _ _ (f .ensures) (k .0 .0) (k .0 .1 .0) (k .1) _ in
-    (begins-as _ _ A A 0 0 (st .h) (st .h) _ _ _ _ _ a refl refl refl (c .before .before .refuse .ensures A 0 (st .h) _ _), f .ensures .cells-filled)
+    let a = told-refused A (st .states) (st .start) (st .h) (f .result) _ _ _ (f .ensures) (k .0 .0) (k .0 .1 .0) (k .1) _ in
+    (begins-as _ _ A A (st .start) (st .start) (st .h) (st .h) _ _ _ _ _ a refl refl refl (c .before .before .refuse .ensures A (st .start) (st .h) _ _), f .ensures .cells-filled)
 
 same-length-4 : tie.Need-same-length-4
 same-length-4 c = search needs
@@ -67,7 +67,7 @@ returns-2 c =
     let f = c .before .before .before .before .before .before .before .before .before .before .before .before .fill-cells in
     let w = c .before .before .before .write-numbers in
     let e = c .before .before .before .before .before .before .enum-told .given .1 in
-    (begins-counted (st .args .rig) (st .args .states) (st .args .h) (w .result) (c .first-lines .result) (f .result) (st .args .cells .now) (st .args .line .now) _ _ _ (st .pre .0) (st .pre .1 .cells-long) (f .ensures) e (c .first-lines .ensures) (record { told = w .ensures .0; written = w .ensures .1 }), f .ensures .cells-filled)
+    (begins-counted (st .args .rig) (st .args .states) (st .args .start) (st .args .h) (w .result) (c .first-lines .result) (f .result) (st .args .cells .now) (st .args .line .now) _ _ _ (st .pre .0) (st .pre .1 .cells-long) (f .ensures) e (c .first-lines .ensures) (record { told = w .ensures .0; written = w .ensures .1 }), f .ensures .cells-filled)
 
 pub begin-counted-spec : {M : Type 1} → statement M
 begin-counted-spec =

@@ -57,7 +57,7 @@ returns-2 c =
     let n = c .before .before .before .before .before .before .begin-counted in
     let r = o .ensures .ready e in
     let a = count-is (st .text .now) (st .h) (length (st .cells .now)) (o .result) (o .ensures) (st .cells .now) refl e in
-    (begins-as _ _ _ _ _ _ _ _ _ _ _ _ _ a (r .automaton) (sym (r .starts)) refl (n .ensures .0), count-cells-are (st .text .now) (st .h) (length (st .cells .now)) (o .result) (o .ensures) (st .cells .now) refl e _ (n .ensures .1))
+    (begins-as _ _ _ _ _ _ _ _ _ _ _ _ _ a (r .automaton) (r .starts) refl (n .ensures .0), count-cells-are (st .text .now) (st .h) (length (st .cells .now)) (o .result) (o .ensures) (st .cells .now) refl e _ (n .ensures .1))
 
 pub begin-text-spec : {M : Type 1} → statement M
 begin-text-spec =

@@ -26,7 +26,7 @@ same-length c = search needs
 returns : tie.Need-returns
 returns c =
     let st = c .before .before .before .before .before .before in
-    events-front (st .args .table .now) (st .args .cells .now) (st .args .states) (st .args .h) (st .args .i) (take (st .args .h) (st .args .events .now)) _ _ (length-take-le (st .args .h) (st .args .events .now) (st .pre .3)) (c .before .before .unrank .ensures)
+    events-front (st .args .table .now) (st .args .cells .now) (st .args .states) (st .args .start) (st .args .h) (st .args .i) (take (st .args .h) (st .args .events .now)) _ _ (length-take-le (st .args .h) (st .args .events .now) (st .pre .3)) (c .before .before .unrank .ensures)
 
 pub write-events-spec : {M : Type 1} → statement M
 write-events-spec =

@@ -26,7 +26,7 @@ slice-aggregate-write-line : tie.Need-slice-aggregate-write-line
 slice-aggregate-write-line c =
     let st = c .before .before .before .before .before .before in
     let u = c .before .before .write-events in
-    sym (length-take-le (st .args .c .horizon) _ (omega (arith, u .kept .1 .1 .1 .1 .1 .0, length-replicate {A = ℕ} 1000 0, st .pre .0 .short)))
+    sym (length-take-le (st .args .c .horizon) _ (omega (arith, u .kept .1 .1 .1 .1 .1 .1 .0, length-replicate {A = ℕ} 1000 0, st .pre .0 .short)))
 
 write-line-requires : tie.Need-write-line-requires
 write-line-requires c κs =
