@@ -84,7 +84,7 @@ pub fn listing(input: &[u8]) -> Listing {
     let mut printed = line(&[b"count".to_vec(), decimal(n), decimal(passes)]);
     let pruned = model::prune(&model::read(text).expect("a readable text"));
     let mut found = vec![];
-    walk(&pruned, 0, horizon as usize, &mut vec![], &mut found);
+    walk(&pruned, pruned.start, horizon as usize, &mut vec![], &mut found);
     assert_eq!(found.len() as u64, n.min(LINES as u64), "the independent count of the sequences that are walked");
     for (i, events) in found.iter().enumerate() {
         let fields: Vec<Vec<u8>> = [i as u64].into_iter().chain(events.iter().map(|&e| e as u64)).map(decimal).collect();

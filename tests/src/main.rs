@@ -5,7 +5,7 @@ use outside::calls::{self, Told};
 use outside::guarded::{bytes, noise_bytes, noise_words, words, Guarded};
 use outside::model;
 use outside::random::Random;
-use outside::texts::{self, damage, text, Shape};
+use outside::texts::{self, damage, from_state_0, other_start, text, Shape};
 use std::collections::BTreeMap;
 
 #[derive(Default)]
@@ -104,7 +104,7 @@ fn shuffle(tally: &mut Tally, rng: &mut Random, n: u64, draws: &[u64], scratch: 
 
 /// The worked examples of the paper and of its table of refusals, with the answers written there.
 fn worked(tally: &mut Tally, rng: &mut Random) {
-    use texts::{A, B, F, ONE};
+    use texts::{A, A_FROM_1, B, F, ONE};
     let at = |t: &str, h: u64, cells: usize, number: u64, words: [u64; 2]| (t.as_bytes().to_vec(), h, cells, number, words);
     let two = "rig\t1\nmon\t32\nmon\t32\n".to_string();
     let mut counts = vec![
@@ -129,6 +129,20 @@ fn worked(tally: &mut Tally, rng: &mut Random) {
         at(&"\n".repeat(65536), 1, 2, 1, [0, 0]),
         at(&"\n".repeat(65535), 1, 2, 2, [1, 0]),
         at("rig\t2\nmon\t2\ngo\t0\t0\t0\ngo\t1\t0\t1\ngo\t1\t1\t1\n", 100, 202, 0, [1, 1]),
+        // a start: A from its state 1 has the sequences of A that begin with 0, without that 0
+        at(A_FROM_1, 0, 2, 0, [1, 1]),
+        at(A_FROM_1, 3, 8, 0, [3, 1]),
+        at("rig\t2\nmon\t2\t1\ngo\t0\t0\t0\ngo\t1\t0\t1\ngo\t1\t1\t1\n", 100, 202, 10, [0, 0]),
+        at("rig\t1\nmon\t2\t1\ngo\t0\t0\t0\n", 0, 2, 9, [0, 0]),
+        at("rig\t1\nmon\t2\t2\n", 0, 2, 3, [2, 0]),
+        at("rig\t1\nmon\t1\t0\n", 0, 1, 9, [0, 0]),
+        at("rig\t1\nmon\t33\t0\n", 0, 2, 3, [2, 0]),
+        at("rig\t1\nmon\t2\t100000\n", 0, 2, 2, [2, 0]),
+        at("rig\t1\nmon\t2\t1\t0\n", 0, 2, 2, [2, 0]),
+        at("rig\t1\nmon\t2\t\n", 0, 2, 2, [2, 0]),
+        at("mon\t2\t2\n", 0, 2, 5, [1, 0]),
+        at(&(two.clone() + "mon\t2\t2\n"), 1, 2, 3, [4, 0]),
+        at(&(two.clone() + "mon\t2\t1\n"), 1, 2, 6, [4, 0]),
     ];
     let path: String = (0..31).map(|s| format!("go\t{s}\t0\t{}\n", s + 1)).collect();
     counts.push(at(&format!("rig\t1\nmon\t32\n{path}"), 0, 32, 9, [0, 0]));
@@ -260,6 +274,25 @@ fn demand(tally: &mut Tally, rng: &mut Random, t: &[u8], h: usize) {
             told_differs(told, 0, [0, 0]).or(told_differs(listed, 0, [0, 0])).or((!once).then(|| "not each scenario exactly once".into()));
         tally.note("demand 3: shuffle", 0, wrong, input);
     }
+}
+
+/// A readable rig and the same one with its states renumbered, so that every monitor starts in 0: the library tells the same count and passes,
+/// and writes the same scenarios.
+fn renumbered(tally: &mut Tally, rng: &mut Random, t: &[u8], h: u64) {
+    let rig = model::read(t).expect("a readable text");
+    let from_0 = from_state_0(&rig, rng);
+    let mut cells = vec![0u64; (h as usize + 1) * rig.joint_states()];
+    let told = calls::count(t, h, &mut cells);
+    let same = calls::count(&from_0, h, &mut cells);
+    let input = || format!("h {h}, {} and {}", shown(t), shown(&from_0));
+    tally.note("renumbered: count", same.number, told_differs(told, same.number, same.words), input);
+    let n = if same.number == 0 { same.words[0] } else { 0 };
+    let list: Vec<u64> = (0..n.min(40)).map(|i| if n <= 40 { i } else { rng.below(n) }).collect();
+    let (mut out, mut same_out) = (vec![1u8; list.len() * h as usize], vec![2u8; list.len() * h as usize]);
+    let told = calls::scenarios(t, h, &list, &mut cells, &mut out);
+    let same = calls::scenarios(&from_0, h, &list, &mut cells, &mut same_out);
+    let wrong = told_differs(told, same.number, same.words).or((same.number == 0 && out != same_out).then(|| "other bytes".into()));
+    tally.note("renumbered: scenarios", same.number, wrong, input);
 }
 
 /// Draws for a shuffle of n numbers, most of them valid.
@@ -417,7 +450,10 @@ fn main() {
     for _ in 0..60_000 {
         let most = *rng.pick(&[4, 12, 40]);
         let shape = Shape::small(rng, 4, most);
-        let t = text(&shape, rng);
+        let mut t = text(&shape, rng);
+        if rng.chance(1, 8) {
+            t = other_start(&t, rng);
+        }
         calls_on(&mut tally, rng, &t);
     }
     for _ in 0..1_500 {
@@ -438,6 +474,11 @@ fn main() {
         let t = text(&shape, rng);
         let h = rng.below(if shape.events == 3 { 6 } else { 8 }) as usize;
         demand(&mut tally, rng, &t, h);
+    }
+    for _ in 0..20_000 {
+        let t = text(&Shape::small(rng, 4, 40), rng);
+        let h = rng.below(20);
+        renumbered(&mut tally, rng, &t, h);
     }
     all_shuffles(&mut tally, rng);
     shuffles(&mut tally, rng, 200_000);

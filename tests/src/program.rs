@@ -2,7 +2,7 @@
 //! The last line is the number of inputs and of differences; the exit status is 0 only without any.
 use outside::listing::{listing, Outcome};
 use outside::random::Random;
-use outside::texts::{damage, text, Shape, A, B, F, ONE};
+use outside::texts::{damage, other_start, text, Shape, A, A_FROM_1, B, F, ONE};
 use std::collections::{BTreeMap, BTreeSet};
 use std::io::Write;
 use std::process::{ChildStdin, Command, Stdio};
@@ -92,6 +92,8 @@ fn ask(h: u64, t: &[u8]) -> Vec<u8> {
 fn worked(tally: &mut Tally) {
     let whole = "count\t5\t1\n0\t0\t0\t0\n1\t0\t0\t1\n2\t0\t1\t0\n3\t1\t0\t0\n4\t1\t0\t1\n";
     assert_eq!(tally.compare(&ask(3, A.as_bytes())), whole.as_bytes(), "the independent listing of the paper's example");
+    let whole = "count\t3\t1\n0\t0\t0\t0\n1\t0\t0\t1\n2\t0\t1\t0\n";
+    assert_eq!(tally.compare(&ask(3, A_FROM_1.as_bytes())), whole.as_bytes(), "the independent listing of A from its state 1");
     let long = "\n".repeat(65_535);
     let (two, four) = ("rig\t1\nmon\t32\nmon\t32\n", "rig\t1\nmon\t1\nmon\t1\nmon\t1\nmon\t1\n");
     let refused = [
@@ -106,6 +108,10 @@ fn worked(tally: &mut Tally) {
         (0, "rig\t1\nmon\t33\n".into(), "no\t3\t2\n"),
         (0, "rig\t1\nmon\t0\n".into(), "no\t3\t2\n"),
         (0, format!("{four}mon\t1\n"), "no\t3\t6\n"),
+        (0, "rig\t1\nmon\t2\t2\n".into(), "no\t3\t2\n"),
+        (0, "rig\t1\nmon\t2\t1\t0\n".into(), "no\t2\t2\n"),
+        (0, "rig\t1\nmon\t2\t01\n".into(), "no\t2\t2\n"),
+        (0, "mon\t2\t2\n".into(), "no\t5\t1\n"),
         (0, "rig\t2\nmon\t2\ngo\t2\t0\t0\n".into(), "no\t3\t3\n"),
         (0, "rig\t2\nmon\t2\ngo\t0\t2\t0\n".into(), "no\t3\t3\n"),
         (0, "rig\t2\nmon\t2\ngo\t0\t0\t2\n".into(), "no\t3\t3\n"),
@@ -135,7 +141,7 @@ fn worked(tally: &mut Tally) {
         tally.compare(&ask(h, format!("rig\t1\nmon\t{monitors}\n").as_bytes()));
     }
     for h in [0, 1, 2, 7, 30, 63, 999, 1000, 1001, 1002, 8191, 8192, 10_000, 65_535, 65_536, 99_999] {
-        for t in [A, B, F, ONE, two] {
+        for t in [A, A_FROM_1, B, F, ONE, two] {
             tally.compare(&ask(h, t.as_bytes()));
         }
     }
@@ -151,7 +157,7 @@ fn damaged(tally: &mut Tally) {
             tally.compare(&input);
         }
     }
-    let good = ask(10, A.as_bytes());
+    let good = ask(10, A_FROM_1.as_bytes());
     for at in 0..good.len() {
         tally.compare(&good[..at]);
         tally.compare(&[&good[..at], &good[at + 1..]].concat());
@@ -269,7 +275,10 @@ fn horizon(rng: &mut Random) -> u64 {
 fn random(tally: &mut Tally, rng: &mut Random) {
     for _ in 0..3_000 {
         let most = *rng.pick(&[4, 12, 40]);
-        let t = text(&Shape::small(rng, 4, most), rng);
+        let mut t = text(&Shape::small(rng, 4, most), rng);
+        if rng.chance(1, 8) {
+            t = other_start(&t, rng);
+        }
         tally.compare(&ask(horizon(rng), &t));
     }
     for _ in 0..100 {

@@ -1,7 +1,10 @@
 //! Rig texts: random ones that are readable, and damage done to them.
+use crate::model::Rig;
 use crate::random::Random;
 
 pub const A: &str = "rig\t2\nmon\t2\ngo\t0\t0\t0\ngo\t0\t1\t1\ngo\t1\t0\t0\n";
+/// A that begins in its state 1.
+pub const A_FROM_1: &str = "rig\t2\nmon\t2\t1\ngo\t0\t0\t0\ngo\t0\t1\t1\ngo\t1\t0\t0\n";
 pub const B: &str = "rig\t2\nmon\t2\ngo\t0\t0\t0\ngo\t0\t1\t1\ngo\t1\t0\t0\nmon\t2\ngo\t0\t0\t0\ngo\t0\t1\t1\ngo\t1\t1\t1\n";
 pub const F: &str = "rig\t2\nmon\t1\ngo\t0\t0\t0\ngo\t0\t1\t0\n";
 pub const ONE: &str = "rig\t1\nmon\t1\ngo\t0\t0\t0\n";
@@ -28,11 +31,20 @@ impl Shape {
     }
 }
 
+/// A `mon` line; one in three carries a start, which is below S.
+fn mon(s: u64, rng: &mut Random) -> String {
+    if rng.chance(1, 3) {
+        format!("mon\t{s}\t{}\n", rng.below(s))
+    } else {
+        format!("mon\t{s}\n")
+    }
+}
+
 /// A readable text of this shape; the `go` lines of a monitor stand in random order.
 pub fn text(shape: &Shape, rng: &mut Random) -> Vec<u8> {
     let mut t = format!("rig\t{}\n", shape.events);
     for &s in &shape.monitors {
-        t += &format!("mon\t{s}\n");
+        t += &mon(s, rng);
         let mut lines = vec![];
         for (x, e) in (0..s).flat_map(|x| (0..shape.events).map(move |e| (x, e))) {
             if rng.chance(shape.density, 100) {
@@ -41,6 +53,41 @@ pub fn text(shape: &Shape, rng: &mut Random) -> Vec<u8> {
             }
         }
         t += &lines.concat();
+    }
+    t.into_bytes()
+}
+
+/// The text with another start in one of its `mon` lines: one that is just a state or just none, or no number at all.
+pub fn other_start(t: &[u8], rng: &mut Random) -> Vec<u8> {
+    let mut ls = lines(t);
+    let mons: Vec<usize> = (0..ls.len()).filter(|&k| ls[k].starts_with(b"mon\t")).collect();
+    if mons.is_empty() {
+        return t.to_vec();
+    }
+    let k = *rng.pick(&mons);
+    let line = String::from_utf8_lossy(&ls[k]).trim_end_matches('\n').to_string();
+    let s = line.split('\t').nth(1).unwrap().to_string();
+    let states: u64 = s.parse().unwrap_or(2);
+    let near = [states.saturating_sub(1), states, states + 1, 0].map(|n| n.to_string());
+    let start = if rng.chance(3, 4) { rng.pick(&near).clone() } else { rng.pick(FIELDS).to_string() };
+    ls[k] = format!("mon\t{s}\t{start}\n").into_bytes();
+    ls.concat()
+}
+
+/// The same rig with the states of each monitor renumbered so that it starts in 0; no `mon` line carries a start.
+pub fn from_state_0(rig: &Rig, rng: &mut Random) -> Vec<u8> {
+    let mut t = format!("rig\t{}\n", rig.events);
+    for m in &rig.monitors {
+        let mut new: Vec<usize> = (0..m.states).collect();
+        for i in 1..m.states {
+            new.swap(i, rng.below(i as u64 + 1) as usize);
+        }
+        let zero = new.iter().position(|&n| n == 0).unwrap();
+        new.swap(zero, m.start);
+        t += &format!("mon\t{}\n", m.states);
+        for ((s, e), y) in &m.moves {
+            t += &format!("go\t{}\t{e}\t{}\n", new[*s], new[*y]);
+        }
     }
     t.into_bytes()
 }
@@ -71,6 +118,11 @@ const LINES: &[&str] = &[
     "ord\t0",
     "stop\t0",
     "mon\t2\t1",
+    "mon\t3\t2",
+    "mon\t2\t2",
+    "mon\t2\t",
+    "mon\t2\t1\t0",
+    "rig\t2\t1",
     "rig\t17",
     "rig\t0",
 ];

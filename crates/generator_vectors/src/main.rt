@@ -1,4 +1,4 @@
-// Runs the four calls on the examples of paper 01 that are left to a test, and prints what each answers and leaves. Cells, scratch and outputs begin
+// Runs the four calls on the examples of paper 01 that are left to a test, and on rigs that begin in other states, and prints what each answers and leaves. Cells, scratch and outputs begin
 // with 7 everywhere and are lent in part, so that what is kept shows: each line ends with how many numbers of each buffer are still 7.
 use generator::Counted;
 use generator::Indexed;
@@ -15,6 +15,7 @@ fn main() {
     show_count(b"65,536 line ends", &too_long, 0, 1);
     lists();
     sequences();
+    starts();
     let again = [4u64, 4, 4];
     show_shuffle(5, &again);
     let low = [0u64, 0];
@@ -90,6 +91,18 @@ fn sequences() {
     show_index(b"F: 64 bytes of 2", f, &twos);
     show_index(b"F: 64 bytes of 0", f, &zeros);
     show_index(b"13 before 9", dead, &no_event);
+}
+
+// A from its state 1.
+fn starts() {
+    let a = b"rig\t2\nmon\t2\t1\ngo\t0\t0\t0\ngo\t0\t1\t1\ngo\t1\t0\t0\n";
+    let all = [2u64, 0, 1];
+    let last = [0u8, 1, 0];
+    let none = [1u8, 0, 1];
+    show_count(b"A from 1 h 3", a, 3, 8);
+    show_list(b"A from 1 h 3: 2 0 1", a, 3, &all, 9);
+    show_index(b"A from 1: 0 1 0", a, &last);
+    show_index(b"A from 1: 1 0 1", a, &none);
 }
 
 fn say(bytes: &[u8]) {

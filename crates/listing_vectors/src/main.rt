@@ -22,6 +22,18 @@ fn served() {
         1000,
     );
     show(
+        b"A from 1 at 3",
+        b"ask\t3\nrig\t2\nmon\t2\t1\ngo\t0\t0\t0\ngo\t0\t1\t1\ngo\t1\t0\t0\n",
+        0,
+        1000,
+    );
+    show(
+        b"two monitors with starts at 3",
+        b"ask\t3\nrig\t2\nmon\t2\t1\ngo\t0\t0\t0\ngo\t0\t1\t1\ngo\t1\t0\t0\nmon\t3\t2\ngo\t0\t0\t2\ngo\t0\t1\t0\ngo\t1\t0\t0\ngo\t1\t1\t2\ngo\t2\t0\t1\n",
+        0,
+        1000,
+    );
+    show(
         b"A at 14, the last of 987 lines",
         b"ask\t14\nrig\t2\nmon\t2\ngo\t0\t0\t0\ngo\t0\t1\t1\ngo\t1\t0\t0\n",
         985,
@@ -74,6 +86,12 @@ fn refused() {
     show(
         b"3, a fifth mon",
         b"ask\t3\nrig\t1\nmon\t1\nmon\t1\nmon\t1\nmon\t1\nmon\t1\n",
+        0,
+        1000,
+    );
+    show(
+        b"3, a start not below S",
+        b"ask\t3\nrig\t1\nmon\t2\t2\n",
         0,
         1000,
     );

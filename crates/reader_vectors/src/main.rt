@@ -1,4 +1,4 @@
-// Reads texts and prints what each gives: `read`, E, the number of moves and each S; or `no`, the number and the place.
+// Reads texts and prints what each gives: `read`, E, the number of moves and each S with its start; or `no`, the number and the place.
 // The texts of standard input each have a name up to a line end before them and byte 28 after them; those at the limit of 65,535 bytes are made here.
 use libc::STDIN_FILENO;
 use libc::STDOUT_FILENO;
@@ -14,6 +14,10 @@ fn say(bytes: &[u8]) {
 fn say_number(n: u64) {
     say(b"\t");
     io::print_decimal(STDOUT_FILENO, n);
+}
+
+fn say_byte(byte: u8) {
+    say_number(byte as u64);
 }
 
 fn one_if_move(entry: u8) -> u64
@@ -36,9 +40,11 @@ fn say_record(r: Rig) {
     say_number(r.events as u64);
     say_number(moves_in(&r.moves));
     let counts = r.counts;
+    let starts = r.starts;
     for m in 0..4 {
         if m < r.monitors {
-            say_number(counts[m] as u64);
+            say_byte(counts[m]);
+            say_byte(starts[m]);
         }
     }
 }

@@ -1,4 +1,4 @@
--- Four counts, each within the array.
+-- Four counts and starts, each within its array.
 -- Assumes nothing.
 use Prim.Native.Nat.{_≤_, _-_}
 use borrow.Author.Needs.{needs}
@@ -6,10 +6,10 @@ use Rattle.reader_vectors.proofs.say_record.Statement.{statement}
 use Rattle.reader_vectors.proofs.say_record.Tie as tie
 
 abbrev Inv-loop : tie.InvT-loop
-Inv-loop r counts m₀ m = m ≤ 4
+Inv-loop r counts starts m₀ m = m ≤ 4
 
 abbrev μ-loop : tie.MeasureT-loop
-μ-loop r counts m₀ m = 4 - m
+μ-loop r counts starts m₀ m = 4 - m
 
 slice-aggregate-say : tie.Need-slice-aggregate-say Inv-loop μ-loop
 slice-aggregate-say c = search needs
@@ -29,14 +29,17 @@ say-number-requires-2 c κs = search needs
 loop-holds : tie.Need-loop-holds Inv-loop μ-loop
 loop-holds c = search needs
 
-array-read-say-number : tie.Need-array-read-say-number Inv-loop μ-loop
-array-read-say-number c = search needs
+array-read-say-byte : tie.Need-array-read-say-byte Inv-loop μ-loop
+array-read-say-byte c = search needs
 
-cast-say-number : tie.Need-cast-say-number Inv-loop μ-loop
-cast-say-number c = search needs
+say-byte-requires : tie.Need-say-byte-requires Inv-loop μ-loop
+say-byte-requires c κs = search needs
 
-say-number-requires-3 : tie.Need-say-number-requires-3 Inv-loop μ-loop
-say-number-requires-3 c κs = search needs
+array-read-say-byte-2 : tie.Need-array-read-say-byte-2 Inv-loop μ-loop
+array-read-say-byte-2 c = search needs
+
+say-byte-requires-2 : tie.Need-say-byte-requires-2 Inv-loop μ-loop
+say-byte-requires-2 c κs = search needs
 
 add-m : tie.Need-add-m Inv-loop μ-loop
 add-m c = search needs
@@ -62,9 +65,10 @@ say-record-spec =
     moves-in-requires
     say-number-requires-2
     loop-holds
-    array-read-say-number
-    cast-say-number
-    say-number-requires-3
+    array-read-say-byte
+    say-byte-requires
+    array-read-say-byte-2
+    say-byte-requires-2
     add-m
     loop-less
     loop-again
