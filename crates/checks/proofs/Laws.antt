@@ -1,15 +1,12 @@
 -- What the checks come to, case by case. Assumes nothing.
 use mathlib.Core.Path.{_≡_, refl, sym, ap, _∙_}
-use mathlib.Core.List.{List, [], _∷_}
-use Prim.Native.Nat.{ℕ, zero, suc, _+_, _-_, _*_, _≤_, _<_}
+use mathlib.Core.List.{List, []}
+use Prim.Native.Nat.{ℕ, _+_, _*_, _≤_, _<_}
 use native.Mathlib.Omega.{arith}
-use native.Mathlib.Nat.{mul-le-mul, zero-mul, sub-zero}
+use native.Mathlib.Nat.{mul-le-mul}
 use borrow.Author.Tests.{lt-ltb, le-ltb}
-use Rattle.lists.specs.Lists.{tabulate}
-use Rattle.automaton.specs.Joint.{At, sizes, jointState}
-use Rattle.automaton.proofs.Joint.{joint-number}
 use Rattle.rig.specs.declared.Rig.{Rig}
-use Rattle.rig.specs.Record.{recordAutomaton, recordStart, standing, WellFormed}
+use Rattle.rig.specs.Record.{recordAutomaton, recordStart, WellFormed}
 use Rattle.promises.specs.Answer.{Served}
 use Rattle.promises.specs.Text.{Readable, jointStates}
 use Rattle.promises.specs.Reading as promised

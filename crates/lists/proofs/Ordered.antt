@@ -1,5 +1,5 @@
 -- Lists whose elements stand in an order, and the numbers below n as such a list. Assumes nothing.
-use mathlib.Core.Path.{_≡_, refl, sym, subst}
+use mathlib.Core.Path.{_≡_, refl, sym, ap₂, _∙_, subst}
 use mathlib.Core.Logic.{_⊎_, inl, inr, _↔_, _≢_, ⊎-elim}
 use mathlib.Core.List.{List, [], _∷_, _++_, map}
 use mathlib.Core.List.{List·Memᴰ as In, List·Memᴰ·head as here, List·Memᴰ·tail as there, List·Memᴰ·append-cases as in-append, Memᴰ·append-left as in-left, Memᴰ·append-right as in-right, List·Memᴰ·not-nil, List·Memᴰ·eq-of-singleton}
@@ -71,3 +71,31 @@ indexOf-ordered (more {a = d} {l = l} f p) = more head (pairwise-imp later (inde
 
     later : (a b : ℕ) → In a l → In b l → indexOf l a < indexOf l b → indexOf (d ∷ l) a < indexOf (d ∷ l) b
     later a b i j h = rw (ne-eqb d a (f a i), ne-eqb d b (f b j)) (omega arith)
+
+-- ---- a list in a strict order is determined by its members
+
+module _ {A : Type 0} {R : A → A → Type 0} (asymmetric : (a b : A) → R a b → R b a → ⊥) where
+  irreflexive : (a b : A) → R a b → a ≡ b → ⊥
+  irreflexive a b r q = asymmetric a b r (subst (λ c. R c a) q (subst (R a) (sym q) r))
+
+  -- the first members are equal, as each is the other or comes before it
+  same-first : (a b : A) (l m : List A) → ((c : A) → In c l → R a c) → ((c : A) → In c m → R b c) → In a (b ∷ m) → In b (a ∷ l) → a ≡ b
+  same-first a b l m f g (here q) j = q
+  same-first a b l m f g (there i) (here q) = sym q
+  same-first a b l m f g (there i) (there j) = absurd (asymmetric a b (f b j) (g a i))
+
+  -- what is in the rest is in the other's rest
+  in-rest : (a b : A) (l m : List A) → a ≡ b → ((c : A) → In c l → R a c) → ((c : A) → In c (a ∷ l) → In c (b ∷ m)) → (c : A) → In c l → In c m
+  in-rest a b l m q f h c i = step (h c (there i))
+    where
+      step : In c (b ∷ m) → In c m
+      step (here p) = absurd (irreflexive a c (f c i) (q ∙ sym p))
+      step (there j) = j
+
+  pub same-ordered : {l m : List A} → Pairwise R l → Pairwise R m → ((a : A) → In a l → In a m) → ((a : A) → In a m → In a l) → l ≡ m
+  same-ordered none none f g = refl
+  same-ordered none (more {a = b} q s) f g = absurd (List·Memᴰ·not-nil (g b (here refl)))
+  same-ordered (more {a = a} p r) none f g = absurd (List·Memᴰ·not-nil (f a (here refl)))
+  same-ordered (more {a = a} {l = l} p r) (more {a = b} {l = m} q s) f g =
+      let e : a ≡ b = same-first a b l m p q (f a (here refl)) (g b (here refl)) in
+      ap₂ _∷_ e (same-ordered r s (in-rest a b l m e p f) (in-rest b a m l (sym e) q g))

@@ -12,23 +12,27 @@ use Rattle.automaton.specs.Joint.{both, join, idle, joint, sizes, jointState}
 use Rattle.automaton.specs.Pruning.{keep, prunedSet, size, passesFrom, passes, live}
 use Rattle.automaton.specs.Counting.{N}
 use Rattle.automaton.specs.Ranking.{choose, unrank, firstViolation}
-use Rattle.automaton.proofs.Counting.{scenarios-sound, stays-live, stays-events}
+use Rattle.automaton.proofs.Counting.{scenarios-sound, belongs-iff, stays-live, stays-events}
 use Rattle.automaton.proofs.Ranking.{index-belongs, firstViolation-none}
-use Rattle.promises.specs.Text.{onto, splitOn, init, lastOf, lines, unended, fields, digitsValue, number, same, field, endOr, end, one, two, three, oneOrTwo, form, decode, decoded, addPart, extended, monitorsFrom, monitors, statesOf, startOf, latest, product, eventsOf, Readable, Fault, Case1, Case7}
+use Rattle.promises.specs.Text.{onto, splitOn, init, lastOf, lines, unended, fields, digitsValue, number, same, field, endOr, end, one, two, three, oneOrTwo, form, decode, decoded, addPart, extended, monitorsFrom, monitors, statesOf, startOf, latest, product, eventsOf, Readable, Fault, Case1}
 use Rattle.promises.specs.Answer.{served, refused, Served}
 use Rattle.promises.specs.Meaning.{Belongs}
 use Rattle.promises.specs.Reading.{leadsTo, moveBy, testBeginning, ofLatest, testContinuing, tests, lineCase, readingFrom, reading}
 use Rattle.promises.specs.Rig.{nextOf, monitorOf, standing, linesAutomaton, linesStart, rigAutomaton, start}
-use Rattle.promises.specs.Examples.{A, B, most-events, most-joint-states, Words, mon-without-S, last-line-unended, leading-zero, six-digits, empty-field, seventeen-events, five-digits, fifth-monitor, go-again-out-of-range, go-again, nothing, rig-alone, rig-later, go-before-mon, too-many-joint-states}
+use Rattle.promises.specs.Examples.{A, B, A-from-1, A-exchanged, most-events, most-joint-states, Words, start-S, field-after-start, empty-start, mon-without-S, last-line-unended, leading-zero, six-digits, empty-field, seventeen-events, five-digits, fifth-monitor, go-again-out-of-range, go-again, nothing, rig-alone, rig-later, go-before-mon, too-many-joint-states}
 use Rattle.promises.proofs.Reading.{reading-refuses, reading-serves}
 use Rattle.promises.proofs.Meaning.{text-belongs}
-use Rattle.promises.proofs.Answers.{belongs-listed}
 
 record Readings : Type 0 where
   of-A : reading A ≡ served []
   of-B : reading B ≡ served []
+  of-A-from-1 : reading A-from-1 ≡ served []
+  of-A-exchanged : reading A-exchanged ≡ served []
   of-most-events : reading most-events ≡ served []
   of-most-joint-states : reading most-joint-states ≡ served []
+  of-start-S : reading start-S ≡ refused 3 2
+  of-field-after-start : reading field-after-start ≡ refused 2 2
+  of-empty-start : reading empty-start ≡ refused 2 2
   of-mon-without-S : reading mon-without-S ≡ refused 2 2
   of-last-line-unended : reading last-line-unended ≡ refused 2 2
   of-leading-zero : reading leading-zero ≡ refused 2 1
@@ -50,8 +54,13 @@ unfolding reading readingFrom lineCase tests testBeginning testContinuing ofLate
 readings = record {
   of-A = refl;
   of-B = refl;
+  of-A-from-1 = refl;
+  of-A-exchanged = refl;
   of-most-events = refl;
   of-most-joint-states = refl;
+  of-start-S = refl;
+  of-field-after-start = refl;
+  of-empty-start = refl;
   of-mon-without-S = refl;
   of-last-line-unended = refl;
   of-leading-zero = refl;
@@ -73,15 +82,28 @@ readable : (t : List ℕ) → reading t ≡ served [] → Readable t
 unfolding Served
 readable t q = reading-serves t .0 ([], q)
 
--- index 4 of A at horizon 3, and where 0 1 1 leaves the live states
+-- index 4 of A at horizon 3, and where 0 1 1 leaves the live states; from state 1, index 0 at horizon 1, and where 1 leaves them
 record Scenarios-A : Type 0 where
   four-below : 4 < N (rigAutomaton A) 3 (start A)
   four-is : unrank (rigAutomaton A) 3 (start A) 4 ≡ 1 ∷ 0 ∷ 1 ∷ []
   leaves-at : firstViolation (rigAutomaton A) (start A) (0 ∷ 1 ∷ 1 ∷ []) ≡ 2
+  zero-below : 0 < N (rigAutomaton A-from-1) 1 (start A-from-1)
+  zero-is : unrank (rigAutomaton A-from-1) 1 (start A-from-1) 0 ≡ 0 ∷ []
+  leaves-at-once : firstViolation (rigAutomaton A-from-1) (start A-from-1) (1 ∷ []) ≡ 0
 
 scenarios-A : Scenarios-A
 unfolding decoded lines unended splitOn onto init lastOf decode fields form one two three oneOrTwo field endOr end number digitsValue same monitors monitorsFrom extended addPart latest statesOf product eventsOf startOf moveBy leadsTo orElse nextOf monitorOf standing linesAutomaton linesStart rigAutomaton start range both join idle joint sizes jointState keep prunedSet size passesFrom passes live N choose unrank firstViolation
-scenarios-A = record { four-below = omega arith; four-is = refl; leaves-at = refl }
+scenarios-A = record { four-below = omega arith; four-is = refl; leaves-at = refl; zero-below = omega arith; zero-is = refl; leaves-at-once = refl }
+
+module _ (t : List ℕ) (r : Readable t) where
+  index-given : (h i : ℕ) (w : List ℕ) → i < N (rigAutomaton t) h (start t) → unrank (rigAutomaton t) h (start t) i ≡ w → Belongs t h w
+  index-given h i w l q = subst (Belongs t h) q (text-belongs t r h (unrank (rigAutomaton t) h (start t) i) .1 (index-belongs (rigAutomaton t) h (start t) i l))
+
+  leaves : (w : List ℕ) → firstViolation (rigAutomaton t) (start t) w < length w → Belongs t (length w) w → ⊥
+  leaves w lt b =
+      let s = scenarios-sound (rigAutomaton t) (length w) (start t) w (belongs-iff (rigAutomaton t) (length w) (start t) w .0 (text-belongs t r (length w) w .0 b)) .1 in
+      let q : firstViolation (rigAutomaton t) (start t) w ≡ length w = firstViolation-none (rigAutomaton t) (start t) w (stays-live (rigAutomaton t) (start t) w s) (stays-events (rigAutomaton t) (start t) w s) .1 s in
+      omega arith
 
 -- the limit is met by 65,535 bytes: the other cases have a line as their place
 long-enough : (t : List ℕ) → length t ≡ 65535 → Fault t 1 0 → ⊥
@@ -92,17 +114,18 @@ long-enough t q (inr (inr (inl (c, s, u, n, p)))) = omega arith
 long-enough t q (inr (inr (inr (c, s, u, m, n, p)))) = omega arith
 
 pub words : Words
-unfolding Fault Case1 Case7
+unfolding Fault Case1
 words = record {
-  readable-A = r;
+  readable-A = readable A (readings .of-A);
   readable-B = readable B (readings .of-B);
+  readable-A-from-1 = readable A-from-1 (readings .of-A-from-1);
+  readable-A-exchanged = readable A-exchanged (readings .of-A-exchanged);
   readable-most-events = readable most-events (readings .of-most-events);
   readable-most-joint-states = readable most-joint-states (readings .of-most-joint-states);
-  belongs = subst (Belongs A 3) (scenarios-A .four-is) (text-belongs A r 3 (unrank (rigAutomaton A) 3 (start A) 4) .1 (index-belongs (rigAutomaton A) 3 (start A) 4 (scenarios-A .four-below)));
-  not-belongs = λ b.
-      let w = scenarios-sound (rigAutomaton A) 3 (start A) (0 ∷ 1 ∷ 1 ∷ []) (belongs-listed A 3 r (λ c. omega arith) (0 ∷ 1 ∷ 1 ∷ []) .0 b) .1 in
-      let q : firstViolation (rigAutomaton A) (start A) (0 ∷ 1 ∷ 1 ∷ []) ≡ 3 = firstViolation-none (rigAutomaton A) (start A) (0 ∷ 1 ∷ 1 ∷ []) (stays-live (rigAutomaton A) (start A) (0 ∷ 1 ∷ 1 ∷ []) w) (stays-events (rigAutomaton A) (start A) (0 ∷ 1 ∷ 1 ∷ []) w) .1 w in
-      omega (arith, scenarios-A .leaves-at);
+  belongs = index-given A (readable A (readings .of-A)) 3 4 _ (scenarios-A .four-below) (scenarios-A .four-is);
+  not-belongs = leaves A (readable A (readings .of-A)) (0 ∷ 1 ∷ 1 ∷ []) (omega (arith, scenarios-A .leaves-at));
+  belongs-from-1 = index-given A-from-1 (readable A-from-1 (readings .of-A-from-1)) 1 0 _ (scenarios-A .zero-below) (scenarios-A .zero-is);
+  not-belongs-from-1 = leaves A-from-1 (readable A-from-1 (readings .of-A-from-1)) (1 ∷ []) (omega (arith, scenarios-A .leaves-at-once));
   fault-too-long = inl (omega (arith, length-replicate {A = ℕ} 65536 10), refl, refl);
   never-too-long = long-enough;
   fault-mon-without-S = reading-refuses mon-without-S 2 2 .0 (readings .of-mon-without-S);
@@ -113,6 +136,9 @@ words = record {
   fault-seventeen-events = reading-refuses seventeen-events 3 1 .0 (readings .of-seventeen-events);
   fault-five-digits = reading-refuses five-digits 3 1 .0 (readings .of-five-digits);
   fault-fifth-monitor = reading-refuses fifth-monitor 3 6 .0 (readings .of-fifth-monitor);
+  fault-start-S = reading-refuses start-S 3 2 .0 (readings .of-start-S);
+  fault-field-after-start = reading-refuses field-after-start 2 2 .0 (readings .of-field-after-start);
+  fault-empty-start = reading-refuses empty-start 2 2 .0 (readings .of-empty-start);
   fault-go-again-out-of-range = reading-refuses go-again-out-of-range 3 4 .0 (readings .of-go-again-out-of-range);
   fault-go-again = reading-refuses go-again 4 4 .0 (readings .of-go-again);
   fault-nothing = reading-refuses nothing 5 1 .0 (readings .of-nothing);
@@ -121,6 +147,3 @@ words = record {
   fault-go-before-mon = reading-refuses go-before-mon 5 2 .0 (readings .of-go-before-mon);
   fault-too-many-joint-states = reading-refuses too-many-joint-states 6 4 .0 (readings .of-too-many-joint-states);
 }
-  where
-    r : Readable A
-    r = readable A (readings .of-A)

@@ -11,6 +11,7 @@ pub mod Demand3
 pub mod Demand2
 pub mod Examples
 pub mod Starred
+pub mod Starts
 pub mod Refusals
 pub mod Buffers
 pub mod Shapes

@@ -30,4 +30,10 @@ starred = record {
   again = refl;
   nothing-served = refl;
   nothing = refl;
+  from-1 = refl;
+  from-1-bytes = refl;
+  from-1-index = refl;
+  from-1-not = refl;
+  exchanged = refl;
+  made-of-starts = refl;
 }

@@ -16,6 +16,19 @@ A = bytes "rig\t2\nmon\t2\ngo\t0\t0\t0\ngo\t0\t1\t1\ngo\t1\t0\t0\n"
 abbrev pub B : List ℕ
 B = bytes "rig\t2\nmon\t2\ngo\t0\t0\t0\ngo\t0\t1\t1\ngo\t1\t0\t0\nmon\t2\ngo\t0\t0\t0\ngo\t0\t1\t1\ngo\t1\t1\t1\n"
 
+-- ---- monitors that start in another state than 0 (02 no. 1)
+
+-- A from its state 1
+abbrev pub A-from-1 : List ℕ
+A-from-1 = bytes "rig\t2\nmon\t2\t1\ngo\t0\t0\t0\ngo\t0\t1\t1\ngo\t1\t0\t0\n"
+
+-- the same with the numbers 0 and 1 of its states exchanged, so that it starts in 0
+abbrev pub A-exchanged : List ℕ
+A-exchanged = bytes "rig\t2\nmon\t2\ngo\t1\t0\t1\ngo\t1\t1\t0\ngo\t0\t0\t1\n"
+
+abbrev pub two-starts : List ℕ
+two-starts = bytes "rig\t1\nmon\t2\t1\nmon\t3\t2\n"
+
 -- ---- the largest rigs
 
 -- 'E from 1 to 16'
@@ -70,6 +83,18 @@ five-digits = bytes "rig\t10000\n"
 abbrev pub fifth-monitor : List ℕ
 fifth-monitor = bytes "rig\t1\nmon\t1\nmon\t1\nmon\t1\nmon\t1\nmon\t1\n"
 
+-- 3, place 2: 'A start not below S'
+abbrev pub start-S : List ℕ
+start-S = bytes "rig\t1\nmon\t2\t2\n"
+
+-- 2, place 2: a start is the last field
+abbrev pub field-after-start : List ℕ
+field-after-start = bytes "rig\t1\nmon\t2\t1\t0\n"
+
+-- 2, place 2: a field that is there is a number
+abbrev pub empty-start : List ℕ
+empty-start = bytes "rig\t1\nmon\t2\t\n"
+
 -- 3, place 4: t out of range, though s and e stand again: 'on one line 2, 5, 3, 4, 6'
 abbrev pub go-again-out-of-range : List ℕ
 go-again-out-of-range = bytes "rig\t1\nmon\t1\ngo\t0\t0\t0\ngo\t0\t0\t9\n"
@@ -105,11 +130,16 @@ too-long = replicate 65536 10
 pub record Words : Type 0 where
   pub readable-A : Readable A
   pub readable-B : Readable B
+  pub readable-A-from-1 : Readable A-from-1
+  pub readable-A-exchanged : Readable A-exchanged
   pub readable-most-events : Readable most-events
   pub readable-most-joint-states : Readable most-joint-states
   -- A's scenario of index 4 belongs; '0 1 1' does not
   pub belongs : Belongs A 3 (1 ∷ 0 ∷ 1 ∷ [])
   pub not-belongs : Belongs A 3 (0 ∷ 1 ∷ 1 ∷ []) → ⊥
+  -- from its state 1, A admits 0 first, not 1
+  pub belongs-from-1 : Belongs A-from-1 1 (0 ∷ [])
+  pub not-belongs-from-1 : Belongs A-from-1 1 (1 ∷ []) → ⊥
   pub fault-too-long : Fault too-long 1 0
   -- 'At most 65,535 bytes.'
   pub never-too-long : (t : List ℕ) → length t ≡ 65535 → Fault t 1 0 → ⊥
@@ -121,6 +151,9 @@ pub record Words : Type 0 where
   pub fault-seventeen-events : Fault seventeen-events 3 1
   pub fault-five-digits : Fault five-digits 3 1
   pub fault-fifth-monitor : Fault fifth-monitor 3 6
+  pub fault-start-S : Fault start-S 3 2
+  pub fault-field-after-start : Fault field-after-start 2 2
+  pub fault-empty-start : Fault empty-start 2 2
   pub fault-go-again-out-of-range : Fault go-again-out-of-range 3 4
   pub fault-go-again : Fault go-again 4 4
   pub fault-nothing : Fault nothing 5 1

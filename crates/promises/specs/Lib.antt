@@ -15,4 +15,5 @@ pub mod Generator
 pub mod Shapes
 pub mod Examples
 pub mod Starred
+pub mod Starts
 pub mod Wrong

@@ -1,11 +1,13 @@
--- The starred lines of paper 01, 'Rigs A, B, F', as one statement about the values of the definitions. Assumes nothing.
+-- The starred lines of paper 01, 'Rigs A, B, F', as one statement about the values of the definitions, with values for the requests of paper 02.
+-- Assumes nothing.
 use mathlib.Core.Path.{_≡_}
 use mathlib.Core.List.{List, [], _∷_}
 use Prim.Native.Nat.{ℕ}
 use lib.ListN.{replicate}
 use Rattle.promises.specs.Answer.{served, refused}
+use Rattle.promises.specs.Rig.{start}
 use Rattle.promises.specs.Calls.{count, scenarios, written, index, shuffle, shuffled}
-use Rattle.promises.specs.Examples.{A, B}
+use Rattle.promises.specs.Examples.{A, B, A-from-1, A-exchanged, two-starts}
 
 -- n numbers to lend
 abbrev pub lent : ℕ → List ℕ
@@ -30,3 +32,11 @@ pub record Starred : Type 0 where
   pub again : shuffled 5 (4 ∷ 4 ∷ 4 ∷ []) (lent 6) (lent 3) ≡ 4 ∷ 0 ∷ 1 ∷ []
   pub nothing-served : shuffle 0 [] [] [] ≡ served []
   pub nothing : shuffled 0 [] [] [] ≡ []
+  -- 02 no. 1. A from its state 1 has what follows a 1 in A; so has the same rig with its states renumbered, from 0
+  pub from-1 : count A-from-1 3 (lent 8) ≡ served (3 ∷ 1 ∷ [])
+  pub from-1-bytes : written A-from-1 3 (2 ∷ 0 ∷ 1 ∷ []) (lent 8) (lent 9) ≡ 0 ∷ 1 ∷ 0 ∷ 0 ∷ 0 ∷ 0 ∷ 0 ∷ 0 ∷ 1 ∷ []
+  pub from-1-index : index A-from-1 (0 ∷ 1 ∷ 0 ∷ []) (lent 8) ≡ served (2 ∷ [])
+  pub from-1-not : index A-from-1 (1 ∷ 0 ∷ 1 ∷ []) (lent 8) ≡ refused 14 0
+  pub exchanged : count A-exchanged 3 (lent 8) ≡ served (3 ∷ 1 ∷ [])
+  -- 'the start joint state is made of these', 'the first monitor as its highest digit': state 1 of 2, and 2 of 3
+  pub made-of-starts : start two-starts ≡ 5

@@ -3,7 +3,7 @@
 use mathlib.Core.Path.{sym, ap, _∙_}
 use lib.ListN.{take}
 use lib.Seq.{length-take-le}
-use Rattle.promises.specs.Text.{rig, begins, mon}
+use Rattle.promises.specs.Text.{rig}
 use Rattle.decoding.specs.Forms.{valueOf, orOther}
 use Rattle.decoding.proofs.Parts.{indexOf-le}
 use Rattle.decoding.proofs.Numbers.{decode-first, decode-alone, form-rig, form-mon, form-go, form-other}

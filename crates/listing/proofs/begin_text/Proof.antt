@@ -1,6 +1,6 @@
 -- A refusal up to row 8 is the answer itself, and else the record stands for the text, so what is counted of the record is counted of the
 -- text. Assumes nothing.
-use mathlib.Core.Path.{refl, sym}
+use mathlib.Core.Path.{refl}
 use lib.ListN.{length}
 use Rattle.filling.proofs.Rows.{early-count, early-count-cells, count-is, count-cells-are}
 use Rattle.listing.proofs.Beginning.{begins-as}

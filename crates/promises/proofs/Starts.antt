@@ -1,0 +1,180 @@
+-- A rig whose states are renumbered has the same scenarios, in the same order.
+-- Why: a monitor moves along the renumbered lines just as it did along its own, so the same sequences belong; and their list in order is one. Assumes nothing.
+use mathlib.Core.Path.{_≡_, refl, sym, ap, ap₂, _∙_, subst}
+use mathlib.Core.Logic.{_↔_}
+use mathlib.Core.List.{List, [], _∷_, _++_, map, List·Memᴰ as In, List·Memᴰ·head as here, List·Memᴰ·tail as there, List·Memᴰ·not-nil, Memᴰ·map as map-in}
+use Prim.Native.Nat.{ℕ, _<_}
+use lib.ListN.{length, getD}
+use lib.Dec.{eqb}
+use borrow.Author.Tests.{eq-eqb, eqb-true}
+use Rattle.lists.specs.Lists.{pick}
+use Rattle.lists.proofs.Tests.{case}
+use Rattle.lists.proofs.Members.{in-map}
+use Rattle.lists.proofs.Ordered.{same-ordered}
+use Rattle.automaton.specs.Pruning.{passes}
+use Rattle.automaton.specs.Counting as counting
+use Rattle.automaton.proofs.Counting.{scenarios-length, scenarios-ordered, belongs-iff}
+use Rattle.automaton.proofs.Ranking.{unrank-at}
+use Rattle.promises.specs.Answer.{served}
+use Rattle.promises.specs.Text.{onto, splitOn, init, lines, fields, digitsValue, number, same, field, endOr, end, one, two, three, oneOrTwo, form, decode, Kind, mon, Part, go, Monitor, addPart, extended, monitorsFrom, monitors, decoded, startOf, Readable, Case7, Case8}
+use Rattle.promises.specs.Meaning.{Follows, Says, Admits, AllAdmit, CarriedOn, Belongs}
+use Rattle.promises.specs.Rig.{rigAutomaton, start}
+use Rattle.promises.specs.Calls.{total, count}
+use Rattle.promises.specs.Demand3.{Gives}
+use Rattle.promises.specs.Generator.{generator}
+use Rattle.promises.specs.Examples.{A-from-1, A-exchanged}
+use Rattle.promises.specs.Starts.{renumberedKind, renumberedPart, renumbered, Renumbered, Starts}
+use Rattle.promises.proofs.Meaning.{events-ordered, text-belongs}
+use Rattle.promises.proofs.Order.{comes-lex, order}
+use Rattle.promises.proofs.Checks.{counted-on}
+use Rattle.promises.proofs.Answers.{scenarioOf, count-is, count-told}
+use Rattle.promises.proofs.Demand3.{gives-scenario, gives-only}
+
+-- ---- one monitor
+
+module _ (f : ℕ → ℕ) (injective : (s t : ℕ) → f s ≡ f t → s ≡ t) where
+  -- a move of the renumbered lines is one of the lines, renumbered
+  move-back : (ps : List Part) (s e v : ℕ) → In (go (f s) e v) (map (renumberedPart f) ps) → (t : ℕ) × In (go s e t) ps × (v ≡ f t)
+  move-back ps s e v i = let (p, j, q) = in-map (renumberedPart f) ps i in back p j q
+    where
+      back : (p : Part) → In p ps → go (f s) e v ≡ renumberedPart f p → (t : ℕ) × In (go s e t) ps × (v ≡ f t)
+      back (go x y z) j q =
+          let q′ : go (f s) e v ≡ go (f x) y (f z) = unfold renumberedPart in q in
+          let a : x ≡ s = sym (injective s x cc) in
+          let b : y ≡ e = cc in
+          (z, subst (λ p. In p ps) (ap₂ (λ x y. go x y z) a b) j, cc)
+
+  follows : (ps : List Part) (s : ℕ) (w : List ℕ) → Follows ps s w ↔ Follows (map (renumberedPart f) ps) (f s) w
+  unfolding Follows renumberedPart
+  follows ps s [] = (λ a. tt, λ a. tt)
+  follows ps s (e ∷ w) = (
+    λ (t, i, a). (f t, map-in (renumberedPart f) i, follows ps t w .0 a),
+    λ (v, i, a). let (t, j, q) = move-back ps s e v i in (t, j, follows ps t w .1 (rw q at a)),
+  )
+
+  -- one clause a kind
+  says : (k : Kind) (ps : List Part) (w : List ℕ) → Says k ps (startOf k) w ↔ Says (renumberedKind f k) (map (renumberedPart f) ps) (startOf (renumberedKind f k)) w
+  unfolding Says startOf renumberedKind
+  says (mon S a) ps w = follows ps a w
+
+-- ---- all monitors
+
+AllOf : List Monitor → List ℕ → Type 0
+AllOf ms w = (m : Monitor) → In m ms → Admits m (startOf (m .kind)) w
+
+all-of : (ms ns : List Monitor) → Renumbered ms ns → (w : List ℕ) → AllOf ms w ↔ AllOf ns w
+unfolding Renumbered AllOf Admits
+all-of [] [] r w = (λ a. a, λ a. a)
+all-of [] (n ∷ ns) r w = absurd r
+all-of (m ∷ ms) [] r w = absurd r
+all-of (m ∷ ms) (n ∷ ns) ((f, injective, q), r) w = rw q (
+  λ a. first-rest (renumbered f m) ns (says f injective (m .kind) (m .parts) w .0 (a m (here refl))) (all-of ms ns r w .0 (λ k i. a k (there i))),
+  λ a. first-rest m ms (says f injective (m .kind) (m .parts) w .1 (a (renumbered f m) (here refl))) (all-of ms ns r w .1 (λ k i. a k (there i))),
+)
+  where
+    first-rest : (m : Monitor) (ms : List Monitor) → Admits m (startOf (m .kind)) w → AllOf ms w → AllOf (m ∷ ms) w
+    first-rest m ms a b k (here q) = rw q a
+    first-rest m ms a b k (there i) = b k i
+
+-- ---- the text
+
+module _ (t u : List ℕ) (n : Renumbered (monitors (decoded t)) (monitors (decoded u))) where
+  all-admit : (w : List ℕ) → AllAdmit t w ↔ AllAdmit u w
+  unfolding AllAdmit AllOf
+  all-admit w = all-of (monitors (decoded t)) (monitors (decoded u)) n w
+
+  same-belong : (h : ℕ) (w : List ℕ) → Belongs t h w ↔ Belongs u h w
+  unfolding CarriedOn
+  same-belong h w = (
+    λ b. record { long = b .long; admitted = all-admit w .0 (b .admitted); carried-on = λ k. let (v, l, a) = b .carried-on k in (v, l, all-admit (w ++ v) .0 a) },
+    λ b. record { long = b .long; admitted = all-admit w .1 (b .admitted); carried-on = λ k. let (v, l, a) = b .carried-on k in (v, l, all-admit (w ++ v) .1 a) },
+  )
+
+  module _ (r : Readable t) (s : Readable u) (h : ℕ) where
+    -- both lists of scenarios are in the order of events
+    same-list : counting.scenarios (rigAutomaton t) h (start t) ≡ counting.scenarios (rigAutomaton u) h (start u)
+    same-list =
+        same-ordered (λ v w a b. order .irreflexive v (order .transitive v w v (rw comes-lex a) (rw comes-lex b)))
+        (scenarios-ordered (rigAutomaton t) _<_ (events-ordered t r) h (start t))
+        (scenarios-ordered (rigAutomaton u) _<_ (events-ordered u s) h (start u))
+        (λ w i. listed u s w .0 (same-belong h w .0 (listed t r w .1 i)))
+        (λ w i. listed t r w .0 (same-belong h w .1 (listed u s w .1 i)))
+      where
+        listed : (x : List ℕ) → Readable x → (w : List ℕ) → Belongs x h w ↔ In w (counting.scenarios (rigAutomaton x) h (start x))
+        listed x r w = let a = text-belongs x r h w in let b = belongs-iff (rigAutomaton x) h (start x) w in (λ p. b .0 (a .0 p), λ i. a .1 (b .1 i))
+
+    same-total : total t h ≡ total u h
+    unfolding total
+    same-total = sym (scenarios-length (rigAutomaton t) h (start t)) ∙ ap length same-list ∙ scenarios-length (rigAutomaton u) h (start u)
+
+    same-scenario : (i : ℕ) → i < total t h → scenarioOf t h i ≡ scenarioOf u h i
+    unfolding total
+    same-scenario i l =
+        unrank-at (rigAutomaton t) h (start t) i l ∙ ap (λ ws. getD ws i []) same-list ∙ sym (unrank-at (rigAutomaton u) h (start u) i (rw (← same-total) l))
+
+    module _ (c7 : Case7 h → ⊥) (cells : List ℕ) (c8 : Case8 t h cells → ⊥) (m p : ℕ) (q : count t h cells ≡ served (m ∷ p ∷ [])) where
+      same-count : (others : List ℕ) → (Case8 u h others → ⊥) → (p : ℕ) × (count u h others ≡ served (m ∷ p ∷ []))
+      same-count others d8 =
+          let k = count-told t h cells m p r c7 c8 q in
+          let e : total u h ≡ m = sym same-total ∙ k .total-is in
+          (passes (rigAutomaton u), count-is u h s c7 others d8 ∙ counted-on u h _ (rw e (k .some)) (rw e (k .few)) ∙ rw e)
+
+      same-given : (i : ℕ) → i < m → (w : List ℕ) → Gives generator t h i w → Gives generator u h i w
+      same-given i l w g =
+          let k = count-told t h cells m p r c7 c8 q in
+          let e : total u h ≡ m = sym same-total ∙ k .total-is in
+          let lt : i < total t h = rw (k .total-is) l in
+          let v : w ≡ scenarioOf u h i = gives-only t h r c7 (rw (k .total-is) (k .some)) (rw (k .total-is) (k .few)) i w lt g ∙ same-scenario i lt in
+          rw v (gives-scenario u h s c7 (rw e (k .some)) (rw e (k .few)) i (rw e l))
+
+-- ---- every monitor from 0
+
+-- the numbers a and 0 exchanged
+abbrev exchanged : ℕ → ℕ → ℕ
+exchanged a s = pick (eqb s a) 0 (pick (eqb s 0) a s)
+
+exchanged-twice : (a s : ℕ) → exchanged a (exchanged a s) ≡ s
+exchanged-twice a s =
+    case (eqb s a)
+    (λ p. rw p (case (eqb 0 a) (λ q. rw q (eqb-true 0 a q ∙ sym (eqb-true s a p))) (λ q. rw q (sym (eqb-true s a p)))))
+    (λ p. case (eqb s 0) (λ q. rw (p, q, eq-eqb a a refl) (sym (eqb-true s 0 q))) (λ q. rw (p, q, p, q)))
+
+exchanged-injective : (a s t : ℕ) → exchanged a s ≡ exchanged a t → s ≡ t
+exchanged-injective a s t q = sym (exchanged-twice a s) ∙ ap (exchanged a) q ∙ exchanged-twice a t
+
+start-exchanged : (k : Kind) → startOf (renumberedKind (exchanged (startOf k)) k) ≡ 0
+unfolding startOf renumberedKind
+start-exchanged (mon S a) = rw (eq-eqb a a refl)
+
+from-0 : (ms : List Monitor) → (ns : List Monitor) × Renumbered ms ns × ((n : Monitor) → In n ns → startOf (n .kind) ≡ 0)
+unfolding Renumbered
+from-0 [] = ([], tt, λ n i. absurd (List·Memᴰ·not-nil i))
+from-0 (m ∷ ms) =
+    let (ns, r, z) = from-0 ms in
+    let f = exchanged (startOf (m .kind)) in
+    (renumbered f m ∷ ns, ((f, exchanged-injective (startOf (m .kind)), refl), r), each ns z)
+  where
+    each : (ns : List Monitor) → ((n : Monitor) → In n ns → startOf (n .kind) ≡ 0) → (n : Monitor) → In n (renumbered (exchanged (startOf (m .kind))) m ∷ ns) → startOf (n .kind) ≡ 0
+    each ns z n (here q) = ap (λ n. startOf (n .kind)) q ∙ start-exchanged (m .kind)
+    each ns z n (there i) = z n i
+
+-- ---- two texts
+
+-- the monitors of both, read from their lines
+record Lines : Type 0 where
+  of-A : monitors (decoded A-from-1) ≡ record { kind = mon 2 1; parts = go 0 0 0 ∷ go 0 1 1 ∷ go 1 0 0 ∷ [] } ∷ []
+  of-exchanged : monitors (decoded A-exchanged) ≡ record { kind = mon 2 0; parts = go 1 0 1 ∷ go 1 1 0 ∷ go 0 0 1 ∷ [] } ∷ []
+
+lines-of : Lines
+unfolding decoded lines splitOn onto init decode fields form one two three oneOrTwo field endOr end number digitsValue same monitors monitorsFrom extended addPart
+lines-of = record { of-A = refl; of-exchanged = refl }
+
+pub starts : Starts
+unfolding Renumbered renumberedKind renumberedPart
+starts = record {
+  from-0 = from-0;
+  same-belong = same-belong;
+  same-count = λ t u r s n h c7 cells others c8 d8 m p q. same-count t u n r s h c7 cells c8 m p q others d8;
+  same-given = λ t u r s n h c7 cells c8 m p q i l w. same-given t u n r s h c7 cells c8 m p q i l w;
+  renumbered-A = rw (lines-of .of-A, lines-of .of-exchanged) ((exchanged 1, exchanged-injective 1, refl), tt);
+}
