@@ -98,7 +98,7 @@ pub record Formed (ls : List Line) : Type 0 where
 -- a monitor starts in one of its states
 pub start-below : (k : Kind) → Ranged k → startOf k < statesOf k
 unfolding Ranged startOf statesOf
-start-below (mon S a) r = r .2
+start-below (mon S a) r = omega arith
 
 -- ---- what a sound line says
 

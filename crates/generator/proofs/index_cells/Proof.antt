@@ -33,7 +33,7 @@ rank-requires c κs =
     let f = c .before .before .before .before .before .before .before .fill-cells in
     let z = st .pre in (
       omega (arith, states-few (st .args .rig) (z .well-formed), z .joint),
-      z .start-below,
+      omega (arith, z .start-below),
       omega (arith, f .kept .1 .1 .1 .1 .0, cell-room (length (st .args .sequence .now)) (st .args .states) (st .args .start) (length (st .args .cells .now)) (z .start-below) (z .enough)),
     )
 

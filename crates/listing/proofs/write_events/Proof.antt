@@ -1,4 +1,5 @@
 -- The part that is lent has h bytes, and unranking fills it; the bytes past it are as they were. Assumes nothing.
+use native.Mathlib.Omega.{arith}
 use lib.ListN.{take}
 use lib.Seq.{length-take-le}
 use mathlib.Core.Path.{sym}
@@ -18,7 +19,7 @@ slice-aggregate-unrank c =
 unrank-requires : tie.Need-unrank-requires
 unrank-requires c κs =
     let st = c .before .before .before in
-    (st .pre .0, st .pre .1, rw (length-take-le (st .args .h) (st .args .events .now) (st .pre .3)) (st .pre .2))
+    (st .pre .0, omega (arith, st .pre .1), rw (length-take-le (st .args .h) (st .args .events .now) (st .pre .3)) (st .pre .2))
 
 same-length : tie.Need-same-length
 same-length c = search needs
