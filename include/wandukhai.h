@@ -10,15 +10,16 @@
  * What the buffers hold before a call does not matter.
  *
  * Rig text: at most 65,535 bytes; lines end with byte 10, fields are parted by one byte 9:
- *   rig E      first line; events are 0 to E-1, E from 1 to 16
- *   mon S      a new monitor with states 0 to S-1, S from 1 to 32, starting in 0; one to four monitors
- *   go s e t   the latest monitor moves from s to t on event e
+ *   rig E          first line; events are 0 to E-1, E from 1 to 16
+ *   mon S          a new monitor with states 0 to S-1, S from 1 to 32, starting in 0; one to four monitors
+ *   mon S start    the same, starting in the state given, which is below S
+ *   go s e t       the latest monitor moves from s to t on event e
  * P is the product of all S, at most 1,024. The horizon h is 0 to 1,000. N is the number of scenarios of h events.
  *
  * Returned: 0 where the call is served, else the number of refusal, with a place (0 where none is named):
  *    1  text over 65,535 bytes
  *    2  no such line form, a field that is no number, or the last line unended   place: line, from 1
- *    3  a number out of its range, or a fifth `mon`                              place: line
+ *    3  a number out of its range, a start not below S, or a fifth `mon`         place: line
  *    4  s and e again in one monitor                                             place: line
  *    5  first line not `rig`, `rig` later, `go` before `mon`, or no `mon`        place: line; at the end, lines + 1
  *    6  P over 1,024                                                             place: `mon` line

@@ -14,6 +14,8 @@ struct Tally {
     differences: u64,
     /// By call and number expected: how many comparisons, and how many differed.
     answers: BTreeMap<(&'static str, u64), (u64, u64)>,
+    /// How many random rigs were served that begin in another joint state than 0.
+    begun: u64,
 }
 
 impl Tally {
@@ -198,6 +200,7 @@ fn calls_on(tally: &mut Tally, rng: &mut Random, t: &[u8]) {
     let need = (h.min(1000) as usize + 1) * states;
     let cells = about(rng, need);
     let counted = count(tally, rng, t, h, cells);
+    tally.begun += (counted.number == 0 && rig.is_ok_and(|r| r.monitors.iter().any(|m| m.start > 0))) as u64;
     let n = if counted.number == 0 { counted.words[0] } else { 1 + rng.below(5) };
     let mut list: Vec<u64> = (0..rng.below(6)).map(|_| rng.below(n)).collect();
     for i in &mut list {
@@ -494,10 +497,12 @@ fn main() {
             assert!(tally.answers.contains_key(&(call, number)), "no {call} call is expected to answer {number}");
         }
     }
+    assert!(tally.begun > 1_000, "few rigs begin in another state than 0");
     for ((call, number), (times, wrong)) in &tally.answers {
         let answer = if *number == 0 { "served".into() } else { format!("refusal {number}") };
         println!("{call:20} {answer:12} {times:8} {wrong:8}");
     }
+    println!("{} of the served rigs begin in another state than 0", tally.begun);
     println!("{} comparisons, {} differences", tally.comparisons, tally.differences);
     if tally.differences > 0 {
         std::process::exit(1);
