@@ -13,8 +13,7 @@ pub enum Decimal {
     Wrong,
 }
 
-// A line that begins a monitor, with its numbers: `mon`, S and the start. (A struct, as an enum of one variant can't be matched on; a second kind makes it an
-// enum.)
+// A line that begins a monitor: `mon`, S and the start. (A struct, as an enum of one variant can't be matched on; a second kind makes it an enum.)
 pub struct Kind {
     pub states: usize,
     pub start: usize,
@@ -142,7 +141,7 @@ fn only_number(rest: &[u8]) -> Decimal
     }
 }
 
-// `mon`, S, which starts in 0, or `mon`, S, start
+// `mon`, S, start; or `mon`, S, which starts in 0
 fn mon_form(rest: &[u8]) -> Form
     ensures { λ r. ⌜ formLine r ≡ oneOrTwo (λ S. begins (mon S 0)) (λ S a. begins (mon S a)) (fields (now (rest .entry))) ⌝ }
 {

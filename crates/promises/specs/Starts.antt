@@ -3,7 +3,7 @@
 --   renumbered f m     == the monitor m with every state s written as f s
 --   Renumbered ms ns   == the monitors ns are the monitors ms, the states of each renumbered
 --   Starts             == such rigs have the same count, and an index gives the same sequence in both
--- A new Kind is one clause of renumberedKind, a new Part one of renumberedPart. Assumes nothing.
+-- A new Kind is one clause of renumberedKind, a new Part one of renumberedPart; where states have no numbers to choose, it stays as it is. Assumes nothing.
 use mathlib.Core.Path.{_≡_}
 use mathlib.Core.Logic.{_↔_}
 use mathlib.Core.List.{List, [], _∷_, map, List·Memᴰ as In}
