@@ -14,7 +14,7 @@ use Rattle.promises.specs.Rig.{rigAutomaton}
 use Rattle.promises.specs.Calls.{sized}
 use Rattle.promises.proofs.Meaning.{rig-states}
 use Rattle.promises.proofs.Reading.{reading-serves, reading-refuses, fault-number}
-use Rattle.pruning.proofs.Digits.{start-lt}
+use Rattle.pruning.proofs.Starts.{start-lt}
 use Rattle.reader.specs.Reading.{answerOf, recordOf}
 use Rattle.reader.specs.declared.Verdict.the-variants.{Readable as Read, Refused as Unread}
 use Rattle.reader.specs.Record.{ReadFrom}
