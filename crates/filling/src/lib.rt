@@ -18,14 +18,15 @@ pub struct Filled {
     pub passes: u64,
 }
 
-// Prunes the rig, fills the table and the cells of rows 0 to h, and tells rows 9 and 10 by the cell of the start.
+// Prunes the rig, fills the table and the cells of rows 0 to h, and tells rows 9 and 10 by the cell of the start. The start comes last, as it is read once:
+// what comes before it then goes in registers.
 pub fn fill_cells(
     rig: Rig,
     states: usize,
-    start: usize,
     h: usize,
     cells: &mut [u64],
     table: &mut [u16],
+    start: usize,
 ) -> Filled
     requires { ⌜ Fits rig states start h (length (now cells)) × (length (now table) ≡ 16384) ⌝ }
     ensures { λ f. ⌜ FilledBy (recordAutomaton rig) states start h f (now (cells .entry)) (now (cells .exit)) (now (table .exit)) ⌝ }

@@ -50,7 +50,7 @@ fn count_cells(rig: Rig, states: usize, start: usize, h: usize, cells: &mut [u64
     ensures { λ _. ⌜ now (cells .exit) ≡ filled (recordAutomaton rig) h (now (cells .entry)) ⌝ }
 {
     let mut table = [0u16; 16384];
-    let f = filling::fill_cells(rig, states, start, h, cells, &mut table);
+    let f = filling::fill_cells(rig, states, h, cells, &mut table, start);
     let checked = f.checked;
     match checked {
         Checked::Refused(number, place) => Counted::Refused(number, place),
@@ -88,7 +88,7 @@ fn list_cells(
     ensures { λ r. ⌜ now (out .exit) ≡ outputFrom (recordAutomaton rig) h start (listAnswer r) (now (list .entry)) (now (out .entry)) ⌝ }
 {
     let mut table = [0u16; 16384];
-    let f = filling::fill_cells(rig, states, start, h, cells, &mut table);
+    let f = filling::fill_cells(rig, states, h, cells, &mut table, start);
     let checked = f.checked;
     match checked {
         Checked::Refused(number, place) => Listed::Refused(number, place),
@@ -130,7 +130,7 @@ fn index_cells(rig: Rig, states: usize, start: usize, sequence: &[u8], cells: &m
 {
     let h = sequence.len();
     let mut table = [0u16; 16384];
-    let f = filling::fill_cells(rig, states, start, h, cells, &mut table);
+    let f = filling::fill_cells(rig, states, h, cells, &mut table, start);
     let checked = f.checked;
     match checked {
         Checked::Refused(number, place) => Indexed::Refused(number, place),

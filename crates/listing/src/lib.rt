@@ -112,7 +112,7 @@ fn begin_counted(
     ensures { λ c. ⌜ BeginsCounted (recordAutomaton rig) start h c (now (line .entry)) (now (line .exit)) (now (cells .exit)) (now (table .exit)) ⌝ }
     ensures { λ _. ⌜ now (cells .exit) ≡ filled (recordAutomaton rig) h (now (cells .entry)) ⌝ }
 {
-    let f = filling::fill_cells(rig, states, start, h, cells, table);
+    let f = filling::fill_cells(rig, states, h, cells, table, start);
     let checked = f.checked;
     match checked {
         Checked::Refused(number, place) => refuse(number, place, line),

@@ -34,7 +34,7 @@ rank-requires c κs =
     let z = st .pre in (
       omega (arith, states-few (st .args .rig) (z .well-formed), z .joint),
       omega (arith, z .start-below),
-      omega (arith, f .kept .1 .1 .1 .1 .0, cell-room (length (st .args .sequence .now)) (st .args .states) (st .args .start) (length (st .args .cells .now)) (z .start-below) (z .enough)),
+      omega (arith, f .kept .1 .1 .1 .0, cell-room (length (st .args .sequence .now)) (st .args .states) (st .args .start) (length (st .args .cells .now)) (z .start-below) (z .enough)),
     )
 
 enum-known-ranked : tie.Need-enum-known-ranked

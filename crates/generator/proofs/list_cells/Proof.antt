@@ -35,7 +35,7 @@ unrank-list-requires c κs =
     let z = st .pre .0 in (
       omega (arith, states-few (st .args .rig) (z .well-formed), z .joint),
       omega (arith, z .start-below),
-      omega (arith, f .kept .1 .1 .1 .1 .0, cell-room (st .args .h) (st .args .states) (st .args .start) (length (st .args .cells .now)) (z .start-below) (z .enough)),
+      omega (arith, f .kept .1 .1 .1 .0, cell-room (st .args .h) (st .args .states) (st .args .start) (length (st .args .cells .now)) (z .start-below) (z .enough)),
       st .pre .1,
     )
 
