@@ -18,8 +18,7 @@ pub struct Filled {
     pub passes: u64,
 }
 
-// Prunes the rig, fills the table and the cells of rows 0 to h, and tells rows 9 and 10 by the cell of the start. The start comes last, as it is read once:
-// what comes before it then goes in registers.
+// Prunes the rig, fills the table and the cells of rows 0 to h, and tells rows 9 and 10 by the cell of the start, which is read once.
 pub fn fill_cells(
     rig: Rig,
     states: usize,
