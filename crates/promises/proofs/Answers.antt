@@ -44,9 +44,9 @@ pub refused-none : (n p : ℕ) → n ≢ 9 → SaysNone (refused n p) → ⊥
 unfolding SaysNone
 refused-none n p ne (k, q) = let z : n ≡ 9 = cc in ne z
 
--- ---- what is said, on a readable text with buffers as sized
+-- ---- what belongs, on a readable text
 
-module _ (t : List ℕ) (h : ℕ) (r : Readable t) (c7 : Case7 h → ⊥) where
+module _ (t : List ℕ) (h : ℕ) (r : Readable t) where
   pub belongs-listed : (w : List ℕ) → Belongs t h w ↔ In w (counting.scenarios (rigAutomaton t) h (start t))
   belongs-listed w =
       let a = text-belongs t r h w in
@@ -59,6 +59,9 @@ module _ (t : List ℕ) (h : ℕ) (r : Readable t) (c7 : Case7 h → ⊥) where
       let n = none-iff (rigAutomaton t) h (start t) in
       (λ z w b. n .0 z w (text-belongs t r h w .0 b), λ f. n .1 (λ w b. f w (text-belongs t r h w .1 b)))
 
+-- ---- what is said, with buffers as sized
+
+module _ (t : List ℕ) (h : ℕ) (r : Readable t) (c7 : Case7 h → ⊥) where
   pub count-is : (cells : List ℕ) → (Case8 t h cells → ⊥) → count t h cells ≡ counted t h (served (total t h ∷ passes (rigAutomaton t) ∷ []))
   unfolding count
   count-is cells c8 = sized-on t h cells _ r c7 c8
@@ -72,11 +75,11 @@ module _ (t : List ℕ) (h : ℕ) (r : Readable t) (c7 : Case7 h → ⊥) where
   list-none is s = ⊎-elim (λ (q, g). served-none [] (rw q at s)) (λ (k, lt, q, b, g). refused-none 11 k (omega arith) (rw q at s)) (checked-list 11 (λ p i. leb (total t h) i) is (served []))
 
 -- any list of what belongs, each once, is as long as the count
-pub listed-length : (t : List ℕ) (h : ℕ) → Readable t → (Case7 h → ⊥) → (L : List (List ℕ)) → Once L → ((w : List ℕ) → In w L ↔ Belongs t h w) → length L ≡ total t h
+pub listed-length : (t : List ℕ) (h : ℕ) → Readable t → (L : List (List ℕ)) → Once L → ((w : List ℕ) → In w L ↔ Belongs t h w) → length L ≡ total t h
 unfolding Once total
-listed-length t h r c7 L once all =
+listed-length t h r L once all =
     same-length L (counting.scenarios (rigAutomaton t) h (start t)) (once-distinct [] L once) (scenarios-distinct (rigAutomaton t) (events-distinct t r) h (start t))
-    (λ w i. belongs-listed t h r c7 w .0 (all w .0 i)) (λ w i. all w .1 (belongs-listed t h r c7 w .1 i))
+    (λ w i. belongs-listed t h r w .0 (all w .0 i)) (λ w i. all w .1 (belongs-listed t h r w .1 i))
     ∙ scenarios-length (rigAutomaton t) h (start t)
 
 -- the events of a sequence of which case 13 holds nowhere are the rig's

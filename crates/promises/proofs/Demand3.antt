@@ -68,7 +68,7 @@ none-said t h r c7 = record {
 }
   where
     says : (a : Answer) → SaysNone a ↔ (total t h ≡ 0) → SaysNone a ↔ ((w : List ℕ) → Belongs t h w → ⊥)
-    says a e = let n = none-belongs t h r c7 in (λ s. n .0 (e .0 s), λ f. e .1 (n .1 f))
+    says a e = let n = none-belongs t h r in (λ s. n .0 (e .0 s), λ f. e .1 (n .1 f))
 
 -- what the shuffled indices give, n of them
 abbrev Complete : List ℕ → ℕ → ℕ → Type 0
@@ -156,7 +156,7 @@ module _ (t : List ℕ) (h : ℕ) (r : Readable t) (c7 : Case7 h → ⊥) (ge : 
   }
     where
       stays : (w : List ℕ) → Belongs t h w → Stays (rigAutomaton t) (start t) w
-      stays w b = scenarios-sound (rigAutomaton t) h (start t) w (belongs-listed t h r c7 w .0 b) .1
+      stays w b = scenarios-sound (rigAutomaton t) h (start t) w (belongs-listed t h r w .0 b) .1
 
       told : (w cells : List ℕ) → (Case8 t h cells → ⊥) → Belongs t h w → index t w cells ≡ served (rank (rigAutomaton t) (start t) w ∷ [])
       told w cells c8 b =
@@ -166,13 +166,13 @@ module _ (t : List ℕ) (h : ℕ) (r : Readable t) (c7 : Case7 h → ⊥) (ge : 
       refuses : (s cells : List ℕ) → (Case8 t h cells → ⊥) → length s ≡ h → (Belongs t h s → ⊥) → Refuses (index t s cells)
       refuses s cells c8 e n =
           index-of-others t s cells r (λ c. c7 (rw e at c)) (λ c. c8 (rw e at c)) (rw e ge) (rw e lt)
-          (λ w. n (belongs-listed t h r c7 s .1 (subst (λ k. In s (counting.scenarios (rigAutomaton t) k (start t))) e (scenarios-complete (rigAutomaton t) (start t) s w))))
+          (λ w. n (belongs-listed t h r s .1 (subst (λ k. In s (counting.scenarios (rigAutomaton t) k (start t))) e (scenarios-complete (rigAutomaton t) (start t) s w))))
 
 -- Demand 3
 pub demand-3 : Demand generator
 unfolding Once
 demand-3 = record {
-  finite = λ t h r c7. (counting.scenarios (rigAutomaton t) h (start t), distinct-once [] _ (scenarios-distinct (rigAutomaton t) (events-distinct t r) h (start t)), λ w. let b = belongs-listed t h r c7 w in (b .1, b .0));
+  finite = λ t h r c7. (counting.scenarios (rigAutomaton t) h (start t), distinct-once [] _ (scenarios-distinct (rigAutomaton t) (events-distinct t r) h (start t)), λ w. let b = belongs-listed t h r w in (b .1, b .0));
   none = none-said;
-  whole = λ t h r c7 L once all ge lt. let q : length L ≡ total t h = listed-length t h r c7 L once all in whole-said t h r c7 (rw q at ge) (rw q at lt) L q;
+  whole = λ t h r c7 L once all ge lt. let q : length L ≡ total t h = listed-length t h r L once all in whole-said t h r c7 (rw q at ge) (rw q at lt) L q;
 }

@@ -12,7 +12,7 @@ use Rattle.automaton.specs.Joint.{both, join, idle, joint, sizes, jointState}
 use Rattle.automaton.specs.Pruning.{keep, prunedSet, size, passesFrom, passes, live}
 use Rattle.automaton.specs.Counting.{N}
 use Rattle.automaton.specs.Ranking.{choose, unrank, firstViolation}
-use Rattle.automaton.proofs.Counting.{scenarios-sound, belongs-iff, stays-live, stays-events}
+use Rattle.automaton.proofs.Counting.{scenarios-sound, stays-live, stays-events}
 use Rattle.automaton.proofs.Ranking.{index-belongs, firstViolation-none}
 use Rattle.promises.specs.Text.{onto, splitOn, init, lastOf, lines, unended, fields, digitsValue, number, same, field, endOr, end, one, two, three, oneOrTwo, form, decode, decoded, addPart, extended, monitorsFrom, monitors, statesOf, startOf, latest, product, eventsOf, Readable, Fault, Case1}
 use Rattle.promises.specs.Answer.{served, refused, Served}
@@ -22,6 +22,7 @@ use Rattle.promises.specs.Rig.{nextOf, monitorOf, standing, linesAutomat
 use Rattle.promises.specs.Examples.{A, B, A-from-1, A-exchanged, most-events, most-joint-states, Words, start-S, field-after-start, empty-start, mon-without-S, last-line-unended, leading-zero, six-digits, empty-field, seventeen-events, five-digits, fifth-monitor, go-again-out-of-range, go-again, nothing, rig-alone, rig-later, go-before-mon, too-many-joint-states}
 use Rattle.promises.proofs.Reading.{reading-refuses, reading-serves}
 use Rattle.promises.proofs.Meaning.{text-belongs}
+use Rattle.promises.proofs.Answers.{belongs-listed}
 
 record Readings : Type 0 where
   of-A : reading A ≡ served []
@@ -101,7 +102,7 @@ module _ (t : List ℕ) (r : Readable t) where
 
   leaves : (w : List ℕ) → firstViolation (rigAutomaton t) (start t) w < length w → Belongs t (length w) w → ⊥
   leaves w lt b =
-      let s = scenarios-sound (rigAutomaton t) (length w) (start t) w (belongs-iff (rigAutomaton t) (length w) (start t) w .0 (text-belongs t r (length w) w .0 b)) .1 in
+      let s = scenarios-sound (rigAutomaton t) (length w) (start t) w (belongs-listed t (length w) r w .0 b) .1 in
       let q : firstViolation (rigAutomaton t) (start t) w ≡ length w = firstViolation-none (rigAutomaton t) (start t) w (stays-live (rigAutomaton t) (start t) w s) (stays-events (rigAutomaton t) (start t) w s) .1 s in
       omega arith
 

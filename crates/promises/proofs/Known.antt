@@ -67,7 +67,7 @@ module _ (t : List ℕ) (h n : ℕ) (cells : List ℕ) (k : Known t h n cells) w
   pub whole : (C : Calls) → Demand C → (L : List (List ℕ)) × (length L ≡ n) × Whole C t h L
   whole C d =
       let (L, once, all) = d .finite t h (k .fits .readable) (k .fits .horizon) in
-      let e : length L ≡ n = listed-length t h (k .fits .readable) (k .fits .horizon) L once all ∙ k .total-is in
+      let e : length L ≡ n = listed-length t h (k .fits .readable) L once all ∙ k .total-is in
       (L, e, d .whole t h (k .fits .readable) (k .fits .horizon) L once all (rw e (k .some)) (rw e (k .few)))
 
   -- what demand 2 says there

@@ -52,20 +52,20 @@ early-rows t h cells a = record {
 
 -- ---- how many belong
 
-many-total : (t : List ℕ) (h : ℕ) → Readable t → (Case7 h → ⊥) → Many t h → most ≤ total t h
+many-total : (t : List ℕ) (h : ℕ) → Readable t → Many t h → most ≤ total t h
 unfolding Many Once total
-many-total t h r c7 (L, once, b, le) =
-    omega (arith, distinct-length L (counting.scenarios (rigAutomaton t) h (start t)) (once-distinct [] L once) (λ w i. belongs-listed t h r c7 w .0 (b w i)), scenarios-length (rigAutomaton t) h (start t))
+many-total t h r (L, once, b, le) =
+    omega (arith, distinct-length L (counting.scenarios (rigAutomaton t) h (start t)) (once-distinct [] L once) (λ w i. belongs-listed t h r w .0 (b w i)), scenarios-length (rigAutomaton t) h (start t))
 
 module _ (t : List ℕ) (h : ℕ) (cells : List ℕ) (s : Sized t h cells) where
   nothing : ((w : List ℕ) → Belongs t h w → ⊥) → total t h ≡ 0
-  nothing f = none-belongs t h (s .readable) (s .horizon) .1 f
+  nothing f = none-belongs t h (s .readable) .1 f
 
   many : Many t h → most ≤ total t h
-  many m = many-total t h (s .readable) (s .horizon) m
+  many m = many-total t h (s .readable) m
 
   counted-total : (L : List (List ℕ)) → Countable t h L → length L ≡ total t h
-  counted-total L c = listed-length t h (s .readable) (s .horizon) L (c .all .once) (c .all .just)
+  counted-total L c = listed-length t h (s .readable) L (c .all .once) (c .all .just)
 
 -- ---- the place of refusal 14
 
@@ -77,13 +77,9 @@ module _ (t s cells : List ℕ) (z : Sized t (length s) cells) (c13 : (p : ℕ) 
   index-checked : index t s cells ≡ counted t (length s) (located t s cells (z .readable) (z .horizon) (z .room))
   index-checked = index-good t s cells (z .readable) (z .horizon) (z .room) good-events
 
-  short : (k : ℕ) → k ≤ length s → Case7 k → ⊥
-  unfolding Case7
-  short k le c = z .horizon (omega arith)
-
   prefix-stays : (k : ℕ) → k ≤ length s → Belongs t k (take k s) ↔ Stays (rigAutomaton t) (start t) (take k s)
   prefix-stays k le =
-      let listed = belongs-listed t k (z .readable) (short k le) (take k s) in (
+      let listed = belongs-listed t k (z .readable) (take k s) in (
         λ b. scenarios-sound (rigAutomaton t) k (start t) (take k s) (listed .0 b) .1,
         λ w. listed .1 (subst (λ n. In (take k s) (counting.scenarios (rigAutomaton t) n (start t))) (length-take-le k s le) (scenarios-complete (rigAutomaton t) (start t) (take k s) w)),
       )

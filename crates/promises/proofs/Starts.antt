@@ -13,7 +13,7 @@ use Rattle.lists.proofs.Members.{in-map}
 use Rattle.lists.proofs.Ordered.{same-ordered}
 use Rattle.automaton.specs.Pruning.{passes}
 use Rattle.automaton.specs.Counting as counting
-use Rattle.automaton.proofs.Counting.{scenarios-length, scenarios-ordered, belongs-iff}
+use Rattle.automaton.proofs.Counting.{scenarios-length, scenarios-ordered}
 use Rattle.automaton.proofs.Ranking.{unrank-at}
 use Rattle.promises.specs.Answer.{served}
 use Rattle.promises.specs.Text.{onto, splitOn, init, lines, fields, digitsValue, number, same, field, endOr, end, one, two, three, oneOrTwo, form, decode, Kind, mon, Part, go, Monitor, addPart, extended, monitorsFrom, monitors, decoded, startOf, Readable, Case7, Case8}
@@ -24,10 +24,10 @@ use Rattle.promises.specs.Demand3.{Gives}
 use Rattle.promises.specs.Generator.{generator}
 use Rattle.promises.specs.Examples.{A-from-1, A-exchanged}
 use Rattle.promises.specs.Starts.{renumberedKind, renumberedPart, renumbered, Renumbered, Starts}
-use Rattle.promises.proofs.Meaning.{events-ordered, text-belongs}
+use Rattle.promises.proofs.Meaning.{events-ordered}
 use Rattle.promises.proofs.Order.{comes-lex, order}
 use Rattle.promises.proofs.Checks.{counted-on}
-use Rattle.promises.proofs.Answers.{scenarioOf, count-is, count-told}
+use Rattle.promises.proofs.Answers.{belongs-listed, scenarioOf, count-is, count-told}
 use Rattle.promises.proofs.Demand3.{gives-scenario, gives-only}
 
 -- ---- one monitor
@@ -97,11 +97,8 @@ module _ (t u : List ℕ) (n : Renumbered (monitors (decoded t)) (monitors (deco
         same-ordered (λ v w a b. order .irreflexive v (order .transitive v w v (rw comes-lex a) (rw comes-lex b)))
         (scenarios-ordered (rigAutomaton t) _<_ (events-ordered t r) h (start t))
         (scenarios-ordered (rigAutomaton u) _<_ (events-ordered u s) h (start u))
-        (λ w i. listed u s w .0 (same-belong h w .0 (listed t r w .1 i)))
-        (λ w i. listed t r w .0 (same-belong h w .1 (listed u s w .1 i)))
-      where
-        listed : (x : List ℕ) → Readable x → (w : List ℕ) → Belongs x h w ↔ In w (counting.scenarios (rigAutomaton x) h (start x))
-        listed x r w = let a = text-belongs x r h w in let b = belongs-iff (rigAutomaton x) h (start x) w in (λ p. b .0 (a .0 p), λ i. a .1 (b .1 i))
+        (λ w i. belongs-listed u h s w .0 (same-belong h w .0 (belongs-listed t h r w .1 i)))
+        (λ w i. belongs-listed t h r w .0 (same-belong h w .1 (belongs-listed u h s w .1 i)))
 
     same-total : total t h ≡ total u h
     unfolding total
