@@ -7,6 +7,7 @@ pub mod Filters
 pub mod Tables
 pub mod Tells
 pub mod Distinct
+pub mod Permutations
 pub mod Blocks
 pub mod Fronts
 pub mod Decimal

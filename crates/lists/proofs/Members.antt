@@ -1,6 +1,6 @@
 -- Membership in lists that are mapped, joined and tested. Assumes nothing.
 use mathlib.Core.Path.{_≡_, refl, ap, _∙_}
-use mathlib.Core.Logic.{_⊎_, inl, inr}
+use mathlib.Core.Logic.{_⊎_, inl, inr, _↔_}
 use mathlib.Core.Bool.{Bool, true}
 use mathlib.Core.List.{List, [], _∷_, map}
 use mathlib.Core.List.{List·Memᴰ as In, List·Memᴰ·head as here, List·Memᴰ·tail as there, List·Memᴰ·append-cases as in-append, Memᴰ·append-left as in-left, Memᴰ·append-right as in-right}
@@ -8,7 +8,7 @@ use Prim.Native.Nat.{ℕ, zero, suc, _+_, _≤_, _<_}
 use native.Mathlib.Omega.{arith}
 use lib.ListN.{length, getD, length-append}
 use Rattle.lists.specs.Lists.{any, sum, concatMap}
-use Rattle.lists.proofs.Tests.{contra, or-cases, or-right}
+use Rattle.lists.proofs.Tests.{contra, or-cases, or-right, bool-ext}
 
 pub any-some : (f : ℕ → Bool) (l : List ℕ) → any f l ≡ true → (e : ℕ) × In e l × (f e ≡ true)
 any-some f [] h = contra h refl
@@ -21,6 +21,13 @@ any-some f (x ∷ l) h = go (any-some f l) (or-cases (f x) (any f l) h)
 pub any-in : (f : ℕ → Bool) {e : ℕ} {l : List ℕ} → In e l → f e ≡ true → any f l ≡ true
 any-in f (here q) p = cc
 any-in f (there {x = x} h) p = or-right (f x) (any-in f h p)
+
+-- lists with the same members pass the same tests
+pub any-same : (f : ℕ → Bool) (l m : List ℕ) → ((e : ℕ) → In e l ↔ In e m) → any f l ≡ any f m
+any-same f l m same =
+    bool-ext (any f l) (any f m)
+    (λ q. let (e, i, p) = any-some f l q in any-in f (same e .0 i) p)
+    (λ q. let (e, i, p) = any-some f m q in any-in f (same e .1 i) p)
 
 pub in-map : {A B : Type 0} (f : A → B) {b : B} (l : List A) → In b (map f l) → (a : A) × In a l × (b ≡ f a)
 in-map f (x ∷ l) (here q) = (x, here refl, q)

@@ -1,19 +1,21 @@
 -- Lists, tests and sums: the vocabulary of every other specification.
---   pick b x y    == x where the test b holds, else y
---   Pairwise R l  == every earlier element of l is in R to every later one
---   any f l       == some element of l passes the test f
---   filter f l    == the elements of l that pass the test f, in their order
---   sum c l       == the sum of c over l
---   concatMap f l == the lists f x for the x of l, one after the other
---   count f n     == how many of the numbers below n pass the test f
---   tabulate f n  == f 0, f 1, … f (n−1)
---   stack f n     == the lists f 0, f 1, … f (n−1), one after the other
---   range n       == the numbers below n, in order
---   indexOf l x   == where x first stands in l, from 0
+--   pick b x y      == x where the test b holds, else y
+--   Pairwise R l    == every earlier element of l is in R to every later one
+--   Permutation n l == l has every number below n once, and nothing else
+--   any f l         == some element of l passes the test f
+--   filter f l      == the elements of l that pass the test f, in their order
+--   sum c l         == the sum of c over l
+--   concatMap f l   == the lists f x for the x of l, one after the other
+--   count f n       == how many of the numbers below n pass the test f
+--   tabulate f n    == f 0, f 1, … f (n−1)
+--   stack f n       == the lists f 0, f 1, … f (n−1), one after the other
+--   range n         == the numbers below n, in order
+--   indexOf l x     == where x first stands in l, from 0
 -- Membership `In` is the library's List·Memᴰ, indexing its getD. Assumes nothing.
+use mathlib.Core.Logic.{_↔_, _≢_}
 use mathlib.Core.Bool.{Bool, true, false, _||_}
 use mathlib.Core.List.{List, [], _∷_, _++_, List·Memᴰ as In}
-use Prim.Native.Nat.{ℕ, zero, suc, _+_}
+use Prim.Native.Nat.{ℕ, zero, suc, _+_, _<_}
 use lib.Dec.{eqb}
 
 abbrev pub pick {ℓ} : {A : Type ℓ} → Bool → A → A → A
@@ -23,6 +25,10 @@ pick false a b = b
 pub data Pairwise {A : Type 0} (R : A → A → Type 0) : List A → Type 0 where
   none : Pairwise R []
   more : {a : A} {l : List A} → ((b : A) → In b l → R a b) → Pairwise R l → Pairwise R (a ∷ l)
+
+pub record Permutation (n : ℕ) (l : List ℕ) : Type 0 where
+  pub once : Pairwise _≢_ l
+  pub just : (e : ℕ) → In e l ↔ (e < n)
 
 abbrev pub any : (ℕ → Bool) → List ℕ → Bool
 any f [] = false

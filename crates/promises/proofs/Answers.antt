@@ -16,7 +16,7 @@ use Rattle.lists.proofs.Tests.{contra, case, split}
 use Rattle.lists.proofs.Tells.{tells-true, tells-false, tells-lt, tells-le, tells-or}
 use Rattle.lists.proofs.Members.{getD-in}
 use Rattle.lists.proofs.Ordered.{range-in}
-use Rattle.lists.proofs.Distinct.{in-place, same-length, once-distinct}
+use Rattle.lists.proofs.Distinct.{in-place, distinct-once, same-length, once-distinct}
 use Rattle.lists.proofs.Blocks.{block-at}
 use Rattle.automaton.specs.Pruning.{passes, live}
 use Rattle.automaton.specs.Counting as counting
@@ -33,7 +33,7 @@ use Rattle.promises.specs.Meaning.{Belongs}
 use Rattle.promises.specs.Rig.{rigAutomaton, start}
 use Rattle.promises.specs.Calls.{unlessAt, outputAfter, total, counted, count, scenarios, written, index, badDraw, shuffle, shuffled}
 use Rattle.promises.specs.Demand3.{Once, ValidDraws, block}
-use Rattle.promises.proofs.Meaning.{rig-events, events-distinct, text-belongs}
+use Rattle.promises.proofs.Meaning.{events-just, events-distinct, text-belongs}
 use Rattle.promises.proofs.Checks.{checked-list, check-passed, sized-on, counted-none, counted-most, counted-on, says-none}
 
 pub served-none : (vs : List ℕ) → SaysNone (served vs) → ⊥
@@ -82,16 +82,24 @@ listed-length t h r L once all =
     (λ w i. belongs-listed t h r w .0 (all w .0 i)) (λ w i. all w .1 (belongs-listed t h r w .1 i))
     ∙ scenarios-length (rigAutomaton t) h (start t)
 
+-- rigs to which the same sequences belong have the same count
+pub same-total : (t u : List ℕ) (h : ℕ) → Readable t → Readable u → ((w : List ℕ) → Belongs t h w ↔ Belongs u h w) → total t h ≡ total u h
+unfolding Once
+same-total t u h r s same =
+    sym (listed-length t h r (counting.scenarios (rigAutomaton u) h (start u)) (distinct-once [] _ (scenarios-distinct (rigAutomaton u) (events-distinct u s) h (start u)))
+    (λ w. (λ i. same w .1 (belongs-listed u h s w .1 i), λ b. belongs-listed u h s w .0 (same w .0 b))))
+    ∙ listed-length u h s _ (distinct-once [] _ (scenarios-distinct (rigAutomaton u) (events-distinct u s) h (start u))) (λ w. (belongs-listed u h s w .1, belongs-listed u h s w .0))
+
 -- the events of a sequence of which case 13 holds nowhere are the rig's
 pub events-in : (t : List ℕ) → Readable t → (s : List ℕ) → ((k : ℕ) → k < length s → leb (eventsOf (decoded t)) (getD s k 0) ≡ false) → (e : ℕ) → In e s → In e (rigAutomaton t .events)
 events-in t r s good e i =
     let (k, lt, q) = in-place 0 i in
-    rw (rig-events t r) (range-in (eventsOf (decoded t)) e .1 (omega (arith, leb-false (eventsOf (decoded t)) (getD s k 0) (good k lt))))
+    events-just t r e .1 (omega (arith, leb-false (eventsOf (decoded t)) (getD s k 0) (good k lt)))
 
 in-events : (t : List ℕ) → Readable t → (s : List ℕ) → Stays (rigAutomaton t) (start t) s → (k : ℕ) → k < length s → leb (eventsOf (decoded t)) (getD s k 0) ≡ false
 in-events t r s w k lt =
     tells-false (tells-le (eventsOf (decoded t)) (getD s k 0))
-    (λ le. let b : getD s k 0 < eventsOf (decoded t) = range-in (eventsOf (decoded t)) (getD s k 0) .0 (subst (In (getD s k 0)) (rig-events t r) (stays-events (rigAutomaton t) (start t) s w (getD s k 0) (getD-in s k 0 lt))) in omega arith)
+    (λ le. let b : getD s k 0 < eventsOf (decoded t) = events-just t r (getD s k 0) .0 (stays-events (rigAutomaton t) (start t) s w (getD s k 0) (getD-in s k 0 lt)) in omega arith)
 
 -- ---- Index, on a sequence of an allowed length
 
@@ -217,3 +225,12 @@ count-told t h cells n p r c7 c8 q = go (split 1 (total t h)) (split most (total
         let e : served (total t h ∷ passes (rigAutomaton t) ∷ []) ≡ served (n ∷ p ∷ []) = sym (counted-on t h _ o m) ∙ sym is ∙ q in
         let a : total t h ≡ n = cc in
         record { some = rw a at o; few = rw a at m; total-is = a; passes-is = cc }
+
+-- where the same sequences belong, the count is the same
+pub same-count : (t u : List ℕ) (h : ℕ) → Readable t → Readable u → ((w : List ℕ) → Belongs t h w ↔ Belongs u h w) → (Case7 h → ⊥)
+    → (cells others : List ℕ) → (Case8 t h cells → ⊥) → (Case8 u h others → ⊥) → (n p : ℕ) → count t h cells ≡ served (n ∷ p ∷ [])
+    → (q : ℕ) × (count u h others ≡ served (n ∷ q ∷ []))
+same-count t u h r s same c7 cells others c8 d8 n p q =
+    let k = count-told t h cells n p r c7 c8 q in
+    let e : total u h ≡ n = sym (same-total t u h r s same) ∙ k .total-is in
+    (passes (rigAutomaton u), count-is u h s c7 others d8 ∙ counted-on u h _ (rw e (k .some)) (rw e (k .few)) ∙ rw e)

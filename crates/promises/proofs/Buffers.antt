@@ -3,7 +3,7 @@
 -- h bytes stand one after the other. Assumes nothing.
 use mathlib.Core.Path.{_≡_, refl, sym, ap, _∙_, subst}
 use mathlib.Core.Logic.{_⊎_, inl, inr, _↔_, ⊎-elim}
-use mathlib.Core.Bool.{true}
+use mathlib.Core.Bool.{true, false}
 use mathlib.Core.List.{List, [], _∷_, _++_, List·Memᴰ as In, List·Memᴰ·head as here, List·Memᴰ·tail as there, List·Memᴰ·not-nil}
 use Prim.Native.Nat.{ℕ, suc, _+_, _-_, _*_, _≤_, _<_}
 use native.Mathlib.Omega.{arith}
@@ -11,7 +11,7 @@ use native.Mathlib.Nat.{suc-mul, mul-le-mul-right}
 use lib.ListN.{length, getD, take, drop, length-append, length-drop, List·getD-append}
 use lib.Seq.{getD-append-add, getD-drop, ext-getD, take-at}
 use lib.Dec.{ltb, leb, eqb}
-use borrow.Author.Tests.{ltb-false}
+use borrow.Author.Tests.{ltb-false, ne-eqb}
 use Rattle.lists.specs.Lists.{any, concatMap}
 use Rattle.lists.proofs.Tests.{contra, case, split}
 use Rattle.lists.proofs.Tells.{tells-true, tells-false, tells-lt, tells-eq}
@@ -87,18 +87,18 @@ fills-told (refused n p) = (λ q. inr (n, p, refl, told q), λ f. tell f)
     tell (inl (vs, q)) = let z : _≡_ {A = ℕ} 0 1 = cc in absurd (omega arith)
     tell (inr (m, k, q, i)) = let e : n ≡ m = cc in any-in (eqb n) i (tells-true (tells-eq n m) e)
 
-text-fills-not : (n p : ℕ) → n ≤ 6 → fills (refused n p) ≡ true → ⊥
+-- no row up to 8 fills the cells, nor one that paper 02 adds
+pub early-fills : (n p : ℕ) → (n ≤ 8) ⊎ (16 ≤ n) → fills (refused n p) ≡ false
 unfolding fills
-text-fills-not n p le q =
-    let (e, i, r) = any-some (eqb n) (9 ∷ 10 ∷ 11 ∷ 14 ∷ []) q in
-    far e (tells-eq n e .yes r) i
+early-fills n p o = rw (ne-eqb n 9 (λ q. far 9 (omega arith) (omega arith) q o), ne-eqb n 10 (λ q. far 10 (omega arith) (omega arith) q o), ne-eqb n 11 (λ q. far 11 (omega arith) (omega arith) q o), ne-eqb n 14 (λ q. far 14 (omega arith) (omega arith) q o))
   where
-    far : (e : ℕ) → n ≡ e → In e (9 ∷ 10 ∷ 11 ∷ 14 ∷ []) → ⊥
-    far e k (here q) = omega arith
-    far e k (there (here q)) = omega arith
-    far e k (there (there (here q))) = omega arith
-    far e k (there (there (there (here q)))) = omega arith
-    far e k (there (there (there (there i)))) = List·Memᴰ·not-nil i
+    far : (m : ℕ) → 8 < m → m < 16 → n ≡ m → (n ≤ 8) ⊎ (16 ≤ n) → ⊥
+    far m a b q (inl h) = omega arith
+    far m a b q (inr h) = omega arith
+
+-- a refused text leaves them as they were
+pub fault-fills : (t : List ℕ) (n p : ℕ) → Fault t n p → fills (refused n p) ≡ false
+fault-fills t n p f = early-fills n p (⊎-elim (λ h. inl (omega arith)) (λ h. inr h) (fault-number t n p f))
 
 -- whoever fills the cells has passed rows 1 to 8
 pub sized-passed : (t : List ℕ) (h : ℕ) (cells : List ℕ) (a : Answer) → fills (sized t h cells a) ≡ true → Sized t h cells
@@ -106,7 +106,7 @@ unfolding sized fills Case7 Case8
 sized-passed t h cells a f = go (readable-or-fault t)
   where
     go : Readable t ⊎ ((n : ℕ) × (p : ℕ) × Fault t n p) → Sized t h cells
-    go (inr (n, p, q)) = absurd (text-fills-not n p (fault-number t n p q) (rw (fault-said t n p q) at f))
+    go (inr (n, p, q)) = contra (rw (fault-said t n p q) at f) (fault-fills t n p q)
     go (inl r) =
         let f₁ = rw (readable-said t r) at f in
         case (ltb 1000 h)

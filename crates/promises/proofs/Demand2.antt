@@ -28,7 +28,7 @@ use Rattle.promises.specs.Rig.{rigAutomaton, start}
 use Rattle.promises.specs.Calls.{unlessAt, total, counted, count, scenarios, index}
 use Rattle.promises.specs.Demand2.{Traced, Traces, Demand2}
 use Rattle.promises.specs.Generator.{generator}
-use Rattle.promises.proofs.Meaning.{rig-start, rig-never-stops, events-distinct}
+use Rattle.promises.proofs.Meaning.{rig-start, rig-never-stops, events-just, events-distinct, events-ordered}
 use Rattle.promises.proofs.Checks.{checked-list, counted-most, counted-on, says-none}
 use Rattle.promises.proofs.Answers.{count-is, scenarios-is, scenarios-told, served-below, block-written, index-good, index-none, index-of-scenario, served-none, list-none, shuffle-served, shuffled-is}
 
@@ -133,6 +133,8 @@ pub demand-2 : Demand2 generator
 unfolding generator Served
 demand-2 = record {
   traces = traces-said;
+  inputs = events-just;
+  compared = events-ordered;
   safe-states = λ t r. (live (rigAutomaton t), live-safe (rigAutomaton t) (rig-never-stops t r));
   permuted = λ n ds scratch out v c8 c12. (([], shuffle-served n ds scratch out v c8 c12), shuffled-is n ds scratch out v c8 c12 ∙ sym (rndPermPrefix-shuffles ds));
 }

@@ -20,8 +20,8 @@ use Rattle.automaton.proofs.Counting.{scenarios-distinct, scenarios-sound, scen
 use Rattle.automaton.proofs.Ranking.{index-belongs, belongs-index, index-one, index-order}
 use Rattle.automaton.proofs.Shuffle.{shuffle-below, shuffle-distinct, shuffle-all, length-shuffle}
 use Rattle.promises.specs.Answer.{Answer, served, Served, Refuses, SaysNone}
-use Rattle.promises.specs.Text.{Readable, Case7, Case8, Case8·scratch, Case12, Case12·draws, jointStates}
-use Rattle.promises.specs.Meaning.{Belongs, Comes}
+use Rattle.promises.specs.Text.{decoded, Readable, Case7, Case8, Case8·scratch, Case12, Case12·draws, jointStates}
+use Rattle.promises.specs.Meaning.{Belongs, Earlier, Comes}
 use Rattle.promises.specs.Rig.{rigAutomaton, start}
 use Rattle.promises.specs.Calls.{total, counted, count, scenarios, written, index, shuffle, shuffled}
 use Rattle.promises.specs.Demand3.{Once, ValidDraws, block, Cells, Room, Gives, None, Whole, Demand}
@@ -95,9 +95,9 @@ module _ (t : List ℕ) (h : ℕ) (r : Readable t) (c7 : Case7 h → ⊥) (ge : 
   unfolding total
   only-index = index-one (rigAutomaton t) (events-distinct t r) h (start t)
 
-  in-order : (i j : ℕ) → i < j → j < total t h → Comes (unrank (rigAutomaton t) h (start t) i) (unrank (rigAutomaton t) h (start t) j)
+  in-order : (i j : ℕ) → i < j → j < total t h → Comes t (unrank (rigAutomaton t) h (start t) i) (unrank (rigAutomaton t) h (start t) j)
   unfolding total
-  in-order i j l k = rw comes-lex (index-order (rigAutomaton t) _<_ (events-ordered t r) h (start t) i j l k)
+  in-order i j l k = rw comes-lex (index-order (rigAutomaton t) (Earlier (decoded t)) (events-ordered t r) h (start t) i j l k)
 
   complete-at : Complete t h (total t h)
   unfolding Served Case12

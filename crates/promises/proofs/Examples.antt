@@ -7,19 +7,19 @@ use mathlib.Core.List.{List, [], _∷_}
 use Prim.Native.Nat.{ℕ, _<_}
 use native.Mathlib.Omega.{arith}
 use lib.ListN.{length, length-replicate}
-use Rattle.lists.specs.Lists.{range}
+use Rattle.lists.specs.Lists.{range, indexOf}
 use Rattle.automaton.specs.Joint.{both, join, idle, joint, sizes, jointState}
 use Rattle.automaton.specs.Pruning.{keep, prunedSet, size, passesFrom, passes, live}
 use Rattle.automaton.specs.Counting.{N}
 use Rattle.automaton.specs.Ranking.{choose, unrank, firstViolation}
 use Rattle.automaton.proofs.Counting.{scenarios-sound, stays-live, stays-events}
 use Rattle.automaton.proofs.Ranking.{index-belongs, firstViolation-none}
-use Rattle.promises.specs.Text.{onto, splitOn, init, lastOf, lines, unended, fields, digitsValue, number, same, field, endOr, end, one, two, three, oneOrTwo, form, decode, decoded, addPart, extended, monitorsFrom, monitors, statesOf, startOf, latest, product, eventsOf, Readable, Fault, Case1}
+use Rattle.promises.specs.Text.{onto, splitOn, init, lastOf, lines, unended, fields, digitsValue, number, ahead, numbers, same, field, endOr, end, one, two, three, oneOrTwo, anyNumber, form, decode, decoded, addPart, extended, monitorsFrom, monitors, statesOf, startOf, latest, product, eventsOf, reordered, orderFrom, orderOf, Readable, Fault, Case1}
 use Rattle.promises.specs.Answer.{served, refused, Served}
-use Rattle.promises.specs.Meaning.{Belongs}
+use Rattle.promises.specs.Meaning.{Belongs, Earlier, Comes}
 use Rattle.promises.specs.Reading.{leadsTo, moveBy, testBeginning, ofLatest, testContinuing, tests, lineCase, readingFrom, reading}
 use Rattle.promises.specs.Rig.{nextOf, monitorOf, standing, linesAutomaton, linesStart, rigAutomaton, start}
-use Rattle.promises.specs.Examples.{A, B, A-from-1, A-exchanged, most-events, most-joint-states, Words, start-S, field-after-start, empty-start, mon-without-S, last-line-unended, leading-zero, six-digits, empty-field, seventeen-events, five-digits, fifth-monitor, go-again-out-of-range, go-again, nothing, rig-alone, rig-later, go-before-mon, too-many-joint-states}
+use Rattle.promises.specs.Examples.{A, B, A-from-1, A-exchanged, most-events, most-joint-states, Words, start-S, field-after-start, empty-start, A-ordered, ord-too-short, ord-not-below, ord-twice, ord-third, ord-first, ord-no-number, ord-alone, mon-without-S, last-line-unended, leading-zero, six-digits, empty-field, seventeen-events, five-digits, fifth-monitor, go-again-out-of-range, go-again, nothing, rig-alone, rig-later, go-before-mon, too-many-joint-states}
 use Rattle.promises.proofs.Reading.{reading-refuses, reading-serves}
 use Rattle.promises.proofs.Meaning.{text-belongs}
 use Rattle.promises.proofs.Answers.{belongs-listed}
@@ -29,11 +29,19 @@ record Readings : Type 0 where
   of-B : reading B ≡ served []
   of-A-from-1 : reading A-from-1 ≡ served []
   of-A-exchanged : reading A-exchanged ≡ served []
+  of-A-ordered : reading A-ordered ≡ served []
   of-most-events : reading most-events ≡ served []
   of-most-joint-states : reading most-joint-states ≡ served []
   of-start-S : reading start-S ≡ refused 3 2
   of-field-after-start : reading field-after-start ≡ refused 2 2
   of-empty-start : reading empty-start ≡ refused 2 2
+  of-ord-too-short : reading ord-too-short ≡ refused 2 2
+  of-ord-not-below : reading ord-not-below ≡ refused 3 2
+  of-ord-twice : reading ord-twice ≡ refused 16 2
+  of-ord-third : reading ord-third ≡ refused 5 3
+  of-ord-first : reading ord-first ≡ refused 5 1
+  of-ord-no-number : reading ord-no-number ≡ refused 2 1
+  of-ord-alone : reading ord-alone ≡ refused 5 3
   of-mon-without-S : reading mon-without-S ≡ refused 2 2
   of-last-line-unended : reading last-line-unended ≡ refused 2 2
   of-leading-zero : reading leading-zero ≡ refused 2 1
@@ -51,17 +59,25 @@ record Readings : Type 0 where
   of-too-many-joint-states : reading too-many-joint-states ≡ refused 6 4
 
 readings : Readings
-unfolding reading readingFrom lineCase tests testBeginning testContinuing ofLatest moveBy leadsTo orElse decoded lines unended splitOn onto init lastOf decode fields form one two three oneOrTwo field endOr end number digitsValue same monitors monitorsFrom extended addPart latest statesOf product eventsOf
+unfolding reading readingFrom lineCase tests testBeginning testContinuing ofLatest moveBy leadsTo orElse decoded lines unended splitOn onto init lastOf decode fields form one two three oneOrTwo anyNumber field endOr end number numbers ahead digitsValue same monitors monitorsFrom extended addPart latest statesOf product eventsOf orderOf orderFrom reordered
 readings = record {
   of-A = refl;
   of-B = refl;
   of-A-from-1 = refl;
   of-A-exchanged = refl;
+  of-A-ordered = refl;
   of-most-events = refl;
   of-most-joint-states = refl;
   of-start-S = refl;
   of-field-after-start = refl;
   of-empty-start = refl;
+  of-ord-too-short = refl;
+  of-ord-not-below = refl;
+  of-ord-twice = refl;
+  of-ord-third = refl;
+  of-ord-first = refl;
+  of-ord-no-number = refl;
+  of-ord-alone = refl;
   of-mon-without-S = refl;
   of-last-line-unended = refl;
   of-leading-zero = refl;
@@ -93,8 +109,17 @@ record Scenarios-A : Type 0 where
   leaves-at-once : firstViolation (rigAutomaton A-from-1) (start A-from-1) (1 ∷ []) ≡ 0
 
 scenarios-A : Scenarios-A
-unfolding decoded lines unended splitOn onto init lastOf decode fields form one two three oneOrTwo field endOr end number digitsValue same monitors monitorsFrom extended addPart latest statesOf product eventsOf startOf moveBy leadsTo orElse nextOf monitorOf standing linesAutomaton linesStart rigAutomaton start range both join idle joint sizes jointState keep prunedSet size passesFrom passes live N choose unrank firstViolation
+unfolding decoded lines unended splitOn onto init lastOf decode fields form one two three oneOrTwo anyNumber field endOr end number numbers ahead digitsValue same monitors monitorsFrom extended addPart latest statesOf product eventsOf orderOf orderFrom reordered startOf moveBy leadsTo orElse nextOf monitorOf standing linesAutomaton linesStart rigAutomaton start range both join idle joint sizes jointState keep prunedSet size passesFrom passes live N choose unrank firstViolation
 scenarios-A = record { four-below = omega arith; four-is = refl; leaves-at = refl; zero-below = omega arith; zero-is = refl; leaves-at-once = refl }
+
+-- where the events stand in the order of A with `ord`, and without
+record Compared : Type 0 where
+  by-ord : indexOf (orderOf (decoded A-ordered)) 1 < indexOf (orderOf (decoded A-ordered)) 0
+  lower-first : indexOf (orderOf (decoded A)) 0 < indexOf (orderOf (decoded A)) 1
+
+compared : Compared
+unfolding decoded lines splitOn onto init decode fields form one two three oneOrTwo anyNumber field endOr end number numbers ahead digitsValue same orderOf orderFrom reordered range indexOf
+compared = record { by-ord = omega arith; lower-first = omega arith }
 
 module _ (t : List ℕ) (r : Readable t) where
   index-given : (h i : ℕ) (w : List ℕ) → i < N (rigAutomaton t) h (start t) → unrank (rigAutomaton t) h (start t) i ≡ w → Belongs t h w
@@ -121,12 +146,15 @@ words = record {
   readable-B = readable B (readings .of-B);
   readable-A-from-1 = readable A-from-1 (readings .of-A-from-1);
   readable-A-exchanged = readable A-exchanged (readings .of-A-exchanged);
+  readable-A-ordered = readable A-ordered (readings .of-A-ordered);
   readable-most-events = readable most-events (readings .of-most-events);
   readable-most-joint-states = readable most-joint-states (readings .of-most-joint-states);
   belongs = index-given A (readable A (readings .of-A)) 3 4 _ (scenarios-A .four-below) (scenarios-A .four-is);
   not-belongs = leaves A (readable A (readings .of-A)) (0 ∷ 1 ∷ 1 ∷ []) (omega (arith, scenarios-A .leaves-at));
   belongs-from-1 = index-given A-from-1 (readable A-from-1 (readings .of-A-from-1)) 1 0 _ (scenarios-A .zero-below) (scenarios-A .zero-is);
   not-belongs-from-1 = leaves A-from-1 (readable A-from-1 (readings .of-A-from-1)) (1 ∷ []) (omega (arith, scenarios-A .leaves-at-once));
+  comes-by-ord = unfold Comes Earlier in inl (compared .by-ord);
+  comes-lower-first = unfold Comes Earlier in inl (compared .lower-first);
   fault-too-long = inl (omega (arith, length-replicate {A = ℕ} 65536 10), refl, refl);
   never-too-long = long-enough;
   fault-mon-without-S = reading-refuses mon-without-S 2 2 .0 (readings .of-mon-without-S);
@@ -140,6 +168,13 @@ words = record {
   fault-start-S = reading-refuses start-S 3 2 .0 (readings .of-start-S);
   fault-field-after-start = reading-refuses field-after-start 2 2 .0 (readings .of-field-after-start);
   fault-empty-start = reading-refuses empty-start 2 2 .0 (readings .of-empty-start);
+  fault-ord-too-short = reading-refuses ord-too-short 2 2 .0 (readings .of-ord-too-short);
+  fault-ord-not-below = reading-refuses ord-not-below 3 2 .0 (readings .of-ord-not-below);
+  fault-ord-twice = reading-refuses ord-twice 16 2 .0 (readings .of-ord-twice);
+  fault-ord-third = reading-refuses ord-third 5 3 .0 (readings .of-ord-third);
+  fault-ord-first = reading-refuses ord-first 5 1 .0 (readings .of-ord-first);
+  fault-ord-no-number = reading-refuses ord-no-number 2 1 .0 (readings .of-ord-no-number);
+  fault-ord-alone = reading-refuses ord-alone 5 3 .0 (readings .of-ord-alone);
   fault-go-again-out-of-range = reading-refuses go-again-out-of-range 3 4 .0 (readings .of-go-again-out-of-range);
   fault-go-again = reading-refuses go-again 4 4 .0 (readings .of-go-again);
   fault-nothing = reading-refuses nothing 5 1 .0 (readings .of-nothing);

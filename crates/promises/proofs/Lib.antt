@@ -12,6 +12,7 @@ pub mod Demand2
 pub mod Examples
 pub mod Starred
 pub mod Starts
+pub mod Ordering
 pub mod Refusals
 pub mod Buffers
 pub mod Shapes

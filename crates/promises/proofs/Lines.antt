@@ -1,10 +1,10 @@
 -- What the lines of a readable text are: one `rig` line first, at most four monitors of 1 to 32 states, every move in range and at most one
--- for a state and an event, at most 1,024 joint states.
+-- for a state and an event, at most 1,024 joint states, every event once in their order.
 -- Why: each sound line keeps it so, whatever sound lines stand before it.
 --   Ranged k           == the numbers of the kind k are in their ranges
 --   PartRanged E k p   == so are those of the line p of a monitor of the kind k, in a rig with E events
 --   Kept E m           == all lines of the monitor m are in range, and no move is given twice
---   Formed ls          == one `rig` line first, at most four monitors that are kept, at most 1,024 joint states
+--   Formed ls          == one `rig` line first, at most four monitors that are kept, at most 1,024 joint states, every event once in their order
 -- Assumes nothing.
 use mathlib.Core.Path.{_≡_, refl, sym, ap, _∙_, subst}
 use mathlib.Core.Logic.{_⊎_, inl, inr, _≢_, ⊎-elim}
@@ -14,9 +14,13 @@ use mathlib.Core.Option.{some}
 use Prim.Native.Nat.{ℕ, suc, _*_, _≤_, _<_}
 use native.Mathlib.Omega.{arith}
 use native.Mathlib.Nat.{mul-one, mul-assoc, one-mul}
-use lib.ListN.{length, length-append}
-use Rattle.lists.proofs.Tests.{split}
-use Rattle.promises.specs.Text.{Kind, mon, Part, go, Line, rig, begins, continues, other, Monitor, addPart, extended, monitorsFrom, monitors, statesOf, startOf, latest, product, eventsOf, beginning, OfLatest, continuing, cases, Case2, Case3, Case4, Case5, Case6, Sound, AllSound, Readable, decoded}
+use native.Mathlib.Decide.{ℕ-discrete}
+use lib.ListN.{length, getD, length-append}
+use Rattle.lists.specs.Lists.{none, Permutation}
+use Rattle.lists.proofs.Tests.{split, ℕ-trichotomy}
+use Rattle.lists.proofs.Distinct.{once-distinct}
+use Rattle.lists.proofs.Permutations.{range-permutation, full-permutation}
+use Rattle.promises.specs.Text.{Kind, mon, Part, go, Line, rig, ord, begins, continues, other, Monitor, addPart, extended, monitorsFrom, monitors, statesOf, startOf, latest, product, eventsOf, reordered, orderFrom, orderOf, beginning, OfLatest, continuing, Twice, cases, Case2, Case3, Case16, Case4, Case5, Case6, Sound, AllSound, Readable, decoded}
 
 -- ---- one line more
 
@@ -28,6 +32,15 @@ monitorsFrom-append ms (l ∷ ls) ks = monitorsFrom-append (extended ms l) ls ks
 pub monitors-more : (ls : List Line) (l : Line) → monitors (ls ++ (l ∷ [])) ≡ extended (monitors ls) l
 unfolding monitors monitorsFrom
 monitors-more ls l = monitorsFrom-append [] ls (l ∷ [])
+
+pub orderFrom-append : (es : List ℕ) (ls ks : List Line) → orderFrom es (ls ++ ks) ≡ orderFrom (orderFrom es ls) ks
+unfolding orderFrom
+orderFrom-append es [] ks = refl
+orderFrom-append es (l ∷ ls) ks = orderFrom-append (reordered es l) ls ks
+
+pub order-more : (ls : List Line) (l : Line) → orderOf (ls ++ (l ∷ [])) ≡ reordered (orderOf ls) l
+unfolding orderOf orderFrom
+order-more ls l = orderFrom-append [] ls (l ∷ [])
 
 -- the latest monitor with one line more
 abbrev more-parts : Monitor → Part → Monitor
@@ -94,6 +107,7 @@ Headed ls = (ls ≡ []) ⊎ ((E : ℕ) × (rest : List Line) × (ls ≡ rig E �
 pub record Formed (ls : List Line) : Type 0 where
   pub headed : Headed ls
   pub monitored : WellFormed (eventsOf ls) (monitors ls)
+  pub ordered : Permutation (eventsOf ls) (orderOf ls)
 
 -- a monitor starts in one of its states
 pub start-below : (k : Kind) → Ranged k → startOf k < statesOf k
@@ -125,6 +139,30 @@ module _ (ls : List Line) (m : Monitor) (q : latest (monitors ls) ≡ some m) wh
   new-move : (s e t : ℕ) → Sound ls (continues (go s e t)) → (u : ℕ) → In (go s e u) (m .parts) → ⊥
   unfolding Case4 cases continuing OfLatest
   new-move s e t h u i = h .new (rw q (u, i))
+
+-- an `ord` line has E different numbers below E, so it has them all
+module _ (ls : List Line) (es : List ℕ) (s : Sound ls (ord es)) where
+  pub sound-second : length ls ≡ 1
+  unfolding Case5 cases
+  sound-second = is (ℕ-discrete (length ls) 1)
+    where
+      is : Dec (length ls ≡ 1) → length ls ≡ 1
+      is (yes q) = q
+      is (no n) = absurd (s .placed n)
+
+  pub sound-listed : Permutation (eventsOf ls) es
+  unfolding Case2 Case3 Case16 cases Twice
+  sound-listed = full-permutation (eventsOf ls) es (full (ℕ-discrete (length es) (eventsOf ls))) (λ e i. within (suc e) (eventsOf ls) (λ h. s .ranged (e, i, omega arith)))
+      (once-distinct 0 es (λ i j a b q. one i j a b q (ℕ-trichotomy i j)))
+    where
+      full : Dec (length es ≡ eventsOf ls) → length es ≡ eventsOf ls
+      full (yes r) = r
+      full (no n) = absurd (s .formed (sound-second, n))
+
+      one : (i j : ℕ) → i < length es → j < length es → getD es i 0 ≡ getD es j 0 → (i < j) ⊎ ((i ≡ j) ⊎ (j < i)) → i ≡ j
+      one i j a b q (inl h) = absurd (s .named-once (i, j, h, b, q))
+      one i j a b q (inr (inl h)) = h
+      one i j a b q (inr (inr h)) = absurd (s .named-once (j, i, h, a, sym q))
 
 once-more : {A : Type 0} (f : A → Part) (ps : List Part) (p : Part) → ((a b : A) → f a ≡ f b → a ≡ b) → ((a b : A) → f a ≡ p → In (f b) ps → ⊥) → Once f ps → Once f (ps ++ (p ∷ []))
 unfolding Once
@@ -180,6 +218,7 @@ not-empty x l q = let z : _≡_ {A = ℕ} 0 1 = cc in omega arith
 pub eventsOf-more : (l : Line) (ls ks : List Line) → eventsOf ((l ∷ ls) ++ ks) ≡ eventsOf (l ∷ ls)
 unfolding eventsOf
 eventsOf-more (rig E) ls ks = refl
+eventsOf-more (ord es) ls ks = refl
 eventsOf-more (begins k) ls ks = refl
 eventsOf-more (continues p) ls ks = refl
 eventsOf-more other ls ks = refl
@@ -189,28 +228,33 @@ unfolding Headed
 headed-more l ls k (inl q) = absurd (not-empty l ls q)
 headed-more l ls k (inr (E, rest, q, a, b)) = inr (E, rest ++ (k ∷ []), ap (λ x. x ++ (k ∷ [])) q, a, b)
 
--- a line that is not the first, whatever it adds to the monitors
-line-formed : (l : Line) (ls : List Line) (k : Line) → Formed (l ∷ ls) → WellFormed (eventsOf (l ∷ ls)) (extended (monitors (l ∷ ls)) k) → Formed ((l ∷ ls) ++ (k ∷ []))
-line-formed l ls k f w = record {
+-- a line that is not the first, whatever it adds to the monitors and makes of the order
+line-formed : (l : Line) (ls : List Line) (k : Line) → Formed (l ∷ ls) → WellFormed (eventsOf (l ∷ ls)) (extended (monitors (l ∷ ls)) k)
+    → Permutation (eventsOf (l ∷ ls)) (reordered (orderOf (l ∷ ls)) k) → Formed ((l ∷ ls) ++ (k ∷ []))
+line-formed l ls k f w o = record {
   headed = headed-more l ls k (f .headed);
   monitored = rw (eventsOf-more l ls (k ∷ []), monitors-more (l ∷ ls) k) w;
+  ordered = rw (eventsOf-more l ls (k ∷ []), order-more (l ∷ ls) k) o;
 }
 
 first-line : (l : Line) → Sound [] l → Formed (l ∷ [])
-unfolding Case2 Case5 Case3 cases beginning continuing Headed monitors monitorsFrom extended
+unfolding Case2 Case5 Case3 cases beginning continuing Headed monitors monitorsFrom extended eventsOf orderOf orderFrom reordered
 first-line (rig E) s = record {
   headed = inr (E, [], refl, within 1 E (λ h. s .ranged (inl h)), within E 16 (λ h. s .ranged (inr h)));
   monitored = no-monitor _;
+  ordered = range-permutation E;
 }
+first-line (ord es) s = absurd (s .placed (λ q. omega arith))
 first-line (begins (mon S a)) s = absurd (s .placed refl)
 first-line (continues (go a b c)) s = absurd (s .placed (inl refl))
 first-line other s = absurd (s .formed tt)
 
 later-line : (l : Line) (ls : List Line) (k : Line) → Formed (l ∷ ls) → Sound (l ∷ ls) k → Formed ((l ∷ ls) ++ (k ∷ []))
-unfolding Case2 Case5 cases extended
+unfolding Case2 Case5 cases extended reordered
 later-line l ls (rig E) f s = absurd (s .placed (not-empty l ls))
-later-line l ls (begins k) f s = line-formed l ls (begins k) f (one-monitor-more (l ∷ ls) k (f .monitored) s)
-later-line l ls (continues p) f s = line-formed l ls (continues p) f (one-part-more (l ∷ ls) p (f .monitored) s)
+later-line l ls (ord es) f s = line-formed l ls (ord es) f (f .monitored) (sound-listed (l ∷ ls) es s)
+later-line l ls (begins k) f s = line-formed l ls (begins k) f (one-monitor-more (l ∷ ls) k (f .monitored) s) (f .ordered)
+later-line l ls (continues p) f s = line-formed l ls (continues p) f (one-part-more (l ∷ ls) p (f .monitored) s) (f .ordered)
 later-line l ls other f s = absurd (s .formed tt)
 
 sound-formed : (ls : List Line) (l : Line) → Formed ls → Sound ls l → Formed (ls ++ (l ∷ []))
@@ -218,8 +262,8 @@ sound-formed [] l f s = first-line l s
 sound-formed (k ∷ ls) l f s = later-line k ls l f s
 
 nothing-formed : Formed []
-unfolding Headed monitors monitorsFrom
-nothing-formed = record { headed = inl refl; monitored = no-monitor _ }
+unfolding Headed monitors monitorsFrom eventsOf orderOf orderFrom
+nothing-formed = record { headed = inl refl; monitored = no-monitor _; ordered = record { once = none; just = λ e. (λ i. absurd (List·Memᴰ·not-nil i), λ h. absurd (omega arith)) } }
 
 all-formed : (front back : List Line) → Formed front → AllSound front back → Formed (front ++ back)
 unfolding AllSound

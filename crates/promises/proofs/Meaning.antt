@@ -9,15 +9,15 @@ use mathlib.Core.List.{List, [], _∷_, _++_, append-nil, List·Memᴰ as In, Li
 use Prim.Native.Nat.{ℕ, _*_, _≤_, _<_}
 use native.Mathlib.Omega.{arith}
 use lib.ListN.{length}
-use Rattle.lists.specs.Lists.{range, Pairwise}
-use Rattle.lists.proofs.Ordered.{range-in, range-ordered, pairwise-imp}
+use Rattle.lists.specs.Lists.{Pairwise, Permutation}
+use Rattle.lists.proofs.Ordered.{indexOf-ordered}
 use Rattle.automaton.specs.Automaton as automaton
 use Rattle.automaton.specs.Automaton.{Automaton}
 use Rattle.automaton.specs.Joint.{idle, joint, sizes, jointState, Fit, EachAdmits}
 use Rattle.automaton.proofs.Joint.{joint-admits, joint-states, joint-events, joint-state, join-never}
 use Rattle.automaton.proofs.Counting.{carried-plain}
-use Rattle.promises.specs.Text.{Kind, mon, Part, go, Monitor, monitors, statesOf, startOf, product, eventsOf, decoded, Readable, jointStates}
-use Rattle.promises.specs.Meaning.{Follows, Says, Admits, AllAdmit, CarriedOn, Belongs}
+use Rattle.promises.specs.Text.{Kind, mon, Part, go, Monitor, monitors, statesOf, startOf, product, eventsOf, orderOf, decoded, Readable, jointStates}
+use Rattle.promises.specs.Meaning.{Follows, Says, Admits, AllAdmit, CarriedOn, Belongs, Earlier}
 use Rattle.promises.specs.Reading.{moveBy}
 use Rattle.promises.specs.Rig.{nextOf, monitorOf, standing, linesAutomaton, linesStart, rigAutomaton, start}
 use Rattle.promises.proofs.Lines.{Once, PartRanged, Kept, WellFormed, start-below, readable-formed}
@@ -42,13 +42,13 @@ unfolding Once
 move-is E m k s e t i = let (u, q) = moves (m .parts) s e t i in q ∙ ap some (k .move-once s e u t (moved (m .parts) s e u q) i)
 
 -- a `mon` monitor admits just the sequences that its `go` lines lead on
-module _ (E S s₀ : ℕ) (ps : List Part) (k : Kept E (record { kind = mon S s₀; parts = ps })) where
+module _ (E S s₀ : ℕ) (es : List ℕ) (listed : Permutation E es) (ps : List Part) (k : Kept E (record { kind = mon S s₀; parts = ps })) where
   in-range : (s e t : ℕ) → In (go s e t) ps → (s < S) × (e < E) × (t < S)
   unfolding PartRanged statesOf
   in-range s e t i = k .parts-ranged (go s e t) i
 
   abbrev table : Automaton
-  table = monitorOf E (record { kind = mon S s₀; parts = ps })
+  table = monitorOf es (record { kind = mon S s₀; parts = ps })
 
   mon-admits : (s : ℕ) (v : List ℕ) → s < S → Follows ps s v ↔ automaton.Admits table s v
   unfolding Follows automaton.Admits monitorOf nextOf statesOf
@@ -56,39 +56,39 @@ module _ (E S s₀ : ℕ) (ps : List Part) (k : Kept E (record { kind = mon S s�
   mon-admits s (e ∷ v) h = (λ (t, j, a). onward t j (in-range s e t j) (mon-admits t v) a, λ a. back a (mon-admits (table .next s e) v) (moveBy ps s e) refl)
     where
       onward : (t : ℕ) → In (go s e t) ps → (s < S) × (e < E) × (t < S) → (t < S → Follows ps t v ↔ automaton.Admits table t v) → Follows ps t v
-          → (s < S) × In e (range E) × automaton.Admits table (Option·getD (moveBy ps s e) S) v
-      onward t j (a, b, c) ih f = (a, range-in E e .1 b, rw (move-is E (record { kind = mon S s₀; parts = ps }) k s e t j) (ih c .0 f))
+          → (s < S) × In e es × automaton.Admits table (Option·getD (moveBy ps s e) S) v
+      onward t j (a, b, c) ih f = (a, listed .just e .1 b, rw (move-is E (record { kind = mon S s₀; parts = ps }) k s e t j) (ih c .0 f))
 
-      back : (s < S) × In e (range E) × automaton.Admits table (Option·getD (moveBy ps s e) S) v
+      back : (s < S) × In e es × automaton.Admits table (Option·getD (moveBy ps s e) S) v
           → (Option·getD (moveBy ps s e) S < S → Follows ps (Option·getD (moveBy ps s e) S) v ↔ automaton.Admits table (Option·getD (moveBy ps s e) S) v)
           → (o : Option ℕ) → moveBy ps s e ≡ o → (t : ℕ) × In (go s e t) ps × Follows ps t v
       back (a, b, c) ih none q = let lt : S < S = rw q at (admits-state table _ v c) in absurd (omega arith)
       back (a, b, c) ih (some t) q = let j = moved ps s e t q in let f = ih (rw q (in-range s e t j .2)) .1 c in (t, j, rw q at f)
 
 -- a monitor admits a sequence exactly when its automaton does: one clause a kind
-kind-admits : (E : ℕ) (k : Kind) (ps : List Part) → Kept E (record { kind = k; parts = ps }) → (s : ℕ) (v : List ℕ) → s < statesOf k
-    → Says k ps s v ↔ automaton.Admits (monitorOf E (record { kind = k; parts = ps })) s v
+kind-admits : (E : ℕ) (es : List ℕ) → Permutation E es → (k : Kind) (ps : List Part) → Kept E (record { kind = k; parts = ps }) → (s : ℕ) (v : List ℕ) → s < statesOf k
+    → Says k ps s v ↔ automaton.Admits (monitorOf es (record { kind = k; parts = ps })) s v
 unfolding Says statesOf
-kind-admits E (mon S s₀) ps k s v h = mon-admits E S s₀ ps k s v h
+kind-admits E es p (mon S s₀) ps k s v h = mon-admits E S s₀ es p ps k s v h
 
-pub monitor-admits : (E : ℕ) (m : Monitor) → Kept E m → (s : ℕ) (v : List ℕ) → s < statesOf (m .kind) → Admits m s v ↔ automaton.Admits (monitorOf E m) s v
+pub monitor-admits : (E : ℕ) (es : List ℕ) → Permutation E es → (m : Monitor) → Kept E m → (s : ℕ) (v : List ℕ) → s < statesOf (m .kind) → Admits m s v ↔ automaton.Admits (monitorOf es m) s v
 unfolding Admits
-monitor-admits E m k s v h = kind-admits E (m .kind) (m .parts) k s v h
+monitor-admits E es p m k s v h = kind-admits E es p (m .kind) (m .parts) k s v h
 
-module _ (E : ℕ) (ms : List Monitor) (w : WellFormed E ms) where
+module _ (E : ℕ) (es : List ℕ) (listed : Permutation E es) (ms : List Monitor) (w : WellFormed E ms) where
   starts : (m : Monitor) → In m ms → startOf (m .kind) < statesOf (m .kind)
   starts m i = start-below (m .kind) (w .each m i .ranged)
 
-  from-start : (m : Monitor) → In m ms → (v : List ℕ) → Admits m (startOf (m .kind)) v ↔ automaton.Admits (monitorOf E m) (startOf (m .kind)) v
-  from-start m i v = monitor-admits E m (w .each m i) (startOf (m .kind)) v (starts m i)
+  from-start : (m : Monitor) → In m ms → (v : List ℕ) → Admits m (startOf (m .kind)) v ↔ automaton.Admits (monitorOf es m) (startOf (m .kind)) v
+  from-start m i v = monitor-admits E es listed m (w .each m i) (startOf (m .kind)) v (starts m i)
 
-  pub standing-fits : (ks : List Monitor) → ((m : Monitor) → In m ks → In m ms) → Fit (range E) (standing E ks)
+  pub standing-fits : (ks : List Monitor) → ((m : Monitor) → In m ks → In m ms) → Fit es (standing es ks)
   unfolding Fit standing monitorOf
   standing-fits [] sub = tt
   standing-fits (m ∷ ks) sub = (refl, starts m (sub m (here refl)), standing-fits ks (λ k i. sub k (there i)))
 
   each-admits : (ks : List Monitor) → ((m : Monitor) → In m ks → In m ms) → (v : List ℕ)
-      → EachAdmits (range E) (standing E ks) v ↔ (((m : Monitor) → In m ks → Admits m (startOf (m .kind)) v) × automaton.Admits (idle (range E)) 0 v)
+      → EachAdmits es (standing es ks) v ↔ (((m : Monitor) → In m ks → Admits m (startOf (m .kind)) v) × automaton.Admits (idle es) 0 v)
   unfolding EachAdmits standing
   each-admits [] sub v = (λ a. (λ m i. absurd (List·Memᴰ·not-nil i), a), λ a. a .1)
   each-admits (m ∷ ks) sub v =
@@ -102,64 +102,76 @@ module _ (E : ℕ) (ms : List Monitor) (w : WellFormed E ms) where
 
   -- every monitor admits a sequence exactly when the joint automaton does from the start
   pub all-admit : ms ≢ [] → (v : List ℕ)
-      → ((m : Monitor) → In m ms → Admits m (startOf (m .kind)) v) ↔ automaton.Admits (joint (range E) (standing E ms)) (jointState (standing E ms)) v
+      → ((m : Monitor) → In m ms → Admits m (startOf (m .kind)) v) ↔ automaton.Admits (joint es (standing es ms)) (jointState (standing es ms)) v
   unfolding monitorOf
   all-admit full v =
-      let jointly = joint-admits (range E) (standing E ms) v (standing-fits ms (λ m i. i)) in
+      let jointly = joint-admits es (standing es ms) v (standing-fits ms (λ m i. i)) in
       let each = each-admits ms (λ m i. i) v in
       (λ a. jointly .1 (each .1 (a, of-events ms full (λ m i. i) a)), λ a. each .0 (jointly .0 a) .0)
     where
-      of-events : (ks : List Monitor) → ks ≢ [] → ((m : Monitor) → In m ks → In m ms) → ((m : Monitor) → In m ks → Admits m (startOf (m .kind)) v) → automaton.Admits (idle (range E)) 0 v
+      of-events : (ks : List Monitor) → ks ≢ [] → ((m : Monitor) → In m ks → In m ms) → ((m : Monitor) → In m ks → Admits m (startOf (m .kind)) v) → automaton.Admits (idle es) 0 v
       of-events [] full sub a = absurd (full refl)
-      of-events (m ∷ ks) full sub a = idle-admits (monitorOf E m) (startOf (m .kind)) v (from-start m (sub m (here refl)) v .0 (a m (here refl)))
+      of-events (m ∷ ks) full sub a = idle-admits (monitorOf es m) (startOf (m .kind)) v (from-start m (sub m (here refl)) v .0 (a m (here refl)))
 
 -- ---- the text
 
-pub sizes-standing : (E : ℕ) (ms : List Monitor) → sizes (standing E ms) ≡ product ms
+pub sizes-standing : (es : List ℕ) (ms : List Monitor) → sizes (standing es ms) ≡ product ms
 unfolding sizes standing product monitorOf
-sizes-standing E [] = refl
-sizes-standing E (m ∷ ms) = ap (λ p. statesOf (m .kind) * p) (sizes-standing E ms)
+sizes-standing es [] = refl
+sizes-standing es (m ∷ ms) = ap (λ p. statesOf (m .kind) * p) (sizes-standing es ms)
 
 -- P of the automaton is P of the lines, on any text
 pub rig-states : (t : List ℕ) → rigAutomaton t .states ≡ jointStates t
 unfolding rigAutomaton linesAutomaton jointStates
-rig-states t = joint-states (range (eventsOf (decoded t))) (standing (eventsOf (decoded t)) (monitors (decoded t))) ∙ sizes-standing (eventsOf (decoded t)) (monitors (decoded t))
+rig-states t = joint-states (orderOf (decoded t)) (standing (orderOf (decoded t)) (monitors (decoded t))) ∙ sizes-standing (orderOf (decoded t)) (monitors (decoded t))
 
-never-stops : (E : ℕ) (es : List ℕ) (ms : List Monitor) → ms ≢ [] → (x : ℕ) → joint es (standing E ms) .stop x ≡ false
+never-stops : (es : List ℕ) (ms : List Monitor) → ms ≢ [] → (x : ℕ) → joint es (standing es ms) .stop x ≡ false
 unfolding joint standing monitorOf
-never-stops E es [] full x = absurd (full refl)
-never-stops E es (m ∷ ms) full x = join-never (monitorOf E m) (joint es (standing E ms)) (inl (λ s. refl)) x
+never-stops es [] full x = absurd (full refl)
+never-stops es (m ∷ ms) full x = join-never (monitorOf es m) (joint es (standing es ms)) (inl (λ s. refl)) x
 
 module _ (t : List ℕ) (r : Readable t) where
   well-formed : WellFormed (eventsOf (decoded t)) (monitors (decoded t))
   well-formed = readable-formed t r .monitored
 
-  pub rig-events : rigAutomaton t .events ≡ range (eventsOf (decoded t))
+  pub order-permutes : Permutation (eventsOf (decoded t)) (orderOf (decoded t))
+  order-permutes = readable-formed t r .ordered
+
+  fits : Fit (orderOf (decoded t)) (standing (orderOf (decoded t)) (monitors (decoded t)))
+  fits = standing-fits (eventsOf (decoded t)) (orderOf (decoded t)) order-permutes (monitors (decoded t)) well-formed (monitors (decoded t)) (λ m i. i)
+
+  rig-events : rigAutomaton t .events ≡ orderOf (decoded t)
   unfolding rigAutomaton linesAutomaton
-  rig-events = joint-events (range (eventsOf (decoded t))) (standing (eventsOf (decoded t)) (monitors (decoded t))) (standing-fits _ _ well-formed (monitors (decoded t)) (λ m i. i))
+  rig-events = joint-events (orderOf (decoded t)) (standing (orderOf (decoded t)) (monitors (decoded t))) fits
+
+  -- the automaton's events are the text's
+  pub events-just : (e : ℕ) → In e (rigAutomaton t .events) ↔ (e < eventsOf (decoded t))
+  events-just e = rw rig-events (order-permutes .just e)
 
   pub rig-start : start t < rigAutomaton t .states
   unfolding rigAutomaton linesAutomaton start linesStart
-  rig-start = joint-state (range (eventsOf (decoded t))) (standing (eventsOf (decoded t)) (monitors (decoded t))) (standing-fits _ _ well-formed (monitors (decoded t)) (λ m i. i))
+  rig-start = joint-state (orderOf (decoded t)) (standing (orderOf (decoded t)) (monitors (decoded t))) fits
 
   -- no state of paper 01 may stop
   pub rig-never-stops : (x : ℕ) → rigAutomaton t .stop x ≡ false
   unfolding rigAutomaton linesAutomaton
-  rig-never-stops x = never-stops (eventsOf (decoded t)) (range (eventsOf (decoded t))) (monitors (decoded t)) (r .monitored) x
+  rig-never-stops x = never-stops (orderOf (decoded t)) (monitors (decoded t)) (r .monitored) x
 
   pub rig-small : rigAutomaton t .states ≤ 1024
   unfolding jointStates
   rig-small = rw (rig-states t) (well-formed .small)
 
-  pub events-ordered : Pairwise _<_ (rigAutomaton t .events)
-  events-ordered = rw rig-events (range-ordered (eventsOf (decoded t)))
-
   pub events-distinct : Pairwise _≢_ (rigAutomaton t .events)
-  events-distinct = pairwise-imp (λ a b i j h. omega arith) events-ordered
+  events-distinct = rw rig-events (order-permutes .once)
+
+  -- and stand in its order
+  pub events-ordered : Pairwise (Earlier (decoded t)) (rigAutomaton t .events)
+  unfolding Earlier
+  events-ordered = rw rig-events (indexOf-ordered (order-permutes .once))
 
   pub text-admits : (v : List ℕ) → AllAdmit t v ↔ automaton.Admits (rigAutomaton t) (start t) v
   unfolding AllAdmit rigAutomaton linesAutomaton start linesStart
-  text-admits v = all-admit (eventsOf (decoded t)) (monitors (decoded t)) well-formed (r .monitored) v
+  text-admits v = all-admit (eventsOf (decoded t)) (orderOf (decoded t)) order-permutes (monitors (decoded t)) well-formed (r .monitored) v
 
   -- what belongs by the lines is what belongs by the automaton
   pub text-belongs : (h : ℕ) (v : List ℕ) → Belongs t h v ↔ automaton.Belongs (rigAutomaton t) h (start t) v

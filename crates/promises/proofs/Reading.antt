@@ -5,17 +5,19 @@ use mathlib.Core.Logic.{_⊎_, inl, inr, _≢_, _↔_}
 use mathlib.Core.Bool.{Bool, not, _&&_}
 use mathlib.Core.List.{List, [], _∷_, _++_, append-nil, append-assoc, List·Memᴰ as In, List·Memᴰ·head as here, List·Memᴰ·tail as there}
 use mathlib.Core.Option.{Option, none, some, orElse, Option·none-ne-some}
-use Prim.Native.Nat.{ℕ, suc, _*_, _≤_, _<_}
+use Prim.Native.Nat.{ℕ, zero, suc, _*_, _≤_, _<_}
 use native.Mathlib.Omega.{arith}
-use lib.ListN.{length}
-use lib.Dec.{ltb, eqb}
+use lib.ListN.{length, getD}
+use lib.Dec.{ltb, leb, eqb}
 use borrow.Author.Tests.{eq-eqb}
-use Rattle.lists.specs.Lists.{pick}
+use Rattle.lists.specs.Lists.{pick, any}
 use Rattle.lists.proofs.Tests.{contra, case}
+use Rattle.lists.proofs.Members.{any-some, any-in, getD-in}
+use Rattle.lists.proofs.Distinct.{in-place}
 use Rattle.lists.proofs.Tells.{Tells, tells-true, tells-false, tells-lt, tells-le, tells-eq, tells-never, tells-always, tells-not, tells-or, tells-and}
 use Rattle.promises.specs.Answer.{served, refused, Served, unless}
-use Rattle.promises.specs.Text.{Kind, mon, Part, go, Line, rig, begins, continues, other, Monitor, monitors, latest, statesOf, eventsOf, product, decoded, unended, Outside, Cases, beginning, OfLatest, continuing, cases, Case1, Case2, Case3, Case4, Case5, Case6, Sound, AllSound, Readable, LineFault, Fault}
-use Rattle.promises.specs.Reading.{empty, isSome, leadsTo, moveBy, Tests, outside, testBeginning, ofLatest, testContinuing, tests, lineCase, readingFrom, reading}
+use Rattle.promises.specs.Text.{Kind, mon, Part, go, Line, rig, ord, begins, continues, other, Monitor, monitors, latest, statesOf, eventsOf, product, decoded, unended, Outside, Cases, beginning, OfLatest, continuing, Twice, cases, Case1, Case2, Case3, Case16, Case4, Case5, Case6, Sound, AllSound, Readable, first, LineFault, Fault}
+use Rattle.promises.specs.Reading.{empty, isSome, leadsTo, moveBy, Tests, outside, testBeginning, ofLatest, testContinuing, repeats, tests, lineCase, readingFrom, reading}
 use Rattle.promises.proofs.Lines.{not-empty}
 
 -- ---- each test tells its case
@@ -76,11 +78,37 @@ unfolding ofLatest OfLatest
 tells-latest f P t none = tells-never
 tells-latest f P t (some m) = t m
 
+tells-any : (f : ℕ → Bool) (P : ℕ → Type 0) → ((e : ℕ) → Tells (f e) (P e)) → (es : List ℕ) → Tells (any f es) ((e : ℕ) × In e es × P e)
+tells-any f P t es = record {
+  yes = λ q. let (e, i, p) = any-some f es q in (e, i, t e .yes p);
+  no = λ q (e, i, p). contra (any-in f i (tells-true (t e) p)) q;
+}
+
+-- some number stands at two places
+tells-twice : (es : List ℕ) → Tells (repeats es) (Twice es)
+unfolding Twice
+tells-twice [] = record { yes = λ q. contra q refl; no = λ q (i, j, a, b, e). omega arith }
+tells-twice (e ∷ es) =
+    let t = tells-or (tells-any (eqb e) (λ d. e ≡ d) (tells-eq e) es) (tells-twice es) in
+    record { yes = λ q. there-twice (t .yes q); no = λ q p. t .no q (in-rest p) }
+  where
+    there-twice : ((d : ℕ) × In d es × (e ≡ d)) ⊎ ((i : ℕ) × (j : ℕ) × (i < j) × (j < length es) × (getD es i 0 ≡ getD es j 0))
+        → (i : ℕ) × (j : ℕ) × (i < j) × (j < suc (length es)) × (getD (e ∷ es) i 0 ≡ getD (e ∷ es) j 0)
+    there-twice (inl (d, i, q)) = let (k, l, r) = in-place 0 i in (0, suc k, omega arith, omega arith, q ∙ sym r)
+    there-twice (inr (i, j, a, b, q)) = (suc i, suc j, omega arith, omega arith, q)
+
+    in-rest : (i : ℕ) × (j : ℕ) × (i < j) × (j < suc (length es)) × (getD (e ∷ es) i 0 ≡ getD (e ∷ es) j 0)
+        → ((d : ℕ) × In d es × (e ≡ d)) ⊎ ((i : ℕ) × (j : ℕ) × (i < j) × (j < length es) × (getD es i 0 ≡ getD es j 0))
+    in-rest (i, zero, a, b, q) = absurd (omega arith)
+    in-rest (zero, suc j, a, b, q) = inl (getD es j 0, getD-in es j 0 (omega arith), q)
+    in-rest (suc i, suc j, a, b, q) = inr (i, j, omega arith, omega arith, q)
+
 -- each of the tests tells its case
 record Told (t : Tests) (c : Cases) : Type 0 where
   misformed : Tells (t .misformed) (c .misformed)
   misplaced : Tells (t .misplaced) (c .misplaced)
   out-of-range : Tells (t .out-of-range) (c .out-of-range)
+  twice : Tells (t .twice) (c .twice)
   again : Tells (t .again) (c .again)
   too-many : Tells (t .too-many) (c .too-many)
 
@@ -90,6 +118,7 @@ told-beginning ls k f P out = record {
   misformed = tells-never;
   misplaced = tells-empty ls;
   out-of-range = tells-or out (tells-le 4 (length (monitors ls)));
+  twice = tells-never;
   again = tells-never;
   too-many = tells-lt 1024 (product (monitors ls) * statesOf k);
 }
@@ -101,6 +130,7 @@ told-continuing ls f g P Q out again = record {
   misformed = tells-never;
   misplaced = tells-or (tells-empty ls) (tells-empty (monitors ls));
   out-of-range = tells-latest f P out (latest (monitors ls));
+  twice = tells-never;
   again = tells-latest g Q again (latest (monitors ls));
   too-many = tells-never;
 }
@@ -112,6 +142,15 @@ told ls (rig E) = record {
   misformed = tells-never;
   misplaced = tells-not (tells-empty ls);
   out-of-range = tells-outside 1 16 E;
+  twice = tells-never;
+  again = tells-never;
+  too-many = tells-never;
+}
+told ls (ord es) = record {
+  misformed = tells-and (tells-eq (length ls) 1) (tells-not (tells-eq (length es) (eventsOf ls)));
+  misplaced = tells-not (tells-eq (length ls) 1);
+  out-of-range = tells-any (leb (eventsOf ls)) (λ e. eventsOf ls ≤ e) (tells-le (eventsOf ls)) es;
+  twice = tells-twice es;
   again = tells-never;
   too-many = tells-never;
 }
@@ -120,31 +159,36 @@ told ls (continues (go s e t)) =
     told-continuing ls _ _ _ _
     (λ m. tells-or (tells-le (statesOf (m .kind)) s) (tells-or (tells-le (eventsOf ls) e) (tells-le (statesOf (m .kind)) t)))
     (λ m. tells-moves (m .parts) s e)
-told ls other = record { misformed = tells-always; misplaced = tells-empty ls; out-of-range = tells-never; again = tells-never; too-many = tells-never }
+told ls other = record { misformed = tells-always; misplaced = tells-empty ls; out-of-range = tells-never; twice = tells-never; again = tells-never; too-many = tells-never }
 
 -- ---- one line
 
 pub sound-case : (ls : List Line) (l : Line) → Sound ls l → lineCase ls l ≡ 0
-unfolding lineCase Case2 Case5 Case3 Case4 Case6
+unfolding lineCase Case2 Case5 Case3 Case16 Case4 Case6
 sound-case ls l s =
     let t = told ls l in
-    rw (tells-false (t .misformed) (s .formed), tells-false (t .misplaced) (s .placed), tells-false (t .out-of-range) (s .ranged), tells-false (t .again) (s .new), tells-false (t .too-many) (s .fits))
+    rw (tells-false (t .misformed) (s .formed), tells-false (t .misplaced) (s .placed), tells-false (t .out-of-range) (s .ranged), tells-false (t .twice) (s .named-once), tells-false (t .again) (s .new), tells-false (t .too-many) (s .fits))
+
+-- where a case is the first that holds, its test picks its number m; k is what the later tests pick
+picked : {b : Bool} {P L : Type 0} (m k : ℕ) {n : ℕ} → Tells b P → m ≢ 0 → (L → (k ≡ n) × (n ≢ 0)) → first P (n ≡ m) L → (pick b m k ≡ n) × (n ≢ 0)
+picked m k t ne later (inl (p, q)) = rw (tells-true t p, q) (refl, ne)
+picked m k t ne later (inr (p, l)) = rw (tells-false t p) (later l)
 
 pub fault-case : (ls : List Line) (l : Line) (n : ℕ) → LineFault ls l n → (lineCase ls l ≡ n) × (n ≢ 0)
-unfolding LineFault lineCase Case2 Case5 Case3 Case4 Case6
-fault-case ls l n (inl (c, q)) = rw (q, tells-true (told ls l .misformed) c) (refl, omega arith)
-fault-case ls l n (inr (a, inl (c, q))) = rw (q, tells-false (told ls l .misformed) a, tells-true (told ls l .misplaced) c) (refl, omega arith)
-fault-case ls l n (inr (a, inr (b, inl (c, q)))) =
-    rw (q, tells-false (told ls l .misformed) a, tells-false (told ls l .misplaced) b, tells-true (told ls l .out-of-range) c) (refl, omega arith)
-fault-case ls l n (inr (a, inr (b, inr (d, inl (c, q))))) =
-    rw (q, tells-false (told ls l .misformed) a, tells-false (told ls l .misplaced) b, tells-false (told ls l .out-of-range) d, tells-true (told ls l .again) c) (refl, omega arith)
-fault-case ls l n (inr (a, inr (b, inr (d, inr (f, inl (c, q)))))) =
-    rw (q, tells-false (told ls l .misformed) a, tells-false (told ls l .misplaced) b, tells-false (told ls l .out-of-range) d, tells-false (told ls l .again) f, tells-true (told ls l .too-many) c) (refl, omega arith)
-fault-case ls l n (inr (a, inr (b, inr (d, inr (f, inr (g, never)))))) = absurd never
+unfolding LineFault lineCase Case2 Case5 Case3 Case16 Case4 Case6
+fault-case ls l n =
+    let t = told ls l in
+    picked 2 _ (t .misformed) (λ q. omega arith)
+    (picked 5 _ (t .misplaced) (λ q. omega arith)
+    (picked 3 _ (t .out-of-range) (λ q. omega arith)
+    (picked 16 _ (t .twice) (λ q. omega arith)
+    (picked 4 _ (t .again) (λ q. omega arith)
+    (picked 6 0 (t .too-many) (λ q. omega arith)
+    (λ never. absurd never))))))
 
 -- every line is sound, or some case is the first that holds of it
 judged : (ls : List Line) (l : Line) → Sound ls l ⊎ ((n : ℕ) × LineFault ls l n)
-unfolding LineFault Case2 Case5 Case3 Case4 Case6
+unfolding LineFault Case2 Case5 Case3 Case16 Case4 Case6
 judged ls l =
     let t = told ls l in
     case (tests ls l .misformed) (λ q. inr (2, inl (t .misformed .yes q, refl))) (λ q.
@@ -153,10 +197,12 @@ judged ls l =
     let b = t .misplaced .no q in
     case (tests ls l .out-of-range) (λ q. inr (3, inr (a, inr (b, inl (t .out-of-range .yes q, refl))))) (λ q.
     let c = t .out-of-range .no q in
-    case (tests ls l .again) (λ q. inr (4, inr (a, inr (b, inr (c, inl (t .again .yes q, refl)))))) (λ q.
-    let d = t .again .no q in
-    case (tests ls l .too-many) (λ q. inr (6, inr (a, inr (b, inr (c, inr (d, inl (t .too-many .yes q, refl))))))) (λ q.
-    inl (record { formed = a; placed = b; ranged = c; new = d; fits = t .too-many .no q }))))))
+    case (tests ls l .twice) (λ q. inr (16, inr (a, inr (b, inr (c, inl (t .twice .yes q, refl)))))) (λ q.
+    let d = t .twice .no q in
+    case (tests ls l .again) (λ q. inr (4, inr (a, inr (b, inr (c, inr (d, inl (t .again .yes q, refl))))))) (λ q.
+    let e = t .again .no q in
+    case (tests ls l .too-many) (λ q. inr (6, inr (a, inr (b, inr (c, inr (d, inr (e, inl (t .too-many .yes q, refl)))))))) (λ q.
+    inl (record { formed = a; placed = b; ranged = c; named-once = d; new = e; fits = t .too-many .no q })))))))
 
 -- ---- all lines
 
@@ -217,22 +263,26 @@ fault-said t n p (inr (inr (inl (c, s, u, a, b)))) =
 fault-said t n p (inr (inr (inr (c, s, u, m, a, b)))) =
     rw (tells-false (tells-lt 65535 (length t)) c, ended-reading (decoded t) (unended t) s, u, m, a, b)
 
-line-number : (ls : List Line) (l : Line) (n : ℕ) → LineFault ls l n → n ≤ 6
-unfolding LineFault
-line-number ls l n (inl (c, q)) = omega arith
-line-number ls l n (inr (a, inl (c, q))) = omega arith
-line-number ls l n (inr (a, inr (b, inl (c, q)))) = omega arith
-line-number ls l n (inr (a, inr (b, inr (d, inl (c, q))))) = omega arith
-line-number ls l n (inr (a, inr (b, inr (d, inr (f, inl (c, q)))))) = omega arith
-line-number ls l n (inr (a, inr (b, inr (d, inr (f, inr (g, never)))))) = absurd never
+-- the numbers of the checks on a text are 1 to 6, and from 16 on
+abbrev pub OfText : ℕ → Type 0
+OfText n = (n ≤ 6) ⊎ (16 ≤ n)
 
--- the numbers of the checks on a text are 1 to 6
-pub fault-number : (t : List ℕ) (n p : ℕ) → Fault t n p → n ≤ 6
+-- the number of the first case that holds, and of a later one
+numbered : {P L : Type 0} (m : ℕ) {n : ℕ} → OfText m → (L → OfText n) → first P (n ≡ m) L → OfText n
+numbered m o later (inl (p, q)) = rw q o
+numbered m o later (inr (p, l)) = later l
+
+line-number : (ls : List Line) (l : Line) (n : ℕ) → LineFault ls l n → OfText n
+unfolding LineFault
+line-number ls l n =
+    numbered 2 (inl (omega arith)) (numbered 5 (inl (omega arith)) (numbered 3 (inl (omega arith)) (numbered 16 (inr (omega arith)) (numbered 4 (inl (omega arith)) (numbered 6 (inl (omega arith)) (λ never. absurd never))))))
+
+pub fault-number : (t : List ℕ) (n p : ℕ) → Fault t n p → OfText n
 unfolding Fault
-fault-number t n p (inl (c, q, r)) = omega arith
+fault-number t n p (inl (c, q, r)) = inl (omega arith)
 fault-number t n p (inr (inl (c, (front, l, back, e, s, f, r)))) = line-number front l n f
-fault-number t n p (inr (inr (inl (c, s, u, q, r)))) = omega arith
-fault-number t n p (inr (inr (inr (c, s, u, m, q, r)))) = omega arith
+fault-number t n p (inr (inr (inl (c, s, u, q, r)))) = inl (omega arith)
+fault-number t n p (inr (inr (inr (c, s, u, m, q, r)))) = inl (omega arith)
 
 -- every text is readable, or has a fault
 pub readable-or-fault : (t : List ℕ) → Readable t ⊎ ((n : ℕ) × (p : ℕ) × Fault t n p)

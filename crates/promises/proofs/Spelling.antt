@@ -17,7 +17,7 @@ use Rattle.lists.specs.Decimal.{decimal, value, valueFrom, Digit}
 use Rattle.lists.proofs.Tests.{contra, case, and-left, and-right, or-left, or-rest, split}
 use Rattle.lists.proofs.Tells.{Tells, tells-eq, tells-and}
 use Rattle.lists.proofs.Decimal.{decimal-one, decimal-digit, decimal-some, decimal-lead, decimal-value, value-decimal, decimal-short, decimal-long}
-use Rattle.promises.specs.Text.{splitOn, init, lastOf, lines, unended, fields, digitsValue, number, same, mon, go, Line, rig, begins, continues, other, field, endOr, end, one, two, three, oneOrTwo, bytes, form, decode}
+use Rattle.promises.specs.Text.{splitOn, init, lastOf, lines, unended, fields, digitsValue, number, ahead, numbers, same, mon, go, Line, rig, ord, begins, continues, other, field, endOr, end, one, two, three, oneOrTwo, anyNumber, bytes, form, decode}
 use Rattle.promises.specs.Spelling.{spelled, Small, SpelledAs, Spelled, joined, Spelling}
 use Rattle.promises.proofs.Pieces.{preceded, Free, splitOn-some, splitOn-joined, splitOn-free, splitOn-pieces, init-last, in-init, last-in}
 
@@ -100,6 +100,22 @@ unfolding Small
 small-more a ns h s n (here q) = rw q h
 small-more a ns h s n (there i) = s n i
 
+-- each field is its number, written out
+all-numbers : (fs : List (List ℕ)) (ns : List ℕ) → numbers fs ≡ some ns → (fs ≡ map decimal ns) × Small ns
+unfolding numbers ahead Small
+all-numbers [] ns q = let e : [] ≡ ns = cc in rw (← e) (refl, λ n i. absurd (List·Memᴰ·not-nil i))
+all-numbers (f ∷ fs) ns q = go (number f) (numbers fs) refl refl (all-numbers fs)
+  where
+    go : (o : Option ℕ) (os : Option (List ℕ)) → number f ≡ o → numbers fs ≡ os → ((ms : List ℕ) → numbers fs ≡ some ms → (fs ≡ map decimal ms) × Small ms) → ((f ∷ fs) ≡ map decimal ns) × ((n : ℕ) → In n ns → n < 100000)
+    go none os d e ih = let z = rw d at q in let y : _≡_ {A = ℕ} 0 1 = cc in absurd (omega arith)
+    go (some a) none d e ih = let z = rw (d, e) at q in let y : _≡_ {A = ℕ} 0 1 = cc in absurd (omega arith)
+    go (some a) (some bs) d e ih =
+        let z : some (a ∷ bs) ≡ some ns = rw (d, e) at q in
+        let y : (a ∷ bs) ≡ ns = cc in
+        let (w, s) = number-is f a d in
+        let (v, ss) = ih bs e in
+        rw (← y) (ap₂ _∷_ w v, small-more a bs s ss)
+
 -- what a form is read from
 module _ (k : Line) (ne : k ≢ other) where
   field-is : (rest : ℕ → List (List ℕ) → Line) (fs : List (List ℕ)) → field number rest fs ≡ k
@@ -149,6 +165,14 @@ module _ (k : Line) (ne : k ≢ other) where
       whole a [] e s r = inl (a, e, small-more a [] s (λ n i. absurd (List·Memᴰ·not-nil i)), r)
       whole a (x ∷ gs) e s r = let (b, i, t, j) = one-is (g a) (x ∷ gs) r in inr (a, b, e ∙ ap (λ gs. decimal a ∷ gs) i, small-more a _ s t, j)
 
+  numbers-are : (f : List ℕ → Line) (fs : List (List ℕ)) → anyNumber f fs ≡ k → (ns : List ℕ) × (fs ≡ map decimal ns) × Small ns × (f ns ≡ k)
+  unfolding anyNumber
+  numbers-are f fs q = go (numbers fs) refl
+    where
+      go : (o : Option (List ℕ)) → numbers fs ≡ o → (ns : List ℕ) × (fs ≡ map decimal ns) × Small ns × (f ns ≡ k)
+      go none e = absurd (ne (sym (rw e at q)))
+      go (some ns) e = let (d, s) = all-numbers fs ns e in (ns, d, s, rw e at q)
+
 -- what is read as a form
 field-reads : (rest : ℕ → List (List ℕ) → Line) (n : ℕ) (gs : List (List ℕ)) → n < 100000 → field number rest (decimal n ∷ gs) ≡ rest n gs
 unfolding field
@@ -173,6 +197,11 @@ one-of-two-reads f g a s = field-reads (λ a. endOr (f a) (one (g a))) a [] (s a
 two-of-two-reads : (f : ℕ → Line) (g : ℕ → ℕ → Line) (a b : ℕ) → Small (a ∷ b ∷ []) → oneOrTwo f g (map decimal (a ∷ b ∷ [])) ≡ g a b
 unfolding oneOrTwo endOr Small
 two-of-two-reads f g a b s = field-reads (λ a. endOr (f a) (one (g a))) a (map decimal (b ∷ [])) (s a (here refl)) ∙ one-reads (g a) b (λ n i. s n (there i))
+
+numbers-read : (ns : List ℕ) → Small ns → numbers (map decimal ns) ≡ some ns
+unfolding numbers ahead Small
+numbers-read [] s = refl
+numbers-read (n ∷ ns) s = rw (number-reads n (s n (here refl)) (decimal n) refl, numbers-read ns (λ m i. s m (there i)))
 
 -- ---- a word and its numbers
 
@@ -210,11 +239,14 @@ form-spelled l v fs e k ne q =
     (one-or-two-is k ne (λ S. begins (mon S 0)) (λ S a. begins (mon S a)) fs (rw (t, u) at q)))
     (λ u. case (same v (bytes "go"))
     (λ x. let (a, b, c, g, s, r) = three-is k ne (λ s e t. continues (go s e t)) fs (rw (t, u, x) at q) in subst (λ k. Spelled k l) r (spelled-fields "go" (a ∷ b ∷ c ∷ []) l v fs e x g s))
-    (λ x. absurd (ne (sym (rw (t, u, x) at q))))))
+    (λ x. case (same v (bytes "ord"))
+    (λ y. let (ns, g, s, r) = numbers-are k ne (λ es. ord es) fs (rw (t, u, x, y) at q) in subst (λ k. Spelled k l) r (spelled-fields "ord" ns l v fs e y g s))
+    (λ y. absurd (ne (sym (rw (t, u, x, y) at q)))))))
 
 spelled-decodes : (k : Line) (l : List ℕ) → Spelled k l → decode l ≡ k
 unfolding decode Spelled form same
 spelled-decodes (rig E) l (q, s) = rw (q, fields-spelled "rig" (E ∷ []) refl) (one-reads (λ E. rig E) E s)
+spelled-decodes (ord es) l (q, s) = unfold anyNumber in rw (q, fields-spelled "ord" es refl, numbers-read es s)
 spelled-decodes (begins (mon S a)) l (inl (q, s)) = rw (q, fields-spelled "mon" (S ∷ a ∷ []) refl) (two-of-two-reads (λ S. begins (mon S 0)) (λ S a. begins (mon S a)) S a s)
 spelled-decodes (begins (mon S a)) l (inr (z, (q, s))) = rw (z, q, fields-spelled "mon" (S ∷ []) refl) (one-of-two-reads (λ S. begins (mon S 0)) (λ S a. begins (mon S a)) S s)
 spelled-decodes (continues (go a b c)) l (q, s) = rw (q, fields-spelled "go" (a ∷ b ∷ c ∷ []) refl) (three-reads (λ s e t. continues (go s e t)) a b c s)

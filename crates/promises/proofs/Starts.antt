@@ -7,17 +7,16 @@ use Prim.Native.Nat.{ℕ, _<_}
 use lib.ListN.{length, getD}
 use lib.Dec.{eqb}
 use borrow.Author.Tests.{eq-eqb, eqb-true}
-use Rattle.lists.specs.Lists.{pick}
+use Rattle.lists.specs.Lists.{pick, indexOf, Pairwise}
 use Rattle.lists.proofs.Tests.{case}
 use Rattle.lists.proofs.Members.{in-map}
 use Rattle.lists.proofs.Ordered.{same-ordered}
-use Rattle.automaton.specs.Pruning.{passes}
 use Rattle.automaton.specs.Counting as counting
-use Rattle.automaton.proofs.Counting.{scenarios-length, scenarios-ordered}
+use Rattle.automaton.proofs.Counting.{scenarios-ordered}
 use Rattle.automaton.proofs.Ranking.{unrank-at}
 use Rattle.promises.specs.Answer.{served}
-use Rattle.promises.specs.Text.{onto, splitOn, init, lines, fields, digitsValue, number, same, field, endOr, end, one, two, three, oneOrTwo, form, decode, Kind, mon, Part, go, Monitor, addPart, extended, monitorsFrom, monitors, decoded, startOf, Readable, Case7, Case8}
-use Rattle.promises.specs.Meaning.{Follows, Says, Admits, AllAdmit, CarriedOn, Belongs}
+use Rattle.promises.specs.Text.{onto, splitOn, init, lines, fields, digitsValue, number, ahead, numbers, same, field, endOr, end, one, two, three, oneOrTwo, anyNumber, form, decode, Kind, mon, Part, go, Monitor, addPart, extended, monitorsFrom, monitors, decoded, startOf, orderOf, Readable, Case7, Case8}
+use Rattle.promises.specs.Meaning.{Follows, Says, Admits, AllAdmit, CarriedOn, Belongs, Earlier}
 use Rattle.promises.specs.Rig.{rigAutomaton, start}
 use Rattle.promises.specs.Calls.{total, count}
 use Rattle.promises.specs.Demand3.{Gives}
@@ -26,8 +25,7 @@ use Rattle.promises.specs.Examples.{A-from-1, A-exchanged}
 use Rattle.promises.specs.Starts.{renumberedKind, renumberedPart, renumbered, Renumbered, Starts}
 use Rattle.promises.proofs.Meaning.{events-ordered}
 use Rattle.promises.proofs.Order.{comes-lex, order}
-use Rattle.promises.proofs.Checks.{counted-on}
-use Rattle.promises.proofs.Answers.{belongs-listed, scenarioOf, count-is, count-told}
+use Rattle.promises.proofs.Answers.{belongs-listed, scenarioOf, count-told, same-total, same-count}
 use Rattle.promises.proofs.Demand3.{gives-scenario, gives-only}
 
 -- ---- one monitor
@@ -91,37 +89,32 @@ module _ (t u : List ℕ) (n : Renumbered (monitors (decoded t)) (monitors (deco
   )
 
   module _ (r : Readable t) (s : Readable u) (h : ℕ) where
-    -- both lists of scenarios are in the order of events
-    same-list : counting.scenarios (rigAutomaton t) h (start t) ≡ counting.scenarios (rigAutomaton u) h (start u)
-    same-list =
-        same-ordered (λ v w a b. order .irreflexive v (order .transitive v w v (rw comes-lex a) (rw comes-lex b)))
-        (scenarios-ordered (rigAutomaton t) _<_ (events-ordered t r) h (start t))
-        (scenarios-ordered (rigAutomaton u) _<_ (events-ordered u s) h (start u))
-        (λ w i. belongs-listed u h s w .0 (same-belong h w .0 (belongs-listed t h r w .1 i)))
-        (λ w i. belongs-listed t h r w .0 (same-belong h w .1 (belongs-listed u h s w .1 i)))
+    counts-same : total t h ≡ total u h
+    counts-same = same-total t u h r s (same-belong h)
 
-    same-total : total t h ≡ total u h
-    unfolding total
-    same-total = sym (scenarios-length (rigAutomaton t) h (start t)) ∙ ap length same-list ∙ scenarios-length (rigAutomaton u) h (start u)
+    module _ (o : orderOf (decoded t) ≡ orderOf (decoded u)) where
+      -- both lists of scenarios are in the order of events
+      same-list : counting.scenarios (rigAutomaton t) h (start t) ≡ counting.scenarios (rigAutomaton u) h (start u)
+      unfolding Earlier
+      same-list =
+          same-ordered (λ v w a b. order .irreflexive t v (order .transitive t v w v (rw comes-lex a) (rw comes-lex b)))
+          (scenarios-ordered (rigAutomaton t) (Earlier (decoded t)) (events-ordered t r) h (start t))
+          (scenarios-ordered (rigAutomaton u) (Earlier (decoded t)) (subst (λ es. Pairwise (λ a b. indexOf es a < indexOf es b) (rigAutomaton u .events)) (sym o) (events-ordered u s)) h (start u))
+          (λ w i. belongs-listed u h s w .0 (same-belong h w .0 (belongs-listed t h r w .1 i)))
+          (λ w i. belongs-listed t h r w .0 (same-belong h w .1 (belongs-listed u h s w .1 i)))
 
-    same-scenario : (i : ℕ) → i < total t h → scenarioOf t h i ≡ scenarioOf u h i
-    unfolding total
-    same-scenario i l =
-        unrank-at (rigAutomaton t) h (start t) i l ∙ ap (λ ws. getD ws i []) same-list ∙ sym (unrank-at (rigAutomaton u) h (start u) i (rw (← same-total) l))
+      same-scenario : (i : ℕ) → i < total t h → scenarioOf t h i ≡ scenarioOf u h i
+      unfolding total
+      same-scenario i l =
+          unrank-at (rigAutomaton t) h (start t) i l ∙ ap (λ ws. getD ws i []) same-list ∙ sym (unrank-at (rigAutomaton u) h (start u) i (rw (← counts-same) l))
 
     module _ (c7 : Case7 h → ⊥) (cells : List ℕ) (c8 : Case8 t h cells → ⊥) (m p : ℕ) (q : count t h cells ≡ served (m ∷ p ∷ [])) where
-      same-count : (others : List ℕ) → (Case8 u h others → ⊥) → (p : ℕ) × (count u h others ≡ served (m ∷ p ∷ []))
-      same-count others d8 =
+      same-given : orderOf (decoded t) ≡ orderOf (decoded u) → (i : ℕ) → i < m → (w : List ℕ) → Gives generator t h i w → Gives generator u h i w
+      same-given o i l w g =
           let k = count-told t h cells m p r c7 c8 q in
-          let e : total u h ≡ m = sym same-total ∙ k .total-is in
-          (passes (rigAutomaton u), count-is u h s c7 others d8 ∙ counted-on u h _ (rw e (k .some)) (rw e (k .few)) ∙ rw e)
-
-      same-given : (i : ℕ) → i < m → (w : List ℕ) → Gives generator t h i w → Gives generator u h i w
-      same-given i l w g =
-          let k = count-told t h cells m p r c7 c8 q in
-          let e : total u h ≡ m = sym same-total ∙ k .total-is in
+          let e : total u h ≡ m = sym counts-same ∙ k .total-is in
           let lt : i < total t h = rw (k .total-is) l in
-          let v : w ≡ scenarioOf u h i = gives-only t h r c7 (rw (k .total-is) (k .some)) (rw (k .total-is) (k .few)) i w lt g ∙ same-scenario i lt in
+          let v : w ≡ scenarioOf u h i = gives-only t h r c7 (rw (k .total-is) (k .some)) (rw (k .total-is) (k .few)) i w lt g ∙ same-scenario o i lt in
           rw v (gives-scenario u h s c7 (rw e (k .some)) (rw e (k .few)) i (rw e l))
 
 -- ---- every monitor from 0
@@ -163,7 +156,7 @@ record Lines : Type 0 where
   of-exchanged : monitors (decoded A-exchanged) ≡ record { kind = mon 2 0; parts = go 1 0 1 ∷ go 1 1 0 ∷ go 0 0 1 ∷ [] } ∷ []
 
 lines-of : Lines
-unfolding decoded lines splitOn onto init decode fields form one two three oneOrTwo field endOr end number digitsValue same monitors monitorsFrom extended addPart
+unfolding decoded lines splitOn onto init decode fields form one two three oneOrTwo anyNumber field endOr end number numbers ahead digitsValue same monitors monitorsFrom extended addPart
 lines-of = record { of-A = refl; of-exchanged = refl }
 
 pub starts : Starts
@@ -171,7 +164,7 @@ unfolding Renumbered renumberedKind renumberedPart
 starts = record {
   from-0 = from-0;
   same-belong = same-belong;
-  same-count = λ t u r s n h c7 cells others c8 d8 m p q. same-count t u n r s h c7 cells c8 m p q others d8;
-  same-given = λ t u r s n h c7 cells c8 m p q i l w. same-given t u n r s h c7 cells c8 m p q i l w;
+  same-count = λ t u r s n h c7 cells others c8 d8 m p q. same-count t u h r s (same-belong t u n h) c7 cells others c8 d8 m p q;
+  same-given = λ t u r s n o h c7 cells c8 m p q i l w. same-given t u n r s h c7 cells c8 m p q o i l w;
   renumbered-A = rw (lines-of .of-A, lines-of .of-exchanged) ((exchanged 1, exchanged-injective 1, refl), tt);
 }

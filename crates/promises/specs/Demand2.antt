@@ -7,14 +7,16 @@ use mathlib.Core.Path.{_≡_}
 use mathlib.Core.Logic.{_↔_}
 use mathlib.Core.Bool.{Bool, true, false}
 use mathlib.Core.Option.{none, some}
-use mathlib.Core.List.{List, [], _∷_}
+use mathlib.Core.List.{List, [], _∷_, List·Memᴰ as In}
 use Prim.Native.Nat.{ℕ, _≤_, _<_}
 use lib.ListN.{length, getD, take}
+use Rattle.lists.specs.Lists.{Pairwise}
 use Rattle.automaton.specs.Counting.{most}
 use Rattle.automaton.specs.Source000.{Safe, nb-traces, trace}
 use Rattle.automaton.specs.Source001.{rndPermPrefix}
 use Rattle.promises.specs.Answer.{served, refused, Served, SaysNone}
-use Rattle.promises.specs.Text.{Readable, Case7, Case8, Case8·scratch, Case12, Case12·draws, Case13}
+use Rattle.promises.specs.Text.{decoded, eventsOf, Readable, Case7, Case8, Case8·scratch, Case12, Case12·draws, Case13}
+use Rattle.promises.specs.Meaning.{Earlier}
 use Rattle.promises.specs.Rig.{rigAutomaton, start}
 use Rattle.promises.specs.Demand3.{Calls, ValidDraws, block}
 
@@ -49,6 +51,9 @@ module _ (C : Calls) where
   pub record Demand2 : Type 0 where
     -- for any Φ that is the greatest solution of equation (1); there is one
     pub traces : (t : List ℕ) (h : ℕ) → Readable t → (Case7 h → ⊥) → (Φ : ℕ → Bool) → Safe (rigAutomaton t) Φ → Traces t h Φ
+    -- its inputs are the events, compared by the text's order: 'and so do .. the trace of the second demand' (02 no. 2)
+    pub inputs : (t : List ℕ) → Readable t → (e : ℕ) → In e (rigAutomaton t .events) ↔ (e < eventsOf (decoded t))
+    pub compared : (t : List ℕ) → Readable t → Pairwise (Earlier (decoded t)) (rigAutomaton t .events)
     pub safe-states : (t : List ℕ) → Readable t → (Φ : ℕ → Bool) × Safe (rigAutomaton t) Φ
     -- rndPermPrefix on the same draws; 01 also allows no draws and n 0, where it puts out nothing
     pub permuted : (n : ℕ) (ds scratch out : List ℕ) → ValidDraws n ds → (Case8·scratch ds scratch → ⊥) → (Case12·draws ds out → ⊥)

@@ -72,8 +72,8 @@ module _ (C : Calls) where
       -- and each that belongs is given by one index, and by no other
       pub given : (w : List ℕ) → Belongs t h w → (i : ℕ) × (i < length L) × Gives i w
       pub by-one : (w : List ℕ) (i j : ℕ) → i < length L → j < length L → Gives i w → Gives j w → i ≡ j
-      -- 'in the order of events'
-      pub ordered : (i j : ℕ) (v w : List ℕ) → i < j → j < length L → Gives i v → Gives j w → Comes v w
+      -- 'in the order of events'; `ord` replaces it: 'so do the claim about indices' (02 no. 2)
+      pub ordered : (i j : ℕ) (v w : List ℕ) → i < j → j < length L → Gives i v → Gives j w → Comes t v w
       -- 'the index call answers each with its index and refuses every other of that length'
       pub indexed : (w cells : List ℕ) → Cells cells → Belongs t h w → (i : ℕ) × (i < length L) × Gives i w × (index t w cells ≡ served (i ∷ []))
       pub others : (s cells : List ℕ) → Cells cells → length s ≡ h → (Belongs t h s → ⊥) → Refuses (index t s cells)

@@ -6,7 +6,7 @@ use mathlib.Core.List.{List, [], _∷_}
 use Prim.Native.Nat.{ℕ}
 use lib.ListN.{length, replicate}
 use Rattle.promises.specs.Text.{bytes, Readable, Fault}
-use Rattle.promises.specs.Meaning.{Belongs}
+use Rattle.promises.specs.Meaning.{Belongs, Comes}
 
 -- 'A: E 2, one monitor, S 2, go 0 0 0, 0 1 1, 1 0 0 (no two 1s together).'
 abbrev pub A : List ℕ
@@ -28,6 +28,12 @@ A-exchanged = bytes "rig\t2\nmon\t2\ngo\t1\t0\t1\ngo\t1\t1\t0\ngo\t0\t0\t1\n"
 
 abbrev pub two-starts : List ℕ
 two-starts = bytes "rig\t1\nmon\t2\t1\nmon\t3\t2\n"
+
+-- ---- the bench order of events (02 no. 2)
+
+-- A with event 1 before event 0
+abbrev pub A-ordered : List ℕ
+A-ordered = bytes "rig\t2\nord\t1\t0\nmon\t2\ngo\t0\t0\t0\ngo\t0\t1\t1\ngo\t1\t0\t0\n"
 
 -- ---- the largest rigs
 
@@ -95,6 +101,34 @@ field-after-start = bytes "rig\t1\nmon\t2\t1\t0\n"
 abbrev pub empty-start : List ℕ
 empty-start = bytes "rig\t1\nmon\t2\t\n"
 
+-- 2, place 2: `ord` with 'the wrong number of fields', though one is out of range
+abbrev pub ord-too-short : List ℕ
+ord-too-short = bytes "rig\t2\nord\t2\n"
+
+-- 3, place 2: 'an event not below E', though it is named twice
+abbrev pub ord-not-below : List ℕ
+ord-not-below = bytes "rig\t2\nord\t2\t2\n"
+
+-- 16, place 2: 'an event named twice in `ord`'
+abbrev pub ord-twice : List ℕ
+ord-twice = bytes "rig\t2\nord\t1\t1\n"
+
+-- 5, place 3: 'an `ord` elsewhere', though the same line was read as the second
+abbrev pub ord-third : List ℕ
+ord-third = bytes "rig\t2\nord\t1\t0\nord\t1\t0\n"
+
+-- 5, place 1: 'elsewhere .. with any number of number fields, none included'
+abbrev pub ord-first : List ℕ
+ord-first = bytes "ord\n"
+
+-- 2, place 1: a field that is no number is 2 wherever the line stands
+abbrev pub ord-no-number : List ℕ
+ord-no-number = bytes "ord\t0\t\n"
+
+-- 5, place 3: 'no `mon` by the end', 'at the end, lines + 1'
+abbrev pub ord-alone : List ℕ
+ord-alone = bytes "rig\t1\nord\t0\n"
+
 -- 3, place 4: t out of range, though s and e stand again: 'on one line 2, 5, 3, 4, 6'
 abbrev pub go-again-out-of-range : List ℕ
 go-again-out-of-range = bytes "rig\t1\nmon\t1\ngo\t0\t0\t0\ngo\t0\t0\t9\n"
@@ -132,6 +166,7 @@ pub record Words : Type 0 where
   pub readable-B : Readable B
   pub readable-A-from-1 : Readable A-from-1
   pub readable-A-exchanged : Readable A-exchanged
+  pub readable-A-ordered : Readable A-ordered
   pub readable-most-events : Readable most-events
   pub readable-most-joint-states : Readable most-joint-states
   -- A's scenario of index 4 belongs; '0 1 1' does not
@@ -140,6 +175,9 @@ pub record Words : Type 0 where
   -- from its state 1, A admits 0 first, not 1
   pub belongs-from-1 : Belongs A-from-1 1 (0 ∷ [])
   pub not-belongs-from-1 : Belongs A-from-1 1 (1 ∷ []) → ⊥
+  -- with `ord` 1 0, event 1 is compared as the first; without it, as the second
+  pub comes-by-ord : Comes A-ordered (1 ∷ 0 ∷ []) (0 ∷ 1 ∷ [])
+  pub comes-lower-first : Comes A (0 ∷ 1 ∷ []) (1 ∷ 0 ∷ [])
   pub fault-too-long : Fault too-long 1 0
   -- 'At most 65,535 bytes.'
   pub never-too-long : (t : List ℕ) → length t ≡ 65535 → Fault t 1 0 → ⊥
@@ -154,6 +192,13 @@ pub record Words : Type 0 where
   pub fault-start-S : Fault start-S 3 2
   pub fault-field-after-start : Fault field-after-start 2 2
   pub fault-empty-start : Fault empty-start 2 2
+  pub fault-ord-too-short : Fault ord-too-short 2 2
+  pub fault-ord-not-below : Fault ord-not-below 3 2
+  pub fault-ord-twice : Fault ord-twice 16 2
+  pub fault-ord-third : Fault ord-third 5 3
+  pub fault-ord-first : Fault ord-first 5 1
+  pub fault-ord-no-number : Fault ord-no-number 2 1
+  pub fault-ord-alone : Fault ord-alone 5 3
   pub fault-go-again-out-of-range : Fault go-again-out-of-range 3 4
   pub fault-go-again : Fault go-again 4 4
   pub fault-nothing : Fault nothing 5 1

@@ -16,4 +16,5 @@ pub mod Shapes
 pub mod Examples
 pub mod Starred
 pub mod Starts
+pub mod Ordering
 pub mod Wrong

@@ -5,14 +5,16 @@
 --   AllAdmit t w        == every monitor of the text t admits w from its start state
 --   CarriedOn t w k     == w can be carried on by k events
 --   Belongs t h w       == w has h events, every monitor admits it, and it can be carried on by any further number of events
---   Comes v w           == v comes before w in the order of their events
+--   Earlier ls a b      == the lines ls put event a before event b
+--   Comes t v w         == v comes before w in the order of their events
 -- A new Kind is one clause of Says. Assumes nothing.
 use mathlib.Core.Path.{_≡_}
 use mathlib.Core.Logic.{_⊎_}
 use mathlib.Core.List.{List, [], _∷_, _++_, List·Memᴰ as In}
 use Prim.Native.Nat.{ℕ, _<_}
 use lib.ListN.{length}
-use Rattle.promises.specs.Text.{Kind, mon, Part, go, Monitor, monitors, startOf, decoded}
+use Rattle.lists.specs.Lists.{indexOf}
+use Rattle.promises.specs.Text.{Kind, mon, Part, go, Line, Monitor, monitors, startOf, orderOf, decoded}
 
 -- '`go`, s, e, t: the latest monitor moves from s to t on event e. Without such a line it doesn't admit e in s.'
 unfoldable pub Follows : List Part → ℕ → List ℕ → Type 0
@@ -38,8 +40,12 @@ pub record Belongs (t : List ℕ) (h : ℕ) (w : List ℕ) : Type 0 where
   pub admitted : AllAdmit t w
   pub carried-on : (k : ℕ) → CarriedOn t w k
 
--- 'Order is by the first differing event, lower first.'
-unfoldable pub Comes : List ℕ → List ℕ → Type 0
-Comes [] w = ⊥
-Comes (a ∷ v) [] = ⊥
-Comes (a ∷ v) (b ∷ w) = (a < b) ⊎ ((a ≡ b) × Comes v w)
+-- `ord` 'replaces 'lower first' in comparing two events; without it 01's order holds' (02 no. 2): both are a list of the events, first to last
+unfoldable pub Earlier : List Line → ℕ → ℕ → Type 0
+Earlier ls a b = indexOf (orderOf ls) a < indexOf (orderOf ls) b
+
+-- 'Order is by the first differing event'
+unfoldable pub Comes : List ℕ → List ℕ → List ℕ → Type 0
+Comes t [] w = ⊥
+Comes t (a ∷ v) [] = ⊥
+Comes t (a ∷ v) (b ∷ w) = Earlier (decoded t) a b ⊎ ((a ≡ b) × Comes t v w)

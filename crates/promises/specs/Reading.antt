@@ -1,9 +1,10 @@
 -- Reading a text: the first bad line, and the first case on it. What the reader's contract cites; that it agrees with the words of Text is a theorem.
 --   leadsTo s e p      == where the line p moves from s on e, if it does
 --   moveBy ps s e      == where the first of the lines ps that does so moves
---   tests ls l         == the cases 2, 5, 3, 4 and 6 of the line l after the lines ls, as tests
+--   repeats es         == some number stands twice in es
+--   tests ls l         == the cases 2, 5, 3, 16, 4 and 6 of the line l after the lines ls, as tests
 --   lineCase ls l      == the number of the first case that holds of l, 0 where none does
---   reading t          == served where t is readable, else refused by a number from 1 to 6 and its place
+--   reading t          == served where t is readable, else refused by a number from 1 to 6, or 16, and its place
 -- A new line form is one clause of `tests`; a new Part also one of `leadsTo`. Assumes nothing.
 use mathlib.Core.Bool.{Bool, true, false, not, _&&_, _||_}
 use mathlib.Core.List.{List, [], _∷_, _++_}
@@ -11,9 +12,9 @@ use mathlib.Core.Option.{Option, none, some, orElse}
 use Prim.Native.Nat.{ℕ, suc, _*_}
 use lib.ListN.{length}
 use lib.Dec.{ltb, leb, eqb}
-use Rattle.lists.specs.Lists.{pick}
+use Rattle.lists.specs.Lists.{pick, any}
 use Rattle.promises.specs.Answer.{Answer, served, unless}
-use Rattle.promises.specs.Text.{Kind, mon, Part, go, Line, rig, begins, continues, other, Monitor, monitors, latest, statesOf, eventsOf, product, decoded, unended}
+use Rattle.promises.specs.Text.{Kind, mon, Part, go, Line, rig, ord, begins, continues, other, Monitor, monitors, latest, statesOf, eventsOf, product, decoded, unended}
 
 abbrev pub empty : {A : Type 0} → List A → Bool
 empty [] = true
@@ -35,6 +36,7 @@ pub record Tests : Type 0 where
   pub misformed : Bool
   pub misplaced : Bool
   pub out-of-range : Bool
+  pub twice : Bool
   pub again : Bool
   pub too-many : Bool
 
@@ -47,6 +49,7 @@ testBeginning ls k out = record {
   misformed = false;
   misplaced = empty ls;
   out-of-range = out || leb 4 (length (monitors ls));
+  twice = false;
   again = false;
   too-many = ltb 1024 (product (monitors ls) * statesOf k);
 }
@@ -62,28 +65,42 @@ testContinuing ls out again = record {
   misformed = false;
   misplaced = empty ls || empty (monitors ls);
   out-of-range = ofLatest out (latest (monitors ls));
+  twice = false;
   again = ofLatest again (latest (monitors ls));
   too-many = false;
 }
 
+abbrev pub repeats : List ℕ → Bool
+repeats [] = false
+repeats (e ∷ es) = any (eqb e) es || repeats es
+
 unfoldable pub tests : List Line → Line → Tests
-tests ls (rig E) = record { misformed = false; misplaced = not (empty ls); out-of-range = outside 1 16 E; again = false; too-many = false }
+tests ls (rig E) = record { misformed = false; misplaced = not (empty ls); out-of-range = outside 1 16 E; twice = false; again = false; too-many = false }
+tests ls (ord es) = record {
+  misformed = eqb (length ls) 1 && not (eqb (length es) (eventsOf ls));
+  misplaced = not (eqb (length ls) 1);
+  out-of-range = any (leb (eventsOf ls)) es;
+  twice = repeats es;
+  again = false;
+  too-many = false;
+}
 tests ls (begins (mon S a)) = testBeginning ls (mon S a) (outside 1 32 S || leb S a)
 tests ls (continues (go s e t)) =
     testContinuing ls
     (λ m. leb (statesOf (m .kind)) s || (leb (eventsOf ls) e || leb (statesOf (m .kind)) t))
     (λ m. isSome (moveBy (m .parts) s e))
-tests ls other = record { misformed = true; misplaced = empty ls; out-of-range = false; again = false; too-many = false }
+tests ls other = record { misformed = true; misplaced = empty ls; out-of-range = false; twice = false; again = false; too-many = false }
 
--- 'on one line 2, 5, 3, 4, 6'
+-- 'on one line 2, 5, 3, 4, 6'; 16 'tested after 3' (02 no. 2)
 unfoldable pub lineCase : List Line → Line → ℕ
 lineCase ls l =
     pick (tests ls l .misformed) 2
     (pick (tests ls l .misplaced) 5
     (pick (tests ls l .out-of-range) 3
+    (pick (tests ls l .twice) 16
     (pick (tests ls l .again) 4
     (pick (tests ls l .too-many) 6
-    0))))
+    0)))))
 
 -- after the lines `front`, none of them bad: the first bad line of `back`; then whether what stands after the last line is empty, and a monitor is there
 unfoldable pub readingFrom : List Line → List Line → List ℕ → Answer
@@ -95,6 +112,6 @@ readingFrom front (l ∷ back) tail =
     unless (lineCase front l) (suc (length front)) (not (eqb (lineCase front l) 0))
     (readingFrom (front ++ (l ∷ [])) back tail)
 
--- rows 1 to 6 of the table
+-- rows 1 to 6 of the table, and 16
 unfoldable pub reading : List ℕ → Answer
 reading t = unless 1 0 (ltb 65535 (length t)) (readingFrom [] (decoded t) (unended t))

@@ -1,7 +1,7 @@
 -- The automaton that a text's lines describe: each monitor an automaton, all of them joined. What the answers are read from.
 --   nextOf k ps s e    == where a monitor of the kind k with the further lines ps moves from s on e; a number that is no state where it doesn't admit e
---   monitorOf E m      == the automaton of the monitor m
---   standing E ms      == the monitors ms as automata, each in its start state
+--   monitorOf es m     == the automaton of the monitor m, its events in the order es
+--   standing es ms     == the monitors ms as automata, each in its start state
 --   rigAutomaton t     == the joint automaton of the text t
 --   start t            == its start state
 -- A new Kind is one clause of nextOf. Assumes nothing.
@@ -9,32 +9,31 @@ use mathlib.Core.Bool.{false}
 use mathlib.Core.List.{List, map}
 use mathlib.Core.Option.{Option·getD}
 use Prim.Native.Nat.{ℕ}
-use Rattle.lists.specs.Lists.{range}
 use Rattle.automaton.specs.Automaton.{Automaton}
 use Rattle.automaton.specs.Joint.{At, joint, jointState}
 use Rattle.promises.specs.Reading.{moveBy}
-use Rattle.promises.specs.Text.{Kind, mon, Part, Line, Monitor, monitors, statesOf, startOf, eventsOf, decoded}
+use Rattle.promises.specs.Text.{Kind, mon, Part, Line, Monitor, monitors, statesOf, startOf, orderOf, decoded}
 
 -- '`mon`, S: a new monitor with states 0 to S−1'; S itself is the number that is no state. 'Without such a line it doesn't admit e in s.'
 unfoldable pub nextOf : Kind → List Part → ℕ → ℕ → ℕ
 nextOf (mon S a) ps s e = Option·getD (moveBy ps s e) S
 
-unfoldable pub monitorOf : ℕ → Monitor → Automaton
-monitorOf E m = record {
+unfoldable pub monitorOf : List ℕ → Monitor → Automaton
+monitorOf es m = record {
   states = statesOf (m .kind);
-  events = range E;
+  events = es;
   next = nextOf (m .kind) (m .parts);
   stop = λ s. false;
 }
 
-unfoldable pub standing : ℕ → List Monitor → List At
-standing E ms = map (λ m. record { of = monitorOf E m; state = startOf (m .kind) }) ms
+unfoldable pub standing : List ℕ → List Monitor → List At
+standing es ms = map (λ m. record { of = monitorOf es m; state = startOf (m .kind) }) ms
 
 unfoldable pub linesAutomaton : List Line → Automaton
-linesAutomaton ls = joint (range (eventsOf ls)) (standing (eventsOf ls) (monitors ls))
+linesAutomaton ls = joint (orderOf ls) (standing (orderOf ls) (monitors ls))
 
 unfoldable pub linesStart : List Line → ℕ
-linesStart ls = jointState (standing (eventsOf ls) (monitors ls))
+linesStart ls = jointState (standing (orderOf ls) (monitors ls))
 
 unfoldable pub rigAutomaton : List ℕ → Automaton
 rigAutomaton t = linesAutomaton (decoded t)

@@ -7,7 +7,7 @@ use lib.ListN.{replicate}
 use Rattle.promises.specs.Answer.{served, refused}
 use Rattle.promises.specs.Rig.{start}
 use Rattle.promises.specs.Calls.{count, scenarios, written, index, shuffle, shuffled}
-use Rattle.promises.specs.Examples.{A, B, A-from-1, A-exchanged, two-starts}
+use Rattle.promises.specs.Examples.{A, B, A-from-1, A-exchanged, two-starts, A-ordered}
 
 -- n numbers to lend
 abbrev pub lent : ℕ → List ℕ
@@ -40,3 +40,7 @@ pub record Starred : Type 0 where
   pub exchanged : count A-exchanged 3 (lent 8) ≡ served (3 ∷ 1 ∷ [])
   -- 'the start joint state is made of these', 'the first monitor as its highest digit': state 1 of 2, and 2 of 3
   pub made-of-starts : start two-starts ≡ 5
+  -- 02 no. 2. A with event 1 before event 0: as many scenarios, and those that begin with 1 come first
+  pub ordered : count A-ordered 3 (lent 8) ≡ served (5 ∷ 1 ∷ [])
+  pub ordered-bytes : written A-ordered 3 (0 ∷ 1 ∷ 4 ∷ []) (lent 8) (lent 9) ≡ 1 ∷ 0 ∷ 1 ∷ 1 ∷ 0 ∷ 0 ∷ 0 ∷ 0 ∷ 0 ∷ []
+  pub ordered-index : index A-ordered (0 ∷ 1 ∷ 0 ∷ []) (lent 8) ≡ served (2 ∷ [])

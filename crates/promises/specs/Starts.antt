@@ -2,14 +2,14 @@
 -- text; here, what a start means: the same rig with its states renumbered, so that every monitor starts in 0, has the same scenarios.
 --   renumbered f m     == the monitor m with every state s written as f s
 --   Renumbered ms ns   == the monitors ns are the monitors ms, the states of each renumbered
---   Starts             == such rigs have the same count, and an index gives the same sequence in both
+--   Starts             == such rigs have the same count, and in one order of events an index gives the same sequence in both
 -- A new Kind is one clause of renumberedKind, a new Part one of renumberedPart; where states have no numbers to choose, it stays as it is. Assumes nothing.
 use mathlib.Core.Path.{_≡_}
 use mathlib.Core.Logic.{_↔_}
 use mathlib.Core.List.{List, [], _∷_, map, List·Memᴰ as In}
 use Prim.Native.Nat.{ℕ, _<_}
 use Rattle.promises.specs.Answer.{served}
-use Rattle.promises.specs.Text.{Kind, mon, Part, go, Monitor, monitors, decoded, startOf, Readable, Case7, Case8}
+use Rattle.promises.specs.Text.{Kind, mon, Part, go, Monitor, monitors, decoded, startOf, orderOf, Readable, Case7, Case8}
 use Rattle.promises.specs.Meaning.{Belongs}
 use Rattle.promises.specs.Demand3.{Gives}
 use Rattle.promises.specs.Calls.{count}
@@ -41,8 +41,8 @@ pub record Starts : Type 0 where
   pub same-count : (t u : List ℕ) → Readable t → Readable u → Renumbered (monitors (decoded t)) (monitors (decoded u))
       → (h : ℕ) → (Case7 h → ⊥) → (cells others : List ℕ) → (Case8 t h cells → ⊥) → (Case8 u h others → ⊥)
       → (n p : ℕ) → count t h cells ≡ served (n ∷ p ∷ []) → (q : ℕ) × (count u h others ≡ served (n ∷ q ∷ []))
-  -- and every index gives the same bytes
-  pub same-given : (t u : List ℕ) → Readable t → Readable u → Renumbered (monitors (decoded t)) (monitors (decoded u))
+  -- and, where both compare events in one order, every index gives the same bytes
+  pub same-given : (t u : List ℕ) → Readable t → Readable u → Renumbered (monitors (decoded t)) (monitors (decoded u)) → orderOf (decoded t) ≡ orderOf (decoded u)
       → (h : ℕ) → (Case7 h → ⊥) → (cells : List ℕ) → (Case8 t h cells → ⊥)
       → (n p : ℕ) → count t h cells ≡ served (n ∷ p ∷ []) → (i : ℕ) → i < n → (w : List ℕ) → Gives generator t h i w → Gives generator u h i w
   -- so are these texts

@@ -1,7 +1,8 @@
--- A rig's text as its lines, and the cases of refusal as paper 01 writes them. Nothing here is a result of a call.
+-- A rig's text as its lines, and the cases of refusal as papers 01 and 02 write them. Nothing here is a result of a call.
 --   lines t            == the lines of t that end, without their line ends
 --   unended t          == what stands after the last line end
 --   number f           == the number that the field f is, if it is one
+--   numbers fs         == the numbers that the fields fs are, if each is one
 --   Kind               == a line that begins a monitor, with its numbers
 --   Part               == a line of the latest monitor, with its numbers
 --   decode l           == the line form that l is, with its numbers, or `other` where it is none
@@ -9,7 +10,9 @@
 --   monitors ls        == the monitors of the lines ls, first to last, each the line that begins it and its further lines
 --   statesOf k         == how many states a monitor of the kind k has
 --   startOf k          == the state in which it starts
---   cases ls l         == what each of the cases 2, 5, 3, 4 and 6 says of the line l after the lines ls
+--   eventsOf ls        == E
+--   orderOf ls         == the events, in the order in which they are compared
+--   cases ls l         == what each of the cases 2, 5, 3, 16, 4 and 6 says of the line l after the lines ls
 --   Readable t         == no case of a check on the text holds of it
 --   Fault t n p        == the checks on the text, in their order, refuse t with number n and place p
 --   Case7 .. Case13    == the case holds of a horizon, of lent buffers, of a sequence
@@ -25,7 +28,7 @@ use Prim.Native.Char.{code}
 use Prim.Native.String.{String, [] as no-character, _∷_ as _before_}
 use lib.ListN.{length, getD}
 use lib.Dec.{eqb, leb}
-use Rattle.lists.specs.Lists.{pick}
+use Rattle.lists.specs.Lists.{pick, range}
 
 -- ---- lines, fields, numbers
 
@@ -70,6 +73,16 @@ number [] = none
 number (b ∷ []) = digitsValue 0 (b ∷ [])
 number (b ∷ (c ∷ bs)) = pick (eqb b 48) none (pick (leb (length bs) 3) (digitsValue 0 (b ∷ (c ∷ bs))) none)
 
+-- x before the elements of a list, where there are both
+unfoldable pub ahead : Option ℕ → Option (List ℕ) → Option (List ℕ)
+ahead none l = none
+ahead (some x) none = none
+ahead (some x) (some l) = some (x ∷ l)
+
+unfoldable pub numbers : List (List ℕ) → Option (List ℕ)
+numbers [] = some []
+numbers (f ∷ fs) = ahead (number f) (numbers fs)
+
 unfoldable pub same : List ℕ → List ℕ → Bool
 same [] [] = true
 same [] (b ∷ bs) = false
@@ -88,6 +101,7 @@ pub data Part : Type 0 where
 
 pub data Line : Type 0 where
   rig : ℕ → Line  -- `rig`, E
+  ord : List ℕ → Line  -- `ord`, which 'lists all E events, first to last' (02 no. 2)
   begins : Kind → Line
   continues : Part → Line
   other : Line  -- 'no such line form; a field that isn't a number as above'
@@ -123,6 +137,14 @@ three f = field number (λ a. two (f a))
 unfoldable pub oneOrTwo : (ℕ → Line) → (ℕ → ℕ → Line) → List (List ℕ) → Line
 oneOrTwo f g = field number (λ a. endOr (f a) (one (g a)))
 
+-- any number of numbers, none included
+unfoldable pub anyNumber : (List ℕ → Line) → List (List ℕ) → Line
+anyNumber f fs = whole (numbers fs)
+  where
+    whole : Option (List ℕ) → Line
+    whole none = other
+    whole (some ns) = f ns
+
 -- the bytes of a word's characters
 abbrev pub bytes : String → List ℕ
 bytes no-character = []
@@ -135,7 +157,8 @@ form (w ∷ fs) =
     pick (same w (bytes "rig")) (one (λ E. rig E) fs)
     (pick (same w (bytes "mon")) (oneOrTwo (λ S. begins (mon S 0)) (λ S a. begins (mon S a)) fs)
     (pick (same w (bytes "go")) (three (λ s e t. continues (go s e t)) fs)
-    other))
+    (pick (same w (bytes "ord")) (anyNumber (λ es. ord es) fs)
+    other)))
 
 unfoldable pub decode : List ℕ → Line
 decode l = form (fields l)
@@ -158,6 +181,7 @@ addPart p (m ∷ (n ∷ ms)) = m ∷ addPart p (n ∷ ms)
 
 unfoldable pub extended : List Monitor → Line → List Monitor
 extended ms (rig E) = ms
+extended ms (ord es) = ms
 extended ms (begins k) = ms ++ (record { kind = k; parts = [] } ∷ [])
 extended ms (continues p) = addPart p ms
 extended ms other = ms
@@ -192,16 +216,35 @@ product (m ∷ ms) = statesOf (m .kind) * product ms
 unfoldable pub eventsOf : List Line → ℕ
 eventsOf [] = 0
 eventsOf (rig E ∷ ls) = E
+eventsOf (ord es ∷ ls) = 0
 eventsOf (begins k ∷ ls) = 0
 eventsOf (continues p ∷ ls) = 0
 eventsOf (other ∷ ls) = 0
 
--- ---- the cases of a line l after the lines ls, as the table of 01 writes them
+-- ---- the order of events
+
+-- 'lower first' with `rig`, E; an `ord` line 'replaces 'lower first' in comparing two events' (02 no. 2); es before this line
+unfoldable pub reordered : List ℕ → Line → List ℕ
+reordered es (rig E) = range E
+reordered es (ord ds) = ds
+reordered es (begins k) = es
+reordered es (continues p) = es
+reordered es other = es
+
+unfoldable pub orderFrom : List ℕ → List Line → List ℕ
+orderFrom es [] = es
+orderFrom es (l ∷ ls) = orderFrom (reordered es l) ls
+
+unfoldable pub orderOf : List Line → List ℕ
+orderOf ls = orderFrom [] ls
+
+-- ---- the cases of a line l after the lines ls, as the tables of 01 and 02 write them
 
 pub record Cases : Type 1 where
-  pub misformed : Type 0  -- 2, 'no such line form; a field that isn't a number as above'
-  pub misplaced : Type 0  -- 5, 'first line not `rig`; `rig` later; `go` before `mon`'
+  pub misformed : Type 0  -- 2, 'no such line form; a field that isn't a number as above'; `ord`, 'the wrong number of fields'
+  pub misplaced : Type 0  -- 5, 'first line not `rig`; `rig` later; `go` before `mon`'; `ord` 'elsewhere'
   pub out-of-range : Type 0  -- 3, 'a number out of its range, or a fifth `mon`'
+  pub twice : Type 0  -- 16, 'an event named twice in `ord`'
   pub again : Type 0  -- 4, 's and e again in one monitor'
   pub too-many : Type 0  -- 6, 'P over 1,024'
 
@@ -215,6 +258,7 @@ beginning ls k out = record {
   misformed = ⊥;
   misplaced = ls ≡ [];
   out-of-range = out ⊎ (4 ≤ length (monitors ls));
+  twice = ⊥;
   again = ⊥;
   too-many = 1024 < product (monitors ls) * statesOf k;
 }
@@ -230,13 +274,28 @@ continuing ls out again = record {
   misformed = ⊥;
   misplaced = (ls ≡ []) ⊎ (monitors ls ≡ []);
   out-of-range = OfLatest out (latest (monitors ls));
+  twice = ⊥;
   again = OfLatest again (latest (monitors ls));
   too-many = ⊥;
 }
 
+-- 'an event named twice in `ord`'
+unfoldable pub Twice : List ℕ → Type 0
+Twice es = (i : ℕ) × (j : ℕ) × (i < j) × (j < length es) × (getD es i 0 ≡ getD es j 0)
+
 unfoldable pub cases : List Line → Line → Cases
 -- 'the first line and only there'; 'E from 1 to 16'
-cases ls (rig E) = record { misformed = ⊥; misplaced = ls ≢ []; out-of-range = Outside 1 16 E; again = ⊥; too-many = ⊥ }
+cases ls (rig E) = record { misformed = ⊥; misplaced = ls ≢ []; out-of-range = Outside 1 16 E; twice = ⊥; again = ⊥; too-many = ⊥ }
+-- 'at most one and only second'; 'On line 2 the wrong number of fields is 2, an event not below E is 3; an `ord` elsewhere is 5 with any number of number
+-- fields, none included.' (02 no. 2)
+cases ls (ord es) = record {
+  misformed = (length ls ≡ 1) × (length es ≢ eventsOf ls);
+  misplaced = length ls ≢ 1;
+  out-of-range = (e : ℕ) × In e es × (eventsOf ls ≤ e);
+  twice = Twice es;
+  again = ⊥;
+  too-many = ⊥;
+}
 -- 'S from 1 to 32'; 'A start not below S is refused 3.' (02 no. 1)
 cases ls (begins (mon S a)) = beginning ls (mon S a) (Outside 1 32 S ⊎ (S ≤ a))
 -- 'moves from s to t on event e': s and t below S, e below E
@@ -244,7 +303,7 @@ cases ls (continues (go s e t)) =
     continuing ls
     (λ m. (statesOf (m .kind) ≤ s) ⊎ ((eventsOf ls ≤ e) ⊎ (statesOf (m .kind) ≤ t)))
     (λ m. (u : ℕ) × In (go s e u) (m .parts))
-cases ls other = record { misformed = Unit {0}; misplaced = ls ≡ []; out-of-range = ⊥; again = ⊥; too-many = ⊥ }
+cases ls other = record { misformed = Unit {0}; misplaced = ls ≡ []; out-of-range = ⊥; twice = ⊥; again = ⊥; too-many = ⊥ }
 
 unfoldable pub Case2 : List Line → Line → Type 0
 Case2 ls l = cases ls l .misformed
@@ -254,6 +313,9 @@ Case5 ls l = cases ls l .misplaced
 
 unfoldable pub Case3 : List Line → Line → Type 0
 Case3 ls l = cases ls l .out-of-range
+
+unfoldable pub Case16 : List Line → Line → Type 0
+Case16 ls l = cases ls l .twice
 
 unfoldable pub Case4 : List Line → Line → Type 0
 Case4 ls l = cases ls l .again
@@ -267,11 +329,12 @@ Case6 ls l = cases ls l .too-many
 unfoldable pub Case1 : List ℕ → Type 0
 Case1 t = 65535 < length t
 
--- no case of 2 to 6 holds of the line
+-- no case of 2 to 6, and not 16, holds of the line
 pub record Sound (ls : List Line) (l : Line) : Type 0 where
   pub formed : Case2 ls l → ⊥
   pub placed : Case5 ls l → ⊥
   pub ranged : Case3 ls l → ⊥
+  pub named-once : Case16 ls l → ⊥
   pub new : Case4 ls l → ⊥
   pub fits : Case6 ls l → ⊥
 
@@ -280,7 +343,7 @@ unfoldable pub AllSound : List Line → List Line → Type 0
 AllSound front [] = Unit {0}
 AllSound front (l ∷ back) = Sound front l × AllSound (front ++ (l ∷ [])) back
 
--- 'A rig is readable if no case of a check on its text, here 1 to 6, holds of it, whatever a call answers.'
+-- 'A rig is readable if no case of a check on its text, here 1 to 6, holds of it, whatever a call answers.' 16 is one more (02 no. 2)
 pub record Readable (t : List ℕ) : Type 0 where
   pub short : Case1 t → ⊥
   pub sound : AllSound [] (decoded t)
@@ -293,15 +356,16 @@ pub record Readable (t : List ℕ) : Type 0 where
 abbrev pub first : Type 0 → Type 0 → Type 0 → Type 0
 first case says later = (case × says) ⊎ ((case → ⊥) × later)
 
--- 'on one line 2, 5, 3, 4, 6'
+-- 'on one line 2, 5, 3, 4, 6'; 16 'tested after 3' (02 no. 2)
 unfoldable pub LineFault : List Line → Line → ℕ → Type 0
 LineFault ls l n =
     first (Case2 ls l) (n ≡ 2)
     (first (Case5 ls l) (n ≡ 5)
     (first (Case3 ls l) (n ≡ 3)
+    (first (Case16 ls l) (n ≡ 16)
     (first (Case4 ls l) (n ≡ 4)
     (first (Case6 ls l) (n ≡ 6)
-    ⊥))))
+    ⊥)))))
 
 -- 'Checks go in the table's order, but 2 to 6 are made line by line and the first bad line counts'; 'line, from 1'; 'at the end, lines + 1'
 unfoldable pub Fault : List ℕ → ℕ → ℕ → Type 0
