@@ -1,3 +1,4 @@
 -- The laws that the proofs of decoding share.
 pub mod Parts
 pub mod Numbers
+pub mod Listed

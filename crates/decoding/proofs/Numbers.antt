@@ -12,11 +12,12 @@ use lib.Dec.{eqb, leb, ltb}
 use borrow.Author.Tests.{eq-eqb, ne-eqb, le-leb, lt-leb, lt-ltb, le-ltb, ltb-true, ltb-false}
 use Rattle.lists.specs.Lists.{pick, indexOf}
 use Rattle.lists.proofs.Tests.{case}
-use Rattle.promises.specs.Text.{Line, rig, begins, continues, other, mon, go, bytes, splitOn, same, fields, digitsValue, number, field, endOr, end, one, two, three, oneOrTwo, form, decode}
+use Rattle.promises.specs.Text.{Line, rig, ord, begins, continues, other, mon, go, bytes, splitOn, same, fields, digitsValue, number, field, endOr, end, one, two, three, oneOrTwo, anyNumber, form, decode}
 use Rattle.promises.proofs.Pieces.{splitOn-some}
+use Rattle.promises.proofs.Spelling.{same-tells}
 use Rattle.decoding.specs.declared.Field.the-variants.{Last, More, Bad}
 use Rattle.decoding.specs.declared.Field.{Field}
-use Rattle.decoding.specs.Forms.{asField, fieldOf, fieldBy, orOther}
+use Rattle.decoding.specs.Forms.{asField, fieldOf, fieldsFrom, fieldBy, orOther, Leaves}
 use Rattle.decoding.proofs.Parts.{splitOn-whole, splitOn-first}
 
 -- ---- digits
@@ -187,9 +188,37 @@ module _ (f : ℕ → ℕ → ℕ → Line) where
 
 -- ---- forms, by their word
 
-pub decode-first : (l : List ℕ) (end : ℕ) → end ≡ indexOf l 9 → end < length l → decode l ≡ form (take end l ∷ fields (take (length l - (end + 1)) (drop (end + 1) l)))
-unfolding decode fields
-decode-first l end e h = rw (rest-whole l (end + 1), e) (ap form (splitOn-first 9 l (rw (← e) h)))
+-- the word is the first field
+pub fields-first : (l : List ℕ) → fields l ≡ take (indexOf l 9) l ∷ fieldsFrom l (indexOf l 9)
+unfolding fields fieldsFrom
+fields-first l = case (ltb (indexOf l 9) (length l))
+    (λ p. rw p (splitOn-first 9 l (ltb-true (indexOf l 9) (length l) p)))
+    (λ p. let h = ltb-false (indexOf l 9) (length l) p in rw (p, take-all (indexOf l 9) l h) (splitOn-whole 9 l h))
+
+module _ (l : List ℕ) (end : ℕ) (e : end ≡ indexOf l 9) where
+  decode-first : decode l ≡ form (take end l ∷ fieldsFrom l end)
+  unfolding decode
+  decode-first = rw e (ap form (fields-first l))
+
+  -- where there are further fields
+  pub decode-more : end < length l → decode l ≡ form (take end l ∷ fields (take (length l - (end + 1)) (drop (end + 1) l)))
+  unfolding fieldsFrom
+  decode-more h = decode-first ∙ rw (lt-ltb end (length l) h, rest-whole l (end + 1))
+
+  pub decode-ord : same (take end l) (bytes "ord") ≡ true → decode l ≡ anyNumber (λ es. ord es) (fieldsFrom l end)
+  unfolding form same
+  decode-ord p = decode-first ∙ ap (λ w. form (w ∷ fieldsFrom l end)) (same-tells (take end l) (bytes "ord") .yes p)
+
+  -- a word alone is no form but `ord`
+  pub decode-alone : length l ≤ end → same (take end l) (bytes "ord") ≡ false → decode l ≡ other
+  unfolding fieldsFrom form one two three oneOrTwo field
+  decode-alone h p = decode-first ∙ rw (le-ltb end (length l) h, p) (go (same (take end l) (bytes "rig")) (same (take end l) (bytes "mon")) (same (take end l) (bytes "go")))
+    where
+      go : (a b c : Bool) → pick a other (pick b other (pick c other other)) ≡ other
+      go true b c = refl
+      go false true c = refl
+      go false false true = refl
+      go false false false = refl
 
 module _ (w : List ℕ) (fs : List (List ℕ)) where
   pub form-rig : same w (bytes "rig") ≡ true → form (w ∷ fs) ≡ one (λ E. rig E) fs
@@ -204,17 +233,42 @@ module _ (w : List ℕ) (fs : List (List ℕ)) where
   unfolding form
   form-go p q r = rw (p, q, r)
 
-  pub form-other : same w (bytes "rig") ≡ false → same w (bytes "mon") ≡ false → same w (bytes "go") ≡ false → form (w ∷ fs) ≡ other
+  pub form-other : same w (bytes "rig") ≡ false → same w (bytes "mon") ≡ false → same w (bytes "go") ≡ false → same w (bytes "ord") ≡ false → form (w ∷ fs) ≡ other
   unfolding form
-  form-other p q r = rw (p, q, r)
+  form-other p q r o = rw (p, q, r, o)
 
--- a word alone is no form
-pub decode-alone : (l : List ℕ) → length l ≤ indexOf l 9 → decode l ≡ other
-unfolding decode fields form one two three oneOrTwo field
-decode-alone l h = rw (splitOn-whole 9 l h) (go (same l (bytes "rig")) (same l (bytes "mon")) (same l (bytes "go")))
-  where
-    go : (a b c : Bool) → pick a other (pick b other (pick c other other)) ≡ other
-    go true b c = refl
-    go false true c = refl
-    go false false true = refl
-    go false false false = refl
+-- ---- forms that leave the list of events as it is
+
+module _ (os : List ℕ) where
+  abbrev Kept : Line → Type 0
+  Kept l = Leaves l os os
+
+  field-kept : (rest : ℕ → List (List ℕ) → Line) → ((n : ℕ) (fs : List (List ℕ)) → Kept (rest n fs)) → (fs : List (List ℕ)) → Kept (field number rest fs)
+  unfolding field
+  field-kept rest h [] = refl
+  field-kept rest h (f ∷ fs) = go (number f) refl
+    where
+      go : (o : Option ℕ) → number f ≡ o → Kept (field number rest (f ∷ fs))
+      go none q = rw q refl
+      go (some n) q = rw q (h n fs)
+
+  endOr-kept : (l : Line) (more : List (List ℕ) → Line) → Kept l → ((fs : List (List ℕ)) → Kept (more fs)) → (fs : List (List ℕ)) → Kept (endOr l more fs)
+  unfolding endOr
+  endOr-kept l more h k [] = h
+  endOr-kept l more h k (f ∷ fs) = k (f ∷ fs)
+
+  one-kept : (f : ℕ → Line) → ((a : ℕ) → Kept (f a)) → (fs : List (List ℕ)) → Kept (one f fs)
+  unfolding one end
+  one-kept f h = field-kept (λ a. end (f a)) (λ a. endOr-kept (f a) (λ fs. other) (h a) (λ fs. refl))
+
+  two-kept : (f : ℕ → ℕ → Line) → ((a b : ℕ) → Kept (f a b)) → (fs : List (List ℕ)) → Kept (two f fs)
+  unfolding two
+  two-kept f h = field-kept (λ a. one (f a)) (λ a. one-kept (f a) (h a))
+
+  pub three-kept : (f : ℕ → ℕ → ℕ → Line) → ((a b c : ℕ) → Kept (f a b c)) → (fs : List (List ℕ)) → Kept (three f fs)
+  unfolding three
+  three-kept f h = field-kept (λ a. two (f a)) (λ a. two-kept (f a) (h a))
+
+  pub oneOrTwo-kept : (f : ℕ → Line) (g : ℕ → ℕ → Line) → ((a : ℕ) → Kept (f a)) → ((a b : ℕ) → Kept (g a b)) → (fs : List (List ℕ)) → Kept (oneOrTwo f g fs)
+  unfolding oneOrTwo
+  oneOrTwo-kept f g h k = field-kept (λ a. endOr (f a) (one (g a))) (λ a. endOr-kept (f a) (one (g a)) (h a) (one-kept (g a) (k a)))

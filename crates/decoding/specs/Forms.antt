@@ -1,28 +1,32 @@
 -- The code's values in the words of `promises`, and a line's fields read one by one.
 --   valueOf d        == the number of a field, if it is one
---   kindOf k         == the kind of monitor that k begins
---   partOf p         == the line of a monitor that p is
---   formLine f       == the line form that f is
+--   kindOf k         == the kind k of monitor, in the code's fields
+--   partOf p         == the line p of a monitor, likewise
+--   formOf l         == the line form l, likewise; of an `ord` line, how many events it lists
+--   over es os       == the numbers es as bytes, 255 for a larger one, written over the front of os as far as that goes
+--   Leaves l os left == reading the line l leaves `left` of os: the events of an `ord` line over its front; of a line that is no form nothing is said
 --   orOther f n      == the form of the number n, or `other` where there is none
 --   asField n more i == the field that is the number n, the next one starting at i where there is more
 --   fieldOf l        == the first field of what is left of a line
+--   fieldsFrom l k   == the fields after the byte 9 at k, none where the line l ends there
 --   fieldBy rest l x == what `rest` makes of the field x, the first of l, and of the fields after it
 -- A new line form is one constructor of Kind, Part or Form and one clause here. Assumes nothing.
+use mathlib.Core.Path.{_≡_}
 use mathlib.Core.Bool.{Bool}
-use mathlib.Core.List.{List, []}
+use mathlib.Core.List.{List, [], _∷_}
 use mathlib.Core.Option.{Option, none, some}
-use Prim.Native.Nat.{ℕ, _+_}
+use Prim.Native.Nat.{ℕ, _+_, min}
 use lib.ListN.{length, take, drop}
 use lib.Dec.{ltb}
 use Rattle.lists.specs.Lists.{pick, indexOf}
-use Rattle.promises.specs.Text.{Line, rig, begins, continues, other, mon, go, number, fields}
+use Rattle.promises.specs.Text.{Line, rig, ord, begins, continues, other, mon, go, number, fields}
 use Rattle.promises.specs.Text as text
 use Rattle.decoding.specs.declared.Decimal.{Decimal}
 use Rattle.decoding.specs.declared.Decimal.the-variants.{Value, Wrong}
 use Rattle.decoding.specs.declared.Field.{Field}
 use Rattle.decoding.specs.declared.Field.the-variants.{Last, More, Bad}
 use Rattle.decoding.specs.declared.Form.{Form}
-use Rattle.decoding.specs.declared.Form.the-variants.{Rig, Begins, Continues, Other}
+use Rattle.decoding.specs.declared.Form.the-variants.{Rig, Ord, Begins, Continues, Other}
 use Rattle.decoding.specs.declared.Kind.{Kind}
 use Rattle.decoding.specs.declared.Part.{Part}
 
@@ -30,17 +34,31 @@ abbrev pub valueOf : Decimal → Option ℕ
 valueOf (Value n) = some n
 valueOf Wrong = none
 
-abbrev pub kindOf : Kind → text.Kind
-kindOf k = mon (k .states) (k .start)
+abbrev pub kindOf : text.Kind → Kind
+kindOf (mon S a) = record { states = S; start = a }
 
-abbrev pub partOf : Part → text.Part
-partOf p = go (p .state) (p .event) (p .target)
+abbrev pub partOf : text.Part → Part
+partOf (go s e t) = record { state = s; event = e; target = t }
 
-abbrev pub formLine : Form → Line
-formLine (Rig e) = rig e
-formLine (Begins k) = begins (kindOf k)
-formLine (Continues p) = continues (partOf p)
-formLine Other = other
+abbrev pub formOf : Line → Form
+formOf (rig E) = Rig E
+formOf (ord es) = Ord (length es)
+formOf (begins k) = Begins (kindOf k)
+formOf (continues p) = Continues (partOf p)
+formOf other = Other
+
+-- no event is 255 or more
+unfoldable pub over : List ℕ → List ℕ → List ℕ
+over [] os = os
+over (e ∷ es) [] = []
+over (e ∷ es) (o ∷ os) = min e 255 ∷ over es os
+
+abbrev pub Leaves : Line → List ℕ → List ℕ → Type 0
+Leaves (rig E) os left = left ≡ os
+Leaves (ord es) os left = left ≡ over es os
+Leaves (begins k) os left = left ≡ os
+Leaves (continues p) os left = left ≡ os
+Leaves other os left = length left ≡ length os
 
 abbrev pub orOther : (ℕ → Line) → Option ℕ → Line
 orOther f none = other
@@ -53,6 +71,9 @@ asField (some n) more next = pick more (More n next) (Last n)
 -- what stands before the first byte 9, as a number, and whether a field follows
 unfoldable pub fieldOf : List ℕ → Field
 fieldOf l = asField (number (take (indexOf l 9) l)) (ltb (indexOf l 9) (length l)) (indexOf l 9 + 1)
+
+unfoldable pub fieldsFrom : List ℕ → ℕ → List (List ℕ)
+fieldsFrom l k = pick (ltb k (length l)) (fields (drop (k + 1) l)) []
 
 abbrev pub fieldBy : (ℕ → List (List ℕ) → Line) → List ℕ → Field → Line
 fieldBy rest l (Last n) = rest n []

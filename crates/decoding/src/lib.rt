@@ -1,11 +1,11 @@
 // A line's bytes as its form: the word, and the numbers of its fields.
 ghost use mathlib.Core.Path.{_≡_};
-ghost use Prim.Native.Nat.{ℕ, _<_, _≤_};
+ghost use Prim.Native.Nat.{ℕ, _≤_, min};
 ghost use lib.ListN.{length};
 ghost use Rattle.lists.specs.Lists.{indexOf};
-ghost use Rattle.promises.specs.Text.{Line, begins, mon, continues, go, one, oneOrTwo, three, fields};
+ghost use Rattle.promises.specs.Text.{Line, ord, begins, mon, continues, go, one, oneOrTwo, three, anyNumber, fields};
 ghost use Rattle.promises.specs.Text as text;
-ghost use Rattle.decoding.specs.Forms.{valueOf, fieldOf, orOther, formLine};
+ghost use Rattle.decoding.specs.Forms.{valueOf, fieldOf, orOther, fieldsFrom, formOf, Leaves};
 
 // What a field is: a number of paper 01, or none.
 pub enum Decimal {
@@ -26,9 +26,10 @@ pub struct Part {
     pub target: usize,
 }
 
-// A line's form.
+// A line's form. `Ord` has how many events are listed; the events themselves are left in a lent list.
 pub enum Form {
     Rig(usize),
+    Ord(usize),
     Begins(Kind),
     Continues(Part),
     Other,
@@ -143,7 +144,7 @@ fn only_number(rest: &[u8]) -> Decimal
 
 // `mon`, S, start; or `mon`, S, which starts in 0
 fn mon_form(rest: &[u8]) -> Form
-    ensures { λ r. ⌜ formLine r ≡ oneOrTwo (λ S. begins (mon S 0)) (λ S a. begins (mon S a)) (fields (now (rest .entry))) ⌝ }
+    ensures { λ r. ⌜ r ≡ formOf (oneOrTwo (λ S. begins (mon S 0)) (λ S a. begins (mon S a)) (fields (now (rest .entry)))) ⌝ }
 {
     match read_field(rest) {
         Field::Last(s) => Form::Begins(Kind {
@@ -160,7 +161,7 @@ fn mon_form(rest: &[u8]) -> Form
 
 // `go`, s, e, t
 fn go_form(rest: &[u8]) -> Form
-    ensures { λ r. ⌜ formLine r ≡ three (λ s e t. continues (go s e t)) (fields (now (rest .entry))) ⌝ }
+    ensures { λ r. ⌜ r ≡ formOf (three (λ s e t. continues (go s e t)) (fields (now (rest .entry)))) ⌝ }
 {
     let Field::More(s, a) = read_field(rest) else {
         return Form::Other;
@@ -180,13 +181,46 @@ fn go_form(rest: &[u8]) -> Form
     })
 }
 
-// The form that a line is.
-pub fn decode(line: &[u8]) -> Form
-    ensures { λ r. ⌜ formLine r ≡ text.decode (now (line .entry)) ⌝ }
+// A number as a byte: 255 where it is larger.
+fn as_byte(n: usize) -> u8
+    ensures { λ b. ⌜ b ≡ min n 255 ⌝ }
+{
+    if n < 255 { n as u8 } else { 255 }
+}
+
+// `ord` and any number of numbers, the first after the byte 9 at `at`; none where the line ends there. `order` gets those that it has room for.
+fn ord_form(line: &[u8], at: usize, order: &mut [u8]) -> Form
+    ensures { λ r. ⌜ r ≡ formOf (anyNumber (λ es. ord es) (fieldsFrom (now (line .entry)) at)) ⌝ }
+    ensures { λ _. ⌜ Leaves (anyNumber (λ es. ord es) (fieldsFrom (now (line .entry)) at)) (now (order .entry)) (now (order .exit)) ⌝ }
+{
+    let mut count = 0;
+    let mut from = at;
+    while from < line.len() {
+        let rest = &line[from + 1..];
+        let end = until(rest, 9);
+        let Decimal::Value(e) = number(&rest[..end]) else {
+            return Form::Other;
+        };
+        if count < order.len() {
+            order[count] = as_byte(e);
+        }
+        count += 1;
+        from += end + 1;
+    }
+    Form::Ord(count)
+}
+
+// The form that a line is. The events of an `ord` line are written over the front of `order`, as bytes.
+pub fn decode(line: &[u8], order: &mut [u8]) -> Form
+    ensures { λ r. ⌜ r ≡ formOf (text.decode (now (line .entry))) ⌝ }
+    ensures { λ _. ⌜ Leaves (text.decode (now (line .entry))) (now (order .entry)) (now (order .exit)) ⌝ }
 {
     let end = until(line, 9);
+    let word = &line[..end];
+    if same(word, b"ord") {
+        return ord_form(line, end, order);
+    }
     if end < line.len() {
-        let word = &line[..end];
         let a = end + 1;
         let rest = &line[a..];
         if same(word, b"rig") {

@@ -76,7 +76,7 @@ number-is (b ∷ (c ∷ bs)) n q =
 
 -- ---- words
 
-same-tells : (u v : List ℕ) → Tells (same u v) (u ≡ v)
+pub same-tells : (u v : List ℕ) → Tells (same u v) (u ≡ v)
 unfolding same
 same-tells [] [] = record { yes = λ q. refl; no = λ q h. contra refl q }
 same-tells [] (b ∷ v) = record { yes = λ q. contra q refl; no = λ q h. omega (arith, ap length h) }

@@ -12,7 +12,7 @@ use denote.Enum.Declared.{tagOf}
 use Rattle.promises.specs.Text.{Line, continues, go}
 use Rattle.decoding.specs.declared.Field.{Field}
 use Rattle.decoding.specs.declared.Field.the-variants.{Last, More, Bad}
-use Rattle.decoding.specs.Forms.{fieldOf, orOther}
+use Rattle.decoding.specs.Forms.{fieldOf, orOther, formOf}
 use Rattle.decoding.proofs.Field as field
 use Rattle.decoding.proofs.Numbers.{next-le, only, only-by, Short, two-short, two-next, three-short, three-next}
 use borrow.Author.Needs.{needs}
@@ -41,7 +41,7 @@ enum-known-s c = search needs
 returns : tie.Need-returns
 returns c =
     let l = c .before .before .before .args .rest .now in
-    sym (three-short line l _ (c .before .read-field .ensures) (short (c .before .read-field .result) (c .match .keys2)))
+    ap formOf (sym (three-short line l _ (c .before .read-field .ensures) (short (c .before .read-field .result) (c .match .keys2))))
 
 sub-second : tie.Need-sub-second
 sub-second c =
@@ -72,7 +72,7 @@ returns-2 c =
     let f1 = c .before .before .before .before .s .given in
     let q1 : More (f1 .0 .0) (f1 .0 .1 .0) ≡ fieldOf l = sym (f1 .1) ∙ c .before .before .before .before .before .before .read-field .ensures in
     let l2 = take (length l - f1 .0 .1 .0) (drop (f1 .0 .1 .0) l) in
-    sym (three-next line l _ _ q1 ∙ two-short (line (f1 .0 .0)) l2 _ (c .before .read-field2 .ensures) (short (c .before .read-field2 .result) (c .match2 .keys2)))
+    ap formOf (sym (three-next line l _ _ q1 ∙ two-short (line (f1 .0 .0)) l2 _ (c .before .read-field2 .ensures) (short (c .before .read-field2 .result) (c .match2 .keys2))))
 
 sub-third : tie.Need-sub-third
 sub-third c =
@@ -112,7 +112,7 @@ returns-3 c =
     let f2 = c .before .before .before .before .e .given in
     let q2 : More (f2 .0 .0) (f2 .0 .1 .0) ≡ fieldOf l2 = sym (f2 .1) ∙ c .before .before .before .before .before .before .read-field2 .ensures in
     let l3 = take (length l2 - f2 .0 .1 .0) (drop (f2 .0 .1 .0) l2) in
-    sym (three-next line l _ _ q1 ∙ two-next (line (f1 .0 .0)) l2 _ _ q2 ∙ only-by l3 _ (c .before .read-field3 .ensures) (line (f1 .0 .0) (f2 .0 .0)) ∙ ap (orOther (line (f1 .0 .0) (f2 .0 .0))) (not-last (c .before .read-field3 .result) (c .match3 .keys2)))
+    ap formOf (sym (three-next line l _ _ q1 ∙ two-next (line (f1 .0 .0)) l2 _ _ q2 ∙ only-by l3 _ (c .before .read-field3 .ensures) (line (f1 .0 .0) (f2 .0 .0)) ∙ ap (orOther (line (f1 .0 .0) (f2 .0 .0))) (not-last (c .before .read-field3 .result) (c .match3 .keys2))))
 
 returns-4 : tie.Need-returns-4
 returns-4 c =
@@ -123,7 +123,7 @@ returns-4 c =
     let f2 = c .before .before .before .before .before .before .e .given in
     let q2 : More (f2 .0 .0) (f2 .0 .1 .0) ≡ fieldOf l2 = sym (f2 .1) ∙ c .before .before .before .before .before .before .before .before .read-field2 .ensures in
     let l3 = take (length l2 - f2 .0 .1 .0) (drop (f2 .0 .1 .0) l2) in
-    sym (three-next line l _ _ q1 ∙ two-next (line (f1 .0 .0)) l2 _ _ q2 ∙ only-by l3 (Last (c .before .t .given .0 .0)) (sym (c .before .t .given .1) ∙ c .before .before .before .read-field3 .ensures) (line (f1 .0 .0) (f2 .0 .0)))
+    ap formOf (sym (three-next line l _ _ q1 ∙ two-next (line (f1 .0 .0)) l2 _ _ q2 ∙ only-by l3 (Last (c .before .t .given .0 .0)) (sym (c .before .t .given .1) ∙ c .before .before .before .read-field3 .ensures) (line (f1 .0 .0) (f2 .0 .0))))
 
 pub go-form-spec : {M : Type 1} → statement M
 go-form-spec =

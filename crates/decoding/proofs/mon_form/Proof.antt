@@ -3,7 +3,7 @@
 use mathlib.Core.Path.{sym, ap, _∙_}
 use Prim.Native.Nat.{ℕ}
 use Rattle.promises.specs.Text.{Line, begins, mon}
-use Rattle.decoding.specs.Forms.{valueOf, orOther}
+use Rattle.decoding.specs.Forms.{valueOf, orOther, formOf}
 use Rattle.decoding.proofs.Numbers.{next-le, one-last, one-bad, one-next}
 use borrow.Author.Needs.{needs}
 use Rattle.decoding.proofs.mon_form.Statement.{statement}
@@ -46,20 +46,20 @@ enum-told-2 : tie.Need-enum-told-2
 enum-told-2 c = search needs
 
 returns : tie.Need-returns
-returns c = sym (one-last alone started (c .before .before .before .before .before .args .rest .now) _ (sym (c .before .s .given .1) ∙ c .before .before .before .read-field .ensures))
+returns c = ap formOf (sym (one-last alone started (c .before .before .before .before .before .args .rest .now) _ (sym (c .before .s .given .1) ∙ c .before .before .before .read-field .ensures)))
 
 returns-2 : tie.Need-returns-2
 returns-2 c =
     let f = c .before .before .before .before .before .before .s2 .given in
-    sym (one-next alone started (c .before .before .before .before .before .before .before .before .before .before .args .rest .now) (f .0 .0) _ (sym (f .1) ∙ c .before .before .before .before .before .before .before .before .read-field .ensures) ∙ c .before .before .before .only-number .ensures (started (f .0 .0)) ∙ ap (λ d. orOther (started (f .0 .0)) (valueOf d)) (c .before .start .given .1))
+    ap formOf (sym (one-next alone started (c .before .before .before .before .before .before .before .before .before .before .args .rest .now) (f .0 .0) _ (sym (f .1) ∙ c .before .before .before .before .before .before .before .before .read-field .ensures) ∙ c .before .before .before .only-number .ensures (started (f .0 .0)) ∙ ap (λ d. orOther (started (f .0 .0)) (valueOf d)) (c .before .start .given .1)))
 
 returns-3 : tie.Need-returns-3
 returns-3 c =
     let f = c .before .before .before .before .before .s2 .given in
-    sym (one-next alone started (c .before .before .before .before .before .before .before .before .before .args .rest .now) (f .0 .0) _ (sym (f .1) ∙ c .before .before .before .before .before .before .before .read-field .ensures) ∙ c .before .before .only-number .ensures (started (f .0 .0)) ∙ ap (λ d. orOther (started (f .0 .0)) (valueOf d)) (c .enum-told .given .1))
+    ap formOf (sym (one-next alone started (c .before .before .before .before .before .before .before .before .before .args .rest .now) (f .0 .0) _ (sym (f .1) ∙ c .before .before .before .before .before .before .before .read-field .ensures) ∙ c .before .before .only-number .ensures (started (f .0 .0)) ∙ ap (λ d. orOther (started (f .0 .0)) (valueOf d)) (c .enum-told .given .1)))
 
 returns-4 : tie.Need-returns-4
-returns-4 c = sym (one-bad alone started (c .before .before .before .before .args .rest .now) (sym (c .enum-told2 .given .1) ∙ c .before .before .read-field .ensures))
+returns-4 c = ap formOf (sym (one-bad alone started (c .before .before .before .before .args .rest .now) (sym (c .enum-told2 .given .1) ∙ c .before .before .read-field .ensures)))
 
 pub mon-form-spec : {M : Type 1} → statement M
 mon-form-spec =
