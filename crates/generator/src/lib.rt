@@ -7,7 +7,7 @@ ghost use mathlib.Core.Path.{_≡_};
 ghost use Prim.Native.Nat.{_*_, _≤_};
 ghost use lib.ListN.{length};
 ghost use Rattle.rig.specs.Record.{recordAutomaton};
-ghost use Rattle.promises.specs.Calls.{countFrom, filled, firstBad, notBelow, ShuffleKeeps};
+ghost use Rattle.promises.specs.Calls.{countFrom, filled, ShuffleKeeps};
 ghost use Rattle.promises.specs.Calls as promised;
 ghost use Rattle.checks.specs.Loading.{Fits};
 ghost use Rattle.shuffle.specs.Outcome.{answerOf as shuffleAnswer};
@@ -29,18 +29,6 @@ pub enum Listed {
 pub enum Indexed {
     Served(u64),
     Refused(u64, u64),
-}
-
-// The position of the first byte that is no event; the sequence's length where all are.
-fn first_not_event(sequence: &[u8], events: usize) -> usize
-    ensures { λ k. ⌜ k ≡ firstBad (notBelow events) (now (sequence .entry)) ⌝ }
-{
-    for k in 0..sequence.len() {
-        if events <= rig::wide(sequence[k]) {
-            return k;
-        }
-    }
-    sequence.len()
 }
 
 // Count, once the checks are passed.
@@ -156,7 +144,7 @@ pub fn index(text: &[u8], sequence: &[u8], cells: &mut [u64]) -> Indexed
     match checked {
         Checked::Refused(number, place) => Indexed::Refused(number, place),
         Checked::Passed => {
-            let at = first_not_event(sequence, rig.events);
+            let at = rig::first_not_event(sequence, rig.events);
             if at < h {
                 return Indexed::Refused(13, at as u64);
             }

@@ -6,8 +6,9 @@ use Prim.Native.Nat.{ℕ, zero, suc, _+_, _*_, _<_, _≤_}
 use native.Mathlib.Nat.{eq-or-lt-of-le, le-of-suc-le-suc, not-suc-le-zero, suc-mul, zero-mul, mul-le-mul-right}
 use native.Mathlib.Numerals.{add-one}
 use native.Mathlib.Omega.{arith}
-use lib.ListN.{length, getD, set, drop, length-append, List·getD-append}
-use lib.Seq.{drop-cons, set-at, append-snoc, getD-at, getD-append-add}
+use native.Mathlib.Decide.{le-ind}
+use lib.ListN.{length, getD, set, take, drop, length-append, List·getD-append}
+use lib.Seq.{take-all, take-append-le, drop-cons, set-at, append-snoc, getD-at, getD-append-add}
 use Rattle.lists.specs.Lists.{tabulate, stack, range}
 
 pub length-tabulate : {A : Type 0} (f : ℕ → A) (n : ℕ) → length (tabulate f n) ≡ n
@@ -46,6 +47,13 @@ pub length-range : (n : ℕ) → length (range n) ≡ n
 unfolding range
 length-range zero = refl
 length-range (suc n) = rw (length-append, length-range n) (add-one n)
+
+-- the first numbers of a range are a shorter range
+pub take-range : (n m : ℕ) → n ≤ m → take n (range m) ≡ range n
+unfolding range
+take-range n m le =
+    le-ind (λ m. take n (range m) ≡ range n) (take-all n (range n) (omega (arith, length-range n)))
+    (λ m le ih. take-append-le n (range m) (m ∷ []) (omega (arith, length-range m)) ∙ ih) m le
 
 pub getD-range : (n i : ℕ) → i < n → getD (range n) i 0 ≡ i
 unfolding range

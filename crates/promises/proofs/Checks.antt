@@ -1,19 +1,25 @@
 -- The checks that the answers are made of: which refusal is said, and when none is. Assumes nothing.
-use mathlib.Core.Path.{_≡_, sym, _∙_}
+use mathlib.Core.Path.{_≡_, sym, ap, _∙_}
 use mathlib.Core.Logic.{_⊎_, inl, inr, _↔_}
 use mathlib.Core.Bool.{Bool, true, false}
 use mathlib.Core.List.{List, [], _∷_}
 use Prim.Native.Nat.{ℕ, zero, suc, _+_, _*_, _≤_, _<_}
 use native.Mathlib.Omega.{arith}
 use native.Mathlib.Nat.{zero-add, add-zero}
-use lib.ListN.{length, getD}
+use native.Mathlib.Numerals.{add-one}
+use lib.ListN.{length, getD, drop, drop-of-length-le}
+use lib.Seq.{drop-cons}
 use lib.Dec.{ltb, leb, eqb}
-use Rattle.lists.proofs.Tests.{case, split}
+use borrow.Author.Tests.{le-leb, lt-leb}
+use Rattle.lists.specs.Lists.{any}
+use Rattle.lists.proofs.Tests.{contra, case, split}
+use Rattle.lists.proofs.Members.{any-some, any-in, getD-in}
+use Rattle.lists.proofs.Distinct.{in-place}
 use Rattle.lists.proofs.Tells.{tells-true, tells-false, tells-lt, tells-le, tells-eq}
 use Rattle.automaton.specs.Counting.{most}
 use Rattle.promises.specs.Answer.{Answer, refused, SaysNone, unless}
 use Rattle.promises.specs.Text.{Readable, Case7, Case8, jointStates}
-use Rattle.promises.specs.Calls.{firstBadFrom, firstBad, unlessAt, sized, total, counted}
+use Rattle.promises.specs.Calls.{notBelow, firstBadFrom, firstBad, unlessAt, sized, total, counted}
 use Rattle.promises.proofs.Reading.{readable-said}
 
 -- ---- the first bad place of a list
@@ -43,6 +49,31 @@ first-from bad p (x ∷ l) =
         ⊎ ((k : ℕ) × (k < length (x ∷ l)) × (firstBadFrom bad (suc p) l ≡ p + k) × (bad (p + k) (getD (x ∷ l) k 0) ≡ true) × ((j : ℕ) → j < k → bad (p + j) (getD (x ∷ l) j 0) ≡ false))
     on q (inl (e, g)) = inl (e ∙ shift (length l), good q (length l) g)
     on q (inr (k, lt, e, b, g)) = inr (suc k, omega arith, e ∙ shift k, rw (shift k) at b, good q k g)
+
+-- numbers that are to be below n, stepped over
+module _ (n : ℕ) (l : List ℕ) (k : ℕ) where
+  pub bad-here : k < length l → n ≤ getD l k 0 → firstBadFrom (notBelow n) k (drop k l) ≡ k
+  unfolding firstBadFrom
+  bad-here h b = rw (drop-cons l k 0 h, le-leb n (getD l k 0) b)
+
+  pub bad-later : k < length l → getD l k 0 < n → firstBadFrom (notBelow n) k (drop k l) ≡ firstBadFrom (notBelow n) (k + 1) (drop (k + 1) l)
+  unfolding firstBadFrom
+  bad-later h b = rw (drop-cons l k 0 h, lt-leb n (getD l k 0) b, add-one k)
+
+  pub bad-nowhere : length l ≤ k → firstBadFrom (notBelow n) k (drop k l) ≡ k
+  unfolding firstBadFrom
+  bad-nowhere h = ap (firstBadFrom (notBelow n) k) (drop-of-length-le l h)
+
+-- there is a bad place where some number is not below n
+pub bad-any : (n : ℕ) (l : List ℕ) → ltb (firstBad (notBelow n) l) (length l) ≡ any (leb n) l
+unfolding firstBad
+bad-any n l = go (first-from (notBelow n) 0 l)
+  where
+    go : ((firstBadFrom (notBelow n) 0 l ≡ 0 + length l) × ((k : ℕ) → k < length l → leb n (getD l k 0) ≡ false))
+        ⊎ ((k : ℕ) × (k < length l) × (firstBadFrom (notBelow n) 0 l ≡ 0 + k) × (leb n (getD l k 0) ≡ true) × ((j : ℕ) → j < k → leb n (getD l j 0) ≡ false))
+        → ltb (firstBadFrom (notBelow n) 0 l) (length l) ≡ any (leb n) l
+    go (inl (e, g)) = rw (e, zero-add, tells-false (tells-lt (length l) (length l)) (λ h. omega arith)) (sym (case (any (leb n) l) (λ q. let (d, i, p) = any-some (leb n) l q in let (k, lt, r) = in-place 0 i in contra (rw (← r) at p) (g k lt)) (λ q. q)))
+    go (inr (k, lt, e, b, g)) = rw (e, zero-add k, tells-true (tells-lt k (length l)) lt) (sym (any-in (leb n) (getD-in l k 0 lt) b))
 
 -- every element is good, or there is a first that is bad
 pub checked-list : (n : ℕ) (bad : ℕ → ℕ → Bool) (l : List ℕ) (a : Answer)

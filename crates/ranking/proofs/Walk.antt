@@ -25,19 +25,6 @@ use Rattle.ranking.specs.Ranks.{IndicesBelow}
 
 -- ---- the check of a list
 
-module _ (n : ℕ) (l : List ℕ) (k : ℕ) where
-  pub bad-here : k < length l → n ≤ getD l k 0 → firstBadFrom (notBelow n) k (drop k l) ≡ k
-  unfolding firstBadFrom
-  bad-here h b = rw (drop-cons l k 0 h, le-leb n (getD l k 0) b)
-
-  pub bad-later : k < length l → getD l k 0 < n → firstBadFrom (notBelow n) k (drop k l) ≡ firstBadFrom (notBelow n) (k + 1) (drop (k + 1) l)
-  unfolding firstBadFrom
-  bad-later h b = rw (drop-cons l k 0 h, lt-leb n (getD l k 0) b, add-one k)
-
-  pub bad-nowhere : length l ≤ k → firstBadFrom (notBelow n) k (drop k l) ≡ k
-  unfolding firstBadFrom
-  bad-nowhere h = ap (firstBadFrom (notBelow n) k) (drop-of-length-le l h)
-
 all-below : (n p : ℕ) (l : List ℕ) → p + length l ≤ firstBadFrom (notBelow n) p l → (k : ℕ) → k < length l → getD l k 0 < n
 unfolding firstBadFrom
 all-below n p [] h k lt = absurd (omega arith)

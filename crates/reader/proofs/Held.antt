@@ -1,8 +1,8 @@
 -- What the reader's state says of the lines that it has read, none of them bad: every test that the reader makes is the paper's, and a line more keeps it so.
 --   OfKind k c s          == c is the number of states and s the start of the kind k, both in range
---   Holds r ls z mv ct st == the sizes z and the tables mv, ct and st are those of the lines ls, read into the record r
+--   Holds r ls z mv ct st os == the sizes z, the tables mv, ct and st and the list os are those of the lines ls, read into the record r
 -- Assumes nothing.
-use mathlib.Core.Path.{_≡_, refl, sym, ap, _∙_}
+use mathlib.Core.Path.{_≡_, refl, sym, ap, ap₂, _∙_}
 use mathlib.Core.Logic.{_⊎_, ⊎-elim}
 use mathlib.Core.Bool.{Bool, true, false, not, _||_}
 use mathlib.Core.List.{List, [], _∷_, _++_}
@@ -10,25 +10,26 @@ use mathlib.Core.Option.{some, Option·getD}
 use Prim.Native.Nat.{ℕ, suc, _+_, _-_, _*_, _≤_, _<_}
 use native.Mathlib.Nat.{eq-or-lt-of-le}
 use native.Mathlib.Omega.{arith}
-use lib.ListN.{length, getD, set, length-set, length-append, List·getD-eq-default}
-use lib.Seq.{getD-set-same, getD-set-other}
+use lib.ListN.{length, getD, take, drop, set, length-set, length-append, List·getD-eq-default}
+use lib.Seq.{getD-set-same, getD-set-other, take-at}
 use lib.Dec.{eqb, ltb, leb}
 use borrow.Author.Tests.{eq-eqb, ne-eqb, eqb-true, eqb-false, ltb-false, leb-false, not-false}
-use Rattle.lists.specs.Lists.{pick}
+use Rattle.lists.specs.Lists.{pick, any}
+use Rattle.lists.proofs.Tables.{length-range, take-range}
 use Rattle.lists.proofs.Tests.{contra, case, or-left, or-rest, ℕ-trichotomy}
-use Rattle.promises.specs.Text.{Kind, mon, Part, go, Line, rig, begins, continues, Monitor, addPart, extended, monitorsFrom, monitors, statesOf, startOf, latest, product, eventsOf}
+use Rattle.promises.specs.Text.{Kind, mon, Part, go, Line, rig, ord, begins, continues, other, Monitor, addPart, extended, monitorsFrom, monitors, statesOf, startOf, latest, product, eventsOf, reordered, orderFrom, orderOf}
 use Rattle.promises.specs.Reading.{empty, isSome, moveBy, outside, testBeginning, ofLatest, testContinuing, tests, lineCase}
-use Rattle.promises.proofs.Lines.{monitors-more, length-addPart, product-addPart, product-append}
+use Rattle.promises.proofs.Lines.{monitors-more, order-more, length-addPart, product-addPart, product-append}
 use Rattle.rig.specs.declared.Rig.{Rig}
-use Rattle.rig.specs.Record.{moveIndex, moveAt}
-use Rattle.decoding.specs.declared.Form.{Form}
-use Rattle.decoding.specs.declared.Form.the-variants.{Rig as RigForm, Begins, Continues, Other}
-use Rattle.decoding.specs.Forms.{formLine}
+use Rattle.rig.specs.Record.{moveIndex, moveAt, lowerFirst}
+use Rattle.decoding.specs.Forms.{over, formOf, Leaves}
+use Rattle.decoding.proofs.Listed.{length-over}
 use Rattle.reader.specs.declared.Sizes.{Sizes}
 use Rattle.reader.specs.Reading.{withPart, withLine, recordFrom}
 use Rattle.reader.specs.Record.{nobody}
-use Rattle.reader.specs.Taking.{Allowed, rigCase, rigSizes, monCase, monSizes, monCounts, monStarts, goCase, goMoves, caseOf, sizesAfter, movesAfter, countsAfter, startsAfter}
+use Rattle.reader.specs.Taking.{Allowed, rigCase, rigSizes, ordCase, monCase, monSizes, monCounts, monStarts, goCase, goMoves, caseOf, sizesAfter, movesAfter, countsAfter, startsAfter}
 use Rattle.reader.proofs.Monitors.{monitorAt, events-snoc, empty-nil, empty-snoc, empty-length, addPart-at, addPart-beside, latest-at, new-before, new-at, new-after}
+use Rattle.reader.proofs.Listed.{over-events, front-any, ord-case}
 use Rattle.reader.proofs.Tables.{Table, seen, table-blank, table-beside, table-go}
 
 abbrev pub statesAt : List Monitor → ℕ → ℕ
@@ -45,18 +46,21 @@ pub record Tabled (ms : List Monitor) (n E : ℕ) (mv ct st : List ℕ) : Type 0
   pub tables : (k : ℕ) → k < 4 → Table mv k (monitorAt ms k .parts) E (statesAt ms k)
   pub kinds : (k : ℕ) → k < n → OfKind (monitorAt ms k .kind) (getD ct k 0) (getD st k 0)
 
-pub record Holds (r : Rig) (ls : List Line) (z : Sizes) (mv ct st : List ℕ) : Type 0 where
+pub record Holds (r : Rig) (ls : List Line) (z : Sizes) (mv ct st os : List ℕ) : Type 0 where
   pub events-are : eventsOf ls ≡ z .events
   pub begun : empty ls ≡ eqb (z .events) 0
   pub monitors-are : length (monitors ls) ≡ z .monitors
   pub joint-is : product (monitors ls) ≡ z .joint
   pub latest-is : (k : ℕ) → suc k ≡ z .monitors → statesAt (monitors ls) k ≡ z .latest
   pub tabled : Tabled (monitors ls) (z .monitors) (z .events) mv ct st
-  pub recorded : recordFrom r ls ≡ record { moves = mv; counts = ct; starts = st; monitors = z .monitors; events = z .events }
+  pub ordered : take (z .events) os ≡ orderOf ls
+  pub unordered : z .events ≡ 0 → os ≡ lowerFirst
+  pub recorded : recordFrom r ls ≡ record { moves = mv; counts = ct; starts = st; order = os; monitors = z .monitors; events = z .events }
   pub room : Allowed z
   pub long : length mv ≡ 2048
   pub wide : length ct ≡ 4
   pub wide-starts : length st ≡ 4
+  pub wide-order : length os ≡ 16
 
 recordFrom-snoc : (r : Rig) (ls : List Line) (l : Line) → recordFrom r (ls ++ (l ∷ [])) ≡ withLine (recordFrom r ls) l
 unfolding recordFrom
@@ -66,8 +70,8 @@ recordFrom-snoc r (k ∷ ls) l = recordFrom-snoc (withLine r k) ls l
 -- ---- no line yet
 
 pub holds-none : (mv ct st : List ℕ) → ((i : ℕ) → i < 2048 → getD mv i 0 ≡ 255) → length mv ≡ 2048 → length ct ≡ 4 → length st ≡ 4
-    → Holds (record { moves = mv; counts = ct; starts = st; monitors = 0; events = 0 }) [] (record { events = 0; monitors = 0; latest = 0; joint = 1 }) mv ct st
-unfolding eventsOf monitors monitorsFrom product recordFrom
+    → Holds (record { moves = mv; counts = ct; starts = st; order = lowerFirst; monitors = 0; events = 0 }) [] (record { events = 0; monitors = 0; latest = 0; joint = 1 }) mv ct st lowerFirst
+unfolding eventsOf orderOf orderFrom monitors monitorsFrom product recordFrom
 holds-none mv ct st blank long wide wide-starts = record {
   events-are = refl;
   begun = refl;
@@ -78,11 +82,14 @@ holds-none mv ct st blank long wide wide-starts = record {
     tables = λ k h. table-blank mv k 0 _ (λ s e hs he. blank (moveIndex k s e) (omega arith));
     kinds = λ k h. absurd (omega arith);
   };
+  ordered = refl;
+  unordered = λ q. refl;
   recorded = refl;
   room = record { few-events = omega arith; few-monitors = omega arith; few-latest = omega arith; few-joint = omega arith };
   long = long;
   wide = wide;
   wide-starts = wide-starts;
+  wide-order = length-range 16;
 }
 
 -- ---- tests
@@ -161,7 +168,7 @@ module _ (ms : List Monitor) (n E m s e t : ℕ) (mv ct st : List ℕ) (last : s
       beside : (k : ℕ) → k < 4 → (k ≡ m → ⊥) → Table (set mv (moveIndex m s e) t) k (monitorAt (addPart (go s e t) ms) k .parts) E (statesAt (addPart (go s e t) ms) k)
       beside k h ne = rw (addPart-beside (go s e t) ms k (λ q. ne (omega arith))) (table-beside mv k m s e t (monitorAt ms k .parts) E (statesAt ms k) ne (omega arith) (omega arith) (T .tables k h))
 
-module _ (r : Rig) (ls : List Line) (z : Sizes) (mv ct st : List ℕ) (H : Holds r ls z mv ct st) where
+module _ (r : Rig) (ls : List Line) (z : Sizes) (mv ct st os : List ℕ) (H : Holds r ls z mv ct st os) where
   -- ---- the reader's tests are the paper's
 
   rig-case : (e : ℕ) → rigCase z e ≡ lineCase ls (rig e)
@@ -210,20 +217,22 @@ module _ (r : Rig) (ls : List Line) (z : Sizes) (mv ct st : List ℕ) (H : Holds
   unfolding goCase lineCase tests testContinuing
   go-case s e t = sym (same-picks _ _ _ _ _ _ misplaced (λ p. out-of-range p s e t) (λ p. again p s e t))
 
-  pub case-is : (f : Form) → caseOf mv z f ≡ lineCase ls (formLine f)
+  -- `left` is what decoding the line leaves of the list os
+  pub case-is : (l : Line) (line : ℕ) (left : List ℕ) → suc (length ls) ≡ line → Leaves l os left → caseOf mv left z line (formOf l) ≡ lineCase ls l
   unfolding lineCase tests
-  case-is (RigForm e) = rig-case e
-  case-is (Begins k) = mon-case (k .states) (k .start)
-  case-is (Continues p) = go-case (p .state) (p .event) (p .target)
-  case-is Other = refl
+  case-is (rig e) line left n q = rig-case e
+  case-is (ord es) line left n q = rw q (ord-case ls z line es os (H .events-are) (H .room .few-events) n (H .wide-order))
+  case-is (begins (mon s a)) line left n q = mon-case s a
+  case-is (continues (go s e t)) line left n q = go-case s e t
+  case-is other line left n q = refl
 
   -- ---- one line more
 
-  recorded-more : (l : Line) → recordFrom r (ls ++ (l ∷ [])) ≡ withLine (record { moves = mv; counts = ct; starts = st; monitors = z .monitors; events = z .events }) l
+  recorded-more : (l : Line) → recordFrom r (ls ++ (l ∷ [])) ≡ withLine (record { moves = mv; counts = ct; starts = st; order = os; monitors = z .monitors; events = z .events }) l
   recorded-more l = recordFrom-snoc r ls l ∙ ap (λ q. withLine q l) (H .recorded)
 
-  holds-rig : (e : ℕ) → rigCase z e ≡ 0 → Holds r (ls ++ (rig e ∷ [])) (rigSizes z e) mv ct st
-  unfolding rigCase withLine extended eventsOf
+  holds-rig : (e : ℕ) → rigCase z e ≡ 0 → Holds r (ls ++ (rig e ∷ [])) (rigSizes z e) mv ct st os
+  unfolding rigCase withLine extended eventsOf reordered
   holds-rig e q =
       let (p, q₁) = pick-zero (not (eqb (z .events) 0)) 5 _ (omega arith) q in
       let (o, q₂) = pick-zero (outside 1 16 e) 3 0 (omega arith) q₁ in
@@ -239,17 +248,20 @@ module _ (r : Rig) (ls : List Line) (z : Sizes) (mv ct st : List ℕ) (H : Holds
         joint-is = rw ms (H .joint-is);
         latest-is = rw ms (H .latest-is);
         tabled = rw ms (more-events (monitors ls) (z .monitors) (z .events) e mv ct st (eqb-true (z .events) 0 first) (H .tabled));
+        ordered = ap (take e) (H .unordered (eqb-true (z .events) 0 first)) ∙ take-range e 16 high ∙ sym (order-more ls (rig e));
+        unordered = λ n. absurd (omega arith);
         recorded = recorded-more (rig e);
         room = record { few-events = high; few-monitors = H .room .few-monitors; few-latest = H .room .few-latest; few-joint = H .room .few-joint };
         long = H .long;
         wide = H .wide;
         wide-starts = H .wide-starts;
+        wide-order = H .wide-order;
       }
 
   -- a line that begins a monitor of the kind k
   holds-begins : (k : Kind) → eqb (z .events) 0 ≡ false → z .monitors < 4 → statesOf k ≤ 32 → startOf k < statesOf k → z .joint * statesOf k ≤ 1024
-      → Holds r (ls ++ (begins k ∷ [])) (record { events = z .events; monitors = z .monitors + 1; latest = statesOf k; joint = z .joint * statesOf k }) mv (set ct (z .monitors) (statesOf k)) (set st (z .monitors) (startOf k))
-  unfolding withLine extended
+      → Holds r (ls ++ (begins k ∷ [])) (record { events = z .events; monitors = z .monitors + 1; latest = statesOf k; joint = z .joint * statesOf k }) mv (set ct (z .monitors) (statesOf k)) (set st (z .monitors) (startOf k)) os
+  unfolding withLine extended reordered
   holds-begins k p few high below small =
       let ms : monitors (ls ++ (begins k ∷ [])) ≡ monitors ls ++ (fresh k ∷ []) = monitors-more ls (begins k) in
       record {
@@ -259,14 +271,17 @@ module _ (r : Rig) (ls : List Line) (z : Sizes) (mv ct st : List ℕ) (H : Holds
         joint-is = rw (ms, product-append, H .joint-is);
         latest-is = λ i l. rw (ms, new-at (monitors ls) (fresh k) i (omega (arith, H .monitors-are)));
         tabled = rw ms (one-more (monitors ls) (z .monitors) (z .events) k mv ct st (H .monitors-are) (H .wide) (H .wide-starts) few high below (H .tabled));
+        ordered = H .ordered ∙ sym (order-more ls (begins k));
+        unordered = H .unordered;
         recorded = recorded-more (begins k);
         room = record { few-events = H .room .few-events; few-monitors = omega arith; few-latest = high; few-joint = small };
         long = H .long;
         wide = length-set ct (z .monitors) (statesOf k) ∙ H .wide;
         wide-starts = length-set st (z .monitors) (startOf k) ∙ H .wide-starts;
+        wide-order = H .wide-order;
       }
 
-  holds-mon : (s a : ℕ) → monCase z s a ≡ 0 → Holds r (ls ++ (begins (mon s a) ∷ [])) (monSizes z s) mv (monCounts ct z s) (monStarts st z a)
+  holds-mon : (s a : ℕ) → monCase z s a ≡ 0 → Holds r (ls ++ (begins (mon s a) ∷ [])) (monSizes z s) mv (monCounts ct z s) (monStarts st z a) os
   unfolding monCase statesOf startOf
   holds-mon s a q =
       let (p, q₁) = pick-zero (eqb (z .events) 0) 5 _ (omega arith) q in
@@ -279,8 +294,8 @@ module _ (r : Rig) (ls : List Line) (z : Sizes) (mv ct st : List ℕ) (H : Holds
       (leb-false s a (or-rest (outside 1 32 s) _ range))
       (ltb-false 1024 (z .joint * s) j)
 
-  holds-go : (s e t : ℕ) → goCase mv z s e t ≡ 0 → Holds r (ls ++ (continues (go s e t) ∷ [])) z (goMoves mv z s e t) ct st
-  unfolding goCase withPart withLine extended
+  holds-go : (s e t : ℕ) → goCase mv z s e t ≡ 0 → Holds r (ls ++ (continues (go s e t) ∷ [])) z (goMoves mv z s e t) ct st os
+  unfolding goCase withPart withLine extended reordered
   holds-go s e t q =
       let (p, q₁) = pick-zero (eqb (z .monitors) 0) 5 _ (omega arith) q in
       let (o, q₂) = pick-zero (leb (z .latest) s || (leb (z .events) e || leb (z .latest) t)) 3 _ (omega arith) q₁ in
@@ -299,15 +314,49 @@ module _ (r : Rig) (ls : List Line) (z : Sizes) (mv ct st : List ℕ) (H : Holds
         joint-is = rw (ms, product-addPart) (H .joint-is);
         latest-is = λ k l. rw ms (ap statesOf (kind-addPart (go s e t) (monitors ls) k) ∙ H .latest-is k l);
         tabled = rw ms (one-move (monitors ls) (z .monitors) (z .events) (z .monitors - 1) s e t mv ct st (last p) (H .long) (H .room .few-events) (rw (last-states p) (H .room .few-latest)) (omega (arith, H .room .few-monitors)) (rw (last-states p) hs) he (rw (last-states p) ht) free (H .tabled));
+        ordered = H .ordered ∙ sym (order-more ls (continues (go s e t)));
+        unordered = H .unordered;
         recorded = recorded-more (continues (go s e t));
         room = H .room;
         long = length-set mv (moveIndex (z .monitors - 1) s e) t ∙ H .long;
         wide = H .wide;
         wide-starts = H .wide-starts;
+        wide-order = H .wide-order;
       }
 
-  pub holds-more : (f : Form) → caseOf mv z f ≡ 0 → Holds r (ls ++ (formLine f ∷ [])) (sizesAfter z f) (movesAfter mv z f) (countsAfter ct z f) (startsAfter st z f)
-  holds-more (RigForm e) q = holds-rig e q
-  holds-more (Begins k) q = holds-mon (k .states) (k .start) q
-  holds-more (Continues p) q = holds-go (p .state) (p .event) (p .target) q
-  holds-more Other q = absurd (omega arith)
+  holds-ord : (es : List ℕ) (line : ℕ) → suc (length ls) ≡ line → ordCase (over es os) z line (length es) ≡ 0 → Holds r (ls ++ (ord es ∷ [])) z mv ct st (over es os)
+  unfolding ordCase withLine extended reordered
+  holds-ord es line n q =
+      let (p, q₁) = pick-zero (not (eqb line 2)) 5 _ (omega arith) q in
+      let (w, q₂) = pick-zero (not (eqb (length es) (z .events))) 2 _ (omega arith) q₁ in
+      let (o, q₃) = pick-zero (any (leb (z .events)) (take (length es) (over es os))) 3 _ (omega arith) q₂ in
+      let full : length es ≡ z .events = eqb-true (length es) (z .events) (not-false _ w) in
+      let few : z .events ≤ 16 = H .room .few-events in
+      let room : length es ≤ length os = omega (arith, H .wide-order) in
+      let left : over es os ≡ es ++ drop (length es) os = over-events (z .events) few es os room (sym (front-any (z .events) few es os room) ∙ o) in
+      let begun : empty ls ≡ false = empty-length ls ∙ ne-eqb (length ls) 0 (λ e. omega (arith, eqb-true line 2 (not-false _ p))) in
+      let ms : monitors (ls ++ (ord es ∷ [])) ≡ monitors ls = monitors-more ls (ord es) in
+      record {
+        events-are = events-snoc ls (ord es) begun ∙ H .events-are;
+        begun = empty-snoc ls (ord es) ∙ sym begun ∙ H .begun;
+        monitors-are = rw ms (H .monitors-are);
+        joint-is = rw ms (H .joint-is);
+        latest-is = rw ms (H .latest-is);
+        tabled = rw ms (H .tabled);
+        ordered = ap₂ take (sym full) left ∙ take-at es (drop (length es) os) (length es) refl ∙ sym (order-more ls (ord es));
+        unordered = λ e. contra (eq-eqb (z .events) 0 e) (sym (H .begun) ∙ begun);
+        recorded = recorded-more (ord es) ∙ rw left;
+        room = H .room;
+        long = H .long;
+        wide = H .wide;
+        wide-starts = H .wide-starts;
+        wide-order = length-over es os ∙ H .wide-order;
+      }
+
+  pub holds-more : (l : Line) (line : ℕ) (left : List ℕ) → suc (length ls) ≡ line → Leaves l os left → caseOf mv left z line (formOf l) ≡ 0
+      → Holds r (ls ++ (l ∷ [])) (sizesAfter z (formOf l)) (movesAfter mv z (formOf l)) (countsAfter ct z (formOf l)) (startsAfter st z (formOf l)) left
+  holds-more (rig e) line left n k q = rw k (holds-rig e q)
+  holds-more (ord es) line left n k q = rw k (holds-ord es line n (rw k at q))
+  holds-more (begins (mon s a)) line left n k q = rw k (holds-mon s a q)
+  holds-more (continues (go s e t)) line left n k q = rw k (holds-go s e t q)
+  holds-more other line left n k q = absurd (omega arith)

@@ -3,6 +3,7 @@ pub mod Taking
 pub mod Lines
 pub mod Monitors
 pub mod Tables
+pub mod Listed
 pub mod Held
 pub mod Passing
 pub mod Record

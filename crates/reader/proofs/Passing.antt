@@ -1,6 +1,6 @@
 -- The reader on its way through a text: what it has passed, and what is left to read. Assumes nothing.
 --   wholeReading t         == what reading the lines of t gives
---   Passed r t z n i mv ct st == the lines before byte i of t are read into r with no refusal; the next one is line n
+--   Passed r t z n i mv ct st os == the lines before byte i of t are read into r with no refusal; the next one is line n
 use mathlib.Core.Path.{_≡_, refl, sym, ap, ap₂, _∙_}
 use mathlib.Core.Bool.{Bool, true, false}
 use mathlib.Core.List.{List, [], _∷_, _++_, append-assoc, append-nil}
@@ -15,9 +15,9 @@ use Rattle.promises.specs.Answer.{Answer, served, refused}
 use Rattle.promises.specs.Text.{Line, monitors, decode, decoded, unended}
 use Rattle.promises.specs.Reading.{empty, lineCase, readingFrom, reading}
 use Rattle.rig.specs.declared.Rig.{Rig}
-use Rattle.rig.specs.Record.{emptyRig}
+use Rattle.rig.specs.Record.{lowerFirst, emptyRig}
 use Rattle.decoding.specs.declared.Form.{Form}
-use Rattle.decoding.specs.Forms.{formLine}
+use Rattle.decoding.specs.Forms.{formOf, Leaves}
 use Rattle.decoding.proofs.Parts.{indexOf-le}
 use Rattle.decoding.proofs.Numbers.{rest-whole}
 use Rattle.reader.specs.declared.Reading.{Reading}
@@ -32,9 +32,9 @@ use Rattle.reader.proofs.Held.{Holds, holds-none, case-is, holds-more}
 abbrev pub wholeReading : List ℕ → Answer
 wholeReading t = readingFrom [] (decoded t) (unended t)
 
-pub record Passed (r : Rig) (t : List ℕ) (z : Sizes) (line at : ℕ) (mv ct st : List ℕ) : Type 0 where
+pub record Passed (r : Rig) (t : List ℕ) (z : Sizes) (line at : ℕ) (mv ct st os : List ℕ) : Type 0 where
   pub front : List Line
-  pub holds : Holds r front z mv ct st
+  pub holds : Holds r front z mv ct st os
   pub counted : suc (length front) ≡ line
   pub inside : at ≤ length t
   pub early : line ≤ at + 1
@@ -42,7 +42,7 @@ pub record Passed (r : Rig) (t : List ℕ) (z : Sizes) (line at : ℕ) (mv ct st
   pub split : decoded t ≡ front ++ decoded (drop at t)
 
 pub passed-none : (t mv ct st : List ℕ) → ((i : ℕ) → i < 2048 → getD mv i 0 ≡ 255) → length mv ≡ 2048 → length ct ≡ 4 → length st ≡ 4
-    → Passed (record { moves = mv; counts = ct; starts = st; monitors = 0; events = 0 }) t (record { events = 0; monitors = 0; latest = 0; joint = 1 }) 1 0 mv ct st
+    → Passed (record { moves = mv; counts = ct; starts = st; order = lowerFirst; monitors = 0; events = 0 }) t (record { events = 0; monitors = 0; latest = 0; joint = 1 }) 1 0 mv ct st lowerFirst
 passed-none t mv ct st blank long wide wide-starts = record { front = []; holds = holds-none mv ct st blank long wide wide-starts; counted = refl; inside = omega arith; early = omega arith; left = refl; split = refl }
 
 -- ---- what a line comes to
@@ -63,7 +63,7 @@ taken-bad n m z q = go (eqb n 0) refl q
 
 -- ---- the next line
 
-module _ (r : Rig) (t : List ℕ) (z : Sizes) (line at : ℕ) (mv ct st : List ℕ) (P : Passed r t z line at mv ct st) where
+module _ (r : Rig) (t : List ℕ) (z : Sizes) (line at : ℕ) (mv ct st os : List ℕ) (P : Passed r t z line at mv ct st os) where
   -- the last line is not ended
   pub stops-unended : at < length t → (end : ℕ) → end ≡ indexOf (take (length t - at) (drop at t)) 10 → end ≡ length (take (length t - at) (drop at t)) → wholeReading t ≡ refused 2 line
   unfolding readingFrom
@@ -76,55 +76,60 @@ module _ (r : Rig) (t : List ℕ) (z : Sizes) (line at : ℕ) (mv ct st : List �
       filled : empty (drop at t) ≡ false
       filled = empty-length (drop at t) ∙ ne-eqb (length (drop at t)) 0 (λ w. omega (arith, length-drop at t))
 
-  module _ (end : ℕ) (e : end ≡ indexOf (take (length t - at) (drop at t)) 10) (q : end ≡ length (take (length t - at) (drop at t)) → ⊥)
-      (f : Form) (d : formLine f ≡ decode (take end (take (length t - at) (drop at t)))) where
+  module _ (end : ℕ) (e : end ≡ indexOf (take (length t - at) (drop at t)) 10) (q : end ≡ length (take (length t - at) (drop at t)) → ⊥) where
+    -- the line
+    abbrev pub next : Line
+    next = decode (take end (take (length t - at) (drop at t)))
+
     at-end : end ≡ indexOf (drop at t) 10
     at-end = rw (rest-whole t at) at e
 
     ended : end < length (drop at t)
     ended = let n : (end ≡ length (drop at t) → ⊥) = rw (rest-whole t at) at q in omega (arith, at-end, indexOf-le (drop at t) 10)
 
-    is-form : decode (take end (drop at t)) ≡ formLine f
-    is-form = sym (rw (rest-whole t at) at d)
-
-    lines-left : decoded (drop at t) ≡ formLine f ∷ decoded (drop (at + (end + 1)) t)
-    lines-left = decoded-first (drop at t) end at-end ended ∙ ap₂ _∷_ is-form (ap decoded (drop-drop (end + 1) at t))
+    lines-left : decoded (drop at t) ≡ next ∷ decoded (drop (at + (end + 1)) t)
+    lines-left = rw (rest-whole t at) (decoded-first (drop at t) end at-end ended ∙ ap (λ l. decode (take end (drop at t)) ∷ decoded l) (drop-drop (end + 1) at t))
 
     unended-left : unended (drop at t) ≡ unended (drop (at + (end + 1)) t)
     unended-left = unended-first (drop at t) end at-end ended ∙ ap unended (drop-drop (end + 1) at t)
 
-    -- a case holds of it
-    pub stops-bad : (n : ℕ) → Bad n ≡ taken (caseOf mv z f) (sizesAfter z f) → wholeReading t ≡ refused n line
-    unfolding readingFrom
-    stops-bad n b =
-        let (p, m) = taken-bad (caseOf mv z f) n (sizesAfter z f) b in
-        let c : lineCase (P .front) (formLine f) ≡ n = sym (case-is r (P .front) z mv ct st (P .holds) f) ∙ sym m in
-        let p′ : eqb n 0 ≡ false = rw (← m) at p in
-        P .left ∙ rw (lines-left, c, p′, P .counted)
+    -- its form f, and what decoding it leaves of the list os
+    module _ (f : Form) (d : f ≡ formOf next) (left : List ℕ) (lv : Leaves next os left) where
+      case-of : caseOf mv left z line f ≡ lineCase (P .front) next
+      case-of = rw d (case-is r (P .front) z mv ct st os (P .holds) next line left (P .counted) lv)
 
-    reads-on : lineCase (P .front) (formLine f) ≡ 0
-        → readingFrom (P .front) (decoded (drop at t)) (unended (drop at t)) ≡ readingFrom (P .front ++ (formLine f ∷ [])) (decoded (drop (at + (end + 1)) t)) (unended (drop (at + (end + 1)) t))
-    unfolding readingFrom
-    reads-on c = rw (lines-left, unended-left, c)
+      -- a case holds of it
+      pub stops-bad : (n : ℕ) → Bad n ≡ taken (caseOf mv left z line f) (sizesAfter z f) → wholeReading t ≡ refused n line
+      unfolding readingFrom
+      stops-bad n b =
+          let (p, m) = taken-bad (caseOf mv left z line f) n (sizesAfter z f) b in
+          let c : lineCase (P .front) next ≡ n = sym case-of ∙ sym m in
+          let p′ : eqb n 0 ≡ false = rw (← m) at p in
+          P .left ∙ rw (lines-left, c, p′, P .counted)
 
-    -- no case holds of it
-    pub goes-on : (y : Sizes) (nv nt ns : List ℕ) → Next y ≡ taken (caseOf mv z f) (sizesAfter z f) → nv ≡ onlyIf (caseOf mv z f) (movesAfter mv z f) mv
-        → nt ≡ onlyIf (caseOf mv z f) (countsAfter ct z f) ct → ns ≡ onlyIf (caseOf mv z f) (startsAfter st z f) st → Passed r t y (line + 1) (at + (end + 1)) nv nt ns
-    goes-on y nv nt ns b mq cq sq =
-        let (p, s) = taken-next (caseOf mv z f) (sizesAfter z f) y b in
-        let c : lineCase (P .front) (formLine f) ≡ 0 = sym (case-is r (P .front) z mv ct st (P .holds) f) ∙ p in
-        let m′ : nv ≡ movesAfter mv z f = rw p at mq in
-        let c′ : nt ≡ countsAfter ct z f = rw p at cq in
-        let s′ : ns ≡ startsAfter st z f = rw p at sq in
-        record {
-          front = P .front ++ (formLine f ∷ []);
-          holds = rw (s, m′, c′, s′) (holds-more r (P .front) z mv ct st (P .holds) f p);
-          counted = rw length-append (omega (arith, P .counted));
-          inside = omega (arith, ended, length-drop at t);
-          early = omega (arith, P .early);
-          left = P .left ∙ reads-on c;
-          split = P .split ∙ ap (λ l. P .front ++ l) lines-left ∙ sym (append-assoc (P .front) (formLine f ∷ []) (decoded (drop (at + (end + 1)) t)));
-        }
+      reads-on : lineCase (P .front) next ≡ 0
+          → readingFrom (P .front) (decoded (drop at t)) (unended (drop at t)) ≡ readingFrom (P .front ++ (next ∷ [])) (decoded (drop (at + (end + 1)) t)) (unended (drop (at + (end + 1)) t))
+      unfolding readingFrom
+      reads-on c = rw (lines-left, unended-left, c)
+
+      -- no case holds of it
+      pub goes-on : (y : Sizes) (nv nt ns : List ℕ) → Next y ≡ taken (caseOf mv left z line f) (sizesAfter z f) → nv ≡ onlyIf (caseOf mv left z line f) (movesAfter mv z f) mv
+          → nt ≡ onlyIf (caseOf mv left z line f) (countsAfter ct z f) ct → ns ≡ onlyIf (caseOf mv left z line f) (startsAfter st z f) st → Passed r t y (line + 1) (at + (end + 1)) nv nt ns left
+      goes-on y nv nt ns b mq cq sq =
+          let (p, s) = taken-next (caseOf mv left z line f) (sizesAfter z f) y b in
+          let m′ : nv ≡ movesAfter mv z (formOf next) = rw (p, d) at mq in
+          let c′ : nt ≡ countsAfter ct z (formOf next) = rw (p, d) at cq in
+          let s′ : ns ≡ startsAfter st z (formOf next) = rw (p, d) at sq in
+          let z′ : y ≡ sizesAfter z (formOf next) = rw d at s in
+          record {
+            front = P .front ++ (next ∷ []);
+            holds = rw (z′, m′, c′, s′) (holds-more r (P .front) z mv ct st os (P .holds) next line left (P .counted) lv (rw d at p));
+            counted = rw length-append (omega (arith, P .counted));
+            inside = omega (arith, ended, length-drop at t);
+            early = omega (arith, P .early);
+            left = P .left ∙ reads-on (sym case-of ∙ p);
+            split = P .split ∙ ap (λ l. P .front ++ l) lines-left ∙ sym (append-assoc (P .front) (next ∷ []) (decoded (drop (at + (end + 1)) t)));
+          }
 
   -- ---- the end
 
@@ -143,7 +148,7 @@ module _ (r : Rig) (t : List ℕ) (z : Sizes) (line at : ℕ) (mv ct st : List �
     unfolding readingFrom
     ends-served q = P .left ∙ rw (no-lines, no-tail, empty-length (monitors (P .front)), P .holds .monitors-are, ne-eqb (z .monitors) 0 q)
 
-    pub ends-record : recordFrom r (decoded t) ≡ record { moves = mv; counts = ct; starts = st; monitors = z .monitors; events = z .events }
+    pub ends-record : recordFrom r (decoded t) ≡ record { moves = mv; counts = ct; starts = st; order = os; monitors = z .monitors; events = z .events }
     ends-record = ap (recordFrom r) (P .split ∙ ap (λ l. P .front ++ l) no-lines ∙ append-nil (P .front)) ∙ P .holds .recorded
 
 -- ---- the answer

@@ -6,33 +6,31 @@ use mathlib.Core.Bool.{Bool, true, false, _&&_}
 use mathlib.Core.Option.{Option, none, some, Option·getD}
 use mathlib.Core.List.{List, [], _∷_, _++_, map, append-nil, append-assoc}
 use mathlib.Core.List.{List·Memᴰ as In}
-use Prim.Native.Nat.{ℕ, _+_, _≤_, _<_}
+use Prim.Native.Nat.{ℕ, suc, _≤_, _<_}
 use native.Mathlib.Omega.{arith}
 use lib.ListN.{length, getD, length-map, length-replicate, getD-replicate, replicate}
 use lib.Seq.{ext-getD}
 use lib.Dec.{ltb}
 use borrow.Author.Tests.{eqb-false, lt-ltb, le-ltb, ltb-true}
-use Rattle.lists.specs.Lists.{pick, tabulate, range}
+use Rattle.lists.specs.Lists.{pick, tabulate}
 use Rattle.lists.proofs.Tests.{case}
 use Rattle.lists.proofs.Tables.{length-tabulate, getD-tabulate}
 use Rattle.lists.proofs.Members.{getD-map-lt, getD-in}
 use Rattle.automaton.specs.Joint.{At, joint, jointState, sizes}
-use Rattle.promises.specs.Text.{Kind, mon, Part, go, Line, rig, begins, continues, other, Monitor, monitorsFrom, monitors, decoded, statesOf, startOf, eventsOf, jointStates, AllSound, Readable}
+use Rattle.promises.specs.Text.{Kind, mon, Part, go, Line, rig, ord, begins, continues, other, Monitor, monitorsFrom, monitors, decoded, statesOf, startOf, eventsOf, orderOf, jointStates, AllSound, Readable}
 use Rattle.promises.specs.Reading.{empty, moveBy, lineCase}
 use Rattle.promises.specs.Rig.{nextOf, rigAutomaton, linesAutomaton, linesStart, start}
 use Rattle.promises.specs.Rig as lines
 use Rattle.promises.proofs.Lines.{PartRanged, readable-formed}
-use Rattle.promises.proofs.Meaning.{move-is, sizes-standing}
+use Rattle.promises.proofs.Meaning.{move-is, sizes-standing, order-permutes}
 use Rattle.promises.proofs.Reading.{moved, sound-case, readable-said}
 use Rattle.rig.specs.declared.Rig.{Rig}
-use Rattle.rig.specs.Record.{moveAt, countOf, startAt, moveOf, monitorAt, standing, recordAutomaton, recordStart, WellFormed, emptyRig}
-use Rattle.decoding.specs.declared.Form.{Form}
-use Rattle.decoding.specs.declared.Form.the-variants.{Rig as RigForm, Begins, Continues, Other}
-use Rattle.decoding.specs.Forms.{formLine}
+use Rattle.rig.specs.Record.{moveAt, countOf, startAt, orderIn, moveOf, monitorAt, standing, recordAutomaton, recordStart, WellFormed, lowerFirst, emptyRig}
+use Rattle.decoding.specs.Forms.{over, formOf, Leaves}
 use Rattle.reader.specs.declared.Sizes.{Sizes}
 use Rattle.reader.specs.Reading.{recordFrom, whereServed, recordOf}
 use Rattle.reader.specs.Record.{nobody, monitorIn, ReadFrom}
-use Rattle.reader.specs.Taking.{sizesAfter, movesAfter, countsAfter, startsAfter}
+use Rattle.reader.specs.Taking.{caseOf, sizesAfter, movesAfter, countsAfter, startsAfter}
 use Rattle.reader.proofs.Monitors.{empty-nil}
 use Rattle.reader.proofs.Tables.{Table}
 use Rattle.reader.proofs.Held.{Tabled, Holds, holds-none, case-is, holds-more}
@@ -45,42 +43,40 @@ pub record Held (r : Rig) (ls : List Line) : Type 0 where
   pub moves-are : List ℕ
   pub counts-are : List ℕ
   pub starts-are : List ℕ
-  pub holds : Holds r ls sizes-are moves-are counts-are starts-are
+  pub order-is : List ℕ
+  pub holds : Holds r ls sizes-are moves-are counts-are starts-are order-is
 
-formOf : Line → Form
-formOf (rig e) = RigForm e
-formOf (begins (mon s a)) = Begins (record { states = s; start = a })
-formOf (continues (go s e t)) = Continues (record { state = s; event = e; target = t })
-formOf other = Other
+-- a list that decoding may leave
+some-left : (l : Line) (os : List ℕ) → (left : List ℕ) × Leaves l os left
+some-left (rig E) os = (os, refl)
+some-left (ord es) os = (over es os, refl)
+some-left (begins k) os = (os, refl)
+some-left (continues p) os = (os, refl)
+some-left other os = (os, refl)
 
-line-form : (l : Line) → formLine (formOf l) ≡ l
-unfolding formOf
-line-form (rig e) = refl
-line-form (begins (mon s a)) = refl
-line-form (continues (go s e t)) = refl
-line-form other = refl
-
-held-more : (r : Rig) (ls : List Line) (f : Form) → Held r ls → lineCase ls (formLine f) ≡ 0 → Held r (ls ++ (formLine f ∷ []))
-held-more r ls f H q =
+held-more : (r : Rig) (ls : List Line) (l : Line) → Held r ls → lineCase ls l ≡ 0 → Held r (ls ++ (l ∷ []))
+held-more r ls l H q =
     let z = H .sizes-are in
     let mv = H .moves-are in
     let ct = H .counts-are in
     let st = H .starts-are in
+    let os = H .order-is in
+    let (left, k) = some-left l os in
+    let c : caseOf mv left z (suc (length ls)) (formOf l) ≡ 0 = case-is r ls z mv ct st os (H .holds) l (suc (length ls)) left refl k ∙ q in
     record {
-      sizes-are = sizesAfter z f;
-      moves-are = movesAfter mv z f;
-      counts-are = countsAfter ct z f;
-      starts-are = startsAfter st z f;
-      holds = holds-more r ls z mv ct st (H .holds) f (case-is r ls z mv ct st (H .holds) f ∙ q);
+      sizes-are = sizesAfter z (formOf l);
+      moves-are = movesAfter mv z (formOf l);
+      counts-are = countsAfter ct z (formOf l);
+      starts-are = startsAfter st z (formOf l);
+      order-is = left;
+      holds = holds-more r ls z mv ct st os (H .holds) l (suc (length ls)) left refl k c;
     }
 
 held-all : (r : Rig) (front back : List Line) → Held r front → AllSound front back → Held r (front ++ back)
 unfolding AllSound
 held-all r front [] H s = rw append-nil H
-held-all r front (l ∷ back) H s = rw (← append-assoc front (l ∷ []) back) (held-all r (front ++ (l ∷ [])) back more (s .1))
-  where
-    more : Held r (front ++ (l ∷ []))
-    more = rw (line-form l) at (held-more r front (formOf l) H (ap (lineCase front) (line-form l) ∙ sound-case front l (s .0)))
+held-all r front (l ∷ back) H s =
+    rw (← append-assoc front (l ∷ []) back) (held-all r (front ++ (l ∷ [])) back (held-more r front l H (sound-case front l (s .0))) (s .1))
 
 held-none : Held emptyRig []
 held-none = record {
@@ -88,6 +84,7 @@ held-none = record {
   moves-are = replicate 2048 255;
   counts-are = replicate 4 0;
   starts-are = replicate 4 0;
+  order-is = lowerFirst;
   holds = holds-none (replicate 2048 255) (replicate 4 0) (replicate 4 0) (λ i h. getD-replicate 2048 i 255 0 h) (length-replicate {A = ℕ} 2048 255) (length-replicate {A = ℕ} 4 0) (length-replicate {A = ℕ} 4 0);
 }
 
@@ -133,25 +130,26 @@ module _ (r : Rig) (m : Monitor) (k : ℕ) (T : Table (r .moves) k (m .parts) (r
           let v : moveAt (r .moves) k s e ≡ u = T .entry s e (omega arith) (omega arith) ∙ ap (λ o. Option·getD o 255) q in
           entry-moves (moveAt (r .moves) k s e) (statesOf (m .kind)) (r .events) s e (w .0) (w .1) (rw v (w .2)) ∙ v ∙ ap (λ o. Option·getD o (statesOf (m .kind))) (sym q)
 
-  pub monitor-is : monitorAt r k ≡ lines.monitorOf (r .events) m
+  pub monitor-is : monitorAt r k ≡ lines.monitorOf (orderIn r) m
   unfolding monitorAt lines.monitorOf
-  monitor-is = ap₂ (λ n f. record { states = n; events = range (r .events); next = f; stop = λ s. false }) c (fun-ext (λ s. fun-ext (λ e. moves-as s e ∙ sym (next-is (m .kind) (m .parts) s e))))
+  monitor-is = ap₂ (λ n f. record { states = n; events = orderIn r; next = f; stop = λ s. false }) c (fun-ext (λ s. fun-ext (λ e. moves-as s e ∙ sym (next-is (m .kind) (m .parts) s e))))
 
 -- ---- all monitors
 
 -- what the record of sound lines is, whatever it was read by
 pub record Recorded (ls : List Line) (r : Rig) : Type 0 where
   pub events-are : r .events ≡ eventsOf ls
+  pub order-is : orderIn r ≡ orderOf ls
   pub monitors-are : r .monitors ≡ length (monitors ls)
   pub tabled : Tabled (monitors ls) (r .monitors) (r .events) (r .moves) (r .counts) (r .starts)
   pub few-events : r .events ≤ 16
   pub few-monitors : r .monitors ≤ 4
 
 module _ (ls : List Line) (r : Rig) (H : Recorded ls r) where
-  at-monitor : (k : ℕ) → k < r .monitors → monitorAt r k ≡ lines.monitorOf (r .events) (getD (monitors ls) k nobody)
+  at-monitor : (k : ℕ) → k < r .monitors → monitorAt r k ≡ lines.monitorOf (orderIn r) (getD (monitors ls) k nobody)
   at-monitor k h = monitor-is r (getD (monitors ls) k nobody) k (H .tabled .tables k (omega (arith, H .few-monitors))) (H .tabled .kinds k h .count-is) (H .tabled .kinds k h .few-states) (H .few-events)
 
-  pub standing-is : standing r ≡ lines.standing (eventsOf ls) (monitors ls)
+  pub standing-is : standing r ≡ lines.standing (orderOf ls) (monitors ls)
   unfolding standing lines.standing
   standing-is = ext-getD nowhere _ _ (length-tabulate inRecord (r .monitors) ∙ H .monitors-are ∙ sym (length-map (monitors ls) inLines)) (λ i h. same i (rw (length-tabulate inRecord (r .monitors)) at h))
     where
@@ -162,17 +160,17 @@ module _ (ls : List Line) (r : Rig) (H : Recorded ls r) where
       inRecord k = record { of = monitorAt r k; state = startAt r k }
 
       inLines : Monitor → At
-      inLines m = record { of = lines.monitorOf (eventsOf ls) m; state = startOf (m .kind) }
+      inLines m = record { of = lines.monitorOf (orderOf ls) m; state = startOf (m .kind) }
 
       same : (i : ℕ) → i < r .monitors → getD (tabulate inRecord (r .monitors)) i nowhere ≡ getD (map inLines (monitors ls)) i nowhere
       same i h =
           getD-tabulate inRecord (r .monitors) i nowhere h
-          ∙ ap₂ (λ a x. record { of = a; state = x }) (at-monitor i h ∙ ap (λ E. lines.monitorOf E (getD (monitors ls) i nobody)) (H .events-are)) (H .tabled .kinds i h .start-is)
+          ∙ ap₂ (λ a x. record { of = a; state = x }) (at-monitor i h ∙ ap (λ es. lines.monitorOf es (getD (monitors ls) i nobody)) (H .order-is)) (H .tabled .kinds i h .start-is)
           ∙ sym (getD-map-lt inLines (monitors ls) i nobody nowhere (rw (← H .monitors-are) h))
 
   pub automaton-of : recordAutomaton r ≡ linesAutomaton ls
   unfolding recordAutomaton linesAutomaton
-  automaton-of = ap₂ joint (ap range (H .events-are)) standing-is
+  automaton-of = ap₂ joint (H .order-is) standing-is
 
   pub start-of : recordStart r ≡ linesStart ls
   unfolding recordStart linesStart
@@ -184,13 +182,14 @@ module _ (t : List ℕ) (R : Readable t) where
   held : Held emptyRig (decoded t)
   held = held-readable t R
 
-  recordOf-is : recordOf t ≡ record { moves = held .moves-are; counts = held .counts-are; starts = held .starts-are; monitors = held .sizes-are .monitors; events = held .sizes-are .events }
+  recordOf-is : recordOf t ≡ record { moves = held .moves-are; counts = held .counts-are; starts = held .starts-are; order = held .order-is; monitors = held .sizes-are .monitors; events = held .sizes-are .events }
   unfolding recordOf
   recordOf-is = ap (λ a. whereServed a (recordFrom emptyRig (decoded t)) emptyRig) (readable-said t R) ∙ held .holds .recorded
 
   recorded : Recorded (decoded t) (recordOf t)
   recorded = rw recordOf-is (record {
     events-are = sym (held .holds .events-are);
+    order-is = held .holds .ordered;
     monitors-are = sym (held .holds .monitors-are);
     tabled = held .holds .tabled;
     few-events = held .holds .room .few-events;
@@ -216,7 +215,7 @@ module _ (t : List ℕ) (R : Readable t) where
 
   joint-of : sizes (standing (recordOf t)) ≡ jointStates t
   unfolding jointStates
-  joint-of = ap sizes (standing-is (decoded t) (recordOf t) recorded) ∙ sizes-standing (eventsOf (decoded t)) (monitors (decoded t))
+  joint-of = ap sizes (standing-is (decoded t) (recordOf t) recorded) ∙ sizes-standing (orderOf (decoded t)) (monitors (decoded t))
 
   few-joint : jointStates t ≤ 1024
   unfolding jointStates
@@ -232,6 +231,7 @@ module _ (t : List ℕ) (R : Readable t) where
     few-states = λ m h. let k = recorded .tabled .kinds m h in rw (k .count-is) (k .few-states);
     start-below = λ m h. let k = recorded .tabled .kinds m h in rw (k .count-is, k .start-is) (k .start-below);
     few-joint = rw joint-of few-joint;
+    ordered = rw (recorded .order-is, recorded .events-are) (order-permutes t R);
   }
 
   -- 'for each monitor, a move from s on e to u exactly when there is that line'
@@ -265,6 +265,7 @@ module _ (t : List ℕ) (R : Readable t) where
   read-from = record {
     well-formed = well-formed;
     events-are = recorded .events-are;
+    order-is = recorded .order-is;
     monitors-are = recorded .monitors-are;
     counts-are = λ m h. recorded .tabled .kinds m h .count-is;
     starts-are = λ m h. recorded .tabled .kinds m h .start-is;

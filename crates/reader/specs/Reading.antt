@@ -6,11 +6,11 @@
 --   whereServed a r s  == r where the answer a is served, else s
 --   recordOf t         == the record of the text t, empty where t is refused
 -- A new part of a monitor is one clause of withPart. Assumes nothing.
-use mathlib.Core.List.{List, [], _∷_}
+use mathlib.Core.List.{List, [], _∷_, _++_}
 use Prim.Native.Nat.{ℕ, _+_, _-_}
-use lib.ListN.{set}
+use lib.ListN.{length, drop, set}
 use Rattle.promises.specs.Answer.{Answer, served, refused}
-use Rattle.promises.specs.Text.{Part, go, Line, rig, begins, continues, other, statesOf, startOf, decoded}
+use Rattle.promises.specs.Text.{Part, go, Line, rig, ord, begins, continues, other, statesOf, startOf, decoded}
 use Rattle.promises.specs.Reading.{reading}
 use Rattle.rig.specs.declared.Rig.{Rig}
 use Rattle.rig.specs.Record.{moveIndex, emptyRig}
@@ -24,15 +24,17 @@ answerOf (Refused number place) = refused number place
 
 -- '`go`, s, e, t: the latest monitor moves from s to t on event e'
 unfoldable pub withPart : Rig → Part → Rig
-withPart r (go s e t) = record { moves = set (r .moves) (moveIndex (r .monitors - 1) s e) t; counts = r .counts; starts = r .starts; monitors = r .monitors; events = r .events }
+withPart r (go s e t) = record { moves = set (r .moves) (moveIndex (r .monitors - 1) s e) t; counts = r .counts; starts = r .starts; order = r .order; monitors = r .monitors; events = r .events }
 
--- '`rig`, E'; '`mon`, S: a new monitor'; 'The rig record keeps one start for each monitor' (02 no. 1)
+-- '`rig`, E'; `ord` 'lists all E events, first to last' (02 no. 2); '`mon`, S: a new monitor'; 'The rig record keeps one start for each monitor' (02 no. 1)
 unfoldable pub withLine : Rig → Line → Rig
-withLine r (rig E) = record { moves = r .moves; counts = r .counts; starts = r .starts; monitors = r .monitors; events = E }
+withLine r (rig E) = record { moves = r .moves; counts = r .counts; starts = r .starts; order = r .order; monitors = r .monitors; events = E }
+withLine r (ord es) = record { moves = r .moves; counts = r .counts; starts = r .starts; order = es ++ drop (length es) (r .order); monitors = r .monitors; events = r .events }
 withLine r (begins k) = record {
   moves = r .moves;
   counts = set (r .counts) (r .monitors) (statesOf k);
   starts = set (r .starts) (r .monitors) (startOf k);
+  order = r .order;
   monitors = r .monitors + 1;
   events = r .events;
 }

@@ -3,22 +3,22 @@
 --   onlyIf n a b       == a where the number n is 0, else b
 --   taken n z          == Next z where the number n is 0, else Bad n
 --   refusal n p        == the answer to a text that is refused
---   rigCase, monCase, goCase == the number of the first case that holds of such a line, 0 where none does
+--   rigCase, ordCase, monCase, goCase == the number of the first case that holds of such a line, 0 where none does
 --   rigSizes, monSizes, monCounts, monStarts, goMoves == what such a line changes, where no case holds of it
 --   kindCase, kindSizes, kindCounts, kindStarts == the same for any line that begins a monitor
 --   partCase, partMoves == the same for any line of the latest monitor
---   caseOf, sizesAfter, movesAfter, countsAfter, startsAfter == the same for any line
+--   caseOf, sizesAfter, movesAfter, countsAfter, startsAfter == the same for any line; os is the list that its decoding leaves, l its number
 -- A new line form is one section and its clauses of those for its group. Assumes nothing.
 use mathlib.Core.Bool.{not, _||_}
 use mathlib.Core.List.{List}
 use Prim.Native.Nat.{ℕ, _+_, _-_, _*_, _≤_}
-use lib.ListN.{set}
+use lib.ListN.{take, set}
 use lib.Dec.{ltb, leb, eqb}
-use Rattle.lists.specs.Lists.{pick}
-use Rattle.promises.specs.Reading.{outside}
+use Rattle.lists.specs.Lists.{pick, any}
+use Rattle.promises.specs.Reading.{outside, repeats}
 use Rattle.rig.specs.Record.{moveIndex, moveAt, emptyRig}
 use Rattle.decoding.specs.declared.Form.{Form}
-use Rattle.decoding.specs.declared.Form.the-variants.{Rig, Begins, Continues, Other}
+use Rattle.decoding.specs.declared.Form.the-variants.{Rig, Ord, Begins, Continues, Other}
 use Rattle.decoding.specs.declared.Kind.{Kind}
 use Rattle.decoding.specs.declared.Part.{Part}
 use Rattle.reader.specs.declared.Reading.{Reading}
@@ -49,6 +49,16 @@ rigCase z e = pick (not (eqb (z .events) 0)) 5 (pick (outside 1 16 e) 3 0)
 
 abbrev pub rigSizes : Sizes → ℕ → Sizes
 rigSizes z e = record { events = e; monitors = z .monitors; latest = z .latest; joint = z .joint }
+
+-- ---- `ord`, whose n events stand first in os, on line number l
+
+unfoldable pub ordCase : List ℕ → Sizes → ℕ → ℕ → ℕ
+ordCase os z l n =
+    pick (not (eqb l 2)) 5
+    (pick (not (eqb n (z .events))) 2
+    (pick (any (leb (z .events)) (take n os)) 3
+    (pick (repeats (take n os)) 16
+    0)))
 
 -- ---- `mon`, S and the start a
 
@@ -96,32 +106,37 @@ partCase mv z p = goCase mv z (p .state) (p .event) (p .target)
 abbrev pub partMoves : List ℕ → Sizes → Part → List ℕ
 partMoves mv z p = goMoves mv z (p .state) (p .event) (p .target)
 
-abbrev pub caseOf : List ℕ → Sizes → Form → ℕ
-caseOf mv z (Rig e) = rigCase z e
-caseOf mv z (Begins k) = kindCase z k
-caseOf mv z (Continues p) = partCase mv z p
-caseOf mv z Other = 2
+abbrev pub caseOf : List ℕ → List ℕ → Sizes → ℕ → Form → ℕ
+caseOf mv os z l (Rig e) = rigCase z e
+caseOf mv os z l (Ord n) = ordCase os z l n
+caseOf mv os z l (Begins k) = kindCase z k
+caseOf mv os z l (Continues p) = partCase mv z p
+caseOf mv os z l Other = 2
 
 abbrev pub sizesAfter : Sizes → Form → Sizes
 sizesAfter z (Rig e) = rigSizes z e
+sizesAfter z (Ord n) = z
 sizesAfter z (Begins k) = kindSizes z k
 sizesAfter z (Continues p) = z
 sizesAfter z Other = z
 
 abbrev pub movesAfter : List ℕ → Sizes → Form → List ℕ
 movesAfter mv z (Rig e) = mv
+movesAfter mv z (Ord n) = mv
 movesAfter mv z (Begins k) = mv
 movesAfter mv z (Continues p) = partMoves mv z p
 movesAfter mv z Other = mv
 
 abbrev pub countsAfter : List ℕ → Sizes → Form → List ℕ
 countsAfter ct z (Rig e) = ct
+countsAfter ct z (Ord n) = ct
 countsAfter ct z (Begins k) = kindCounts ct z k
 countsAfter ct z (Continues p) = ct
 countsAfter ct z Other = ct
 
 abbrev pub startsAfter : List ℕ → Sizes → Form → List ℕ
 startsAfter st z (Rig e) = st
+startsAfter st z (Ord n) = st
 startsAfter st z (Begins k) = kindStarts st z k
 startsAfter st z (Continues p) = st
 startsAfter st z Other = st

@@ -1,4 +1,4 @@
-// Reading a rig's text: its record, or the first of the refusals 1 to 6. One pass over the text, line by line; the tables are filled in place.
+// Reading a rig's text: its record, or the first of the refusals 1 to 6 and 16. One pass over the text, line by line; the tables are filled in place.
 use decoding::Form;
 use rig::Rig;
 ghost use mathlib.Core.Path.{_≡_};
@@ -6,7 +6,7 @@ ghost use Prim.Native.Nat.{_<_};
 ghost use lib.ListN.{length};
 ghost use Rattle.promises.specs.Reading as promised;
 ghost use Rattle.reader.specs.Reading.{answerOf, recordOf};
-ghost use Rattle.reader.specs.Taking.{Allowed, taken, rigCase, rigSizes, monCase, monSizes, monCounts, monStarts, goCase, goMoves, caseOf, sizesAfter, movesAfter, countsAfter, startsAfter, onlyIf};
+ghost use Rattle.reader.specs.Taking.{Allowed, taken, rigCase, rigSizes, ordCase, monCase, monSizes, monCounts, monStarts, goCase, goMoves, caseOf, sizesAfter, movesAfter, countsAfter, startsAfter, onlyIf};
 ghost use Rattle.reader.specs.Taking as taking;
 
 // What reading answers: the text is readable, or a number and a place.
@@ -64,6 +64,40 @@ fn take_rig(z: Sizes, e: usize) -> Taken
         latest: z.latest,
         joint: z.joint,
     })
+}
+
+// Whether some byte stands at two places.
+fn repeats(bytes: &[u8]) -> bool
+    ensures { λ r. ⌜ r ≡ promised.repeats (now (bytes .entry)) ⌝ }
+{
+    for k in 0..bytes.len() {
+        let rest = &bytes[k + 1..];
+        if decoding::until(rest, bytes[k]) < rest.len() {
+            return true;
+        }
+    }
+    false
+}
+
+// `ord` and n events, which decoding has left in `order`: 'lists all E events', 'at most one and only second'.
+fn take_ord(order: &[u8], z: Sizes, line: u64, n: usize) -> Taken
+    requires { ⌜ (length (now order) ≡ 16) × Allowed z ⌝ }
+    ensures { λ r. ⌜ r ≡ taken (ordCase (now (order .entry)) z line n) z ⌝ }
+{
+    if line != 2 {
+        return Taken::Bad(5); // `ord` elsewhere
+    }
+    if n != z.events {
+        return Taken::Bad(2); // the wrong number of fields
+    }
+    let events = &order[..n];
+    if rig::first_not_event(events, n) < n {
+        return Taken::Bad(3); // a number that is no event
+    }
+    if repeats(events) {
+        return Taken::Bad(16); // an event named twice
+    }
+    Taken::Next(z)
 }
 
 // `mon`, S and the start a: 'S from 1 to 32', 'One to four monitors', P 'at most 1,024', and a below S.
@@ -129,16 +163,25 @@ fn take_go(moves: &mut [u8], z: Sizes, s: usize, e: usize, t: usize) -> Taken
     Taken::Next(z)
 }
 
-// One line more.
-fn take_line(moves: &mut [u8], counts: &mut [u8], starts: &mut [u8], z: Sizes, line: Form) -> Taken
-    requires { ⌜ (length (now moves) ≡ 2048) × (length (now counts) ≡ 4) × (length (now starts) ≡ 4) × Allowed z ⌝ }
-    ensures { λ r. ⌜ r ≡ taken (caseOf (now (moves .entry)) z line) (sizesAfter z line) ⌝ }
-    ensures { λ _. ⌜ now (moves .exit) ≡ onlyIf (caseOf (now (moves .entry)) z line) (movesAfter (now (moves .entry)) z line) (now (moves .entry)) ⌝ }
-    ensures { λ _. ⌜ now (counts .exit) ≡ onlyIf (caseOf (now (moves .entry)) z line) (countsAfter (now (counts .entry)) z line) (now (counts .entry)) ⌝ }
-    ensures { λ _. ⌜ now (starts .exit) ≡ onlyIf (caseOf (now (moves .entry)) z line) (startsAfter (now (starts .entry)) z line) (now (starts .entry)) ⌝ }
+// One line more, of this number.
+fn take_line(
+    moves: &mut [u8],
+    counts: &mut [u8],
+    starts: &mut [u8],
+    order: &[u8],
+    z: Sizes,
+    line: u64,
+    form: Form,
+) -> Taken
+    requires { ⌜ (length (now moves) ≡ 2048) × (length (now counts) ≡ 4) × (length (now starts) ≡ 4) × (length (now order) ≡ 16) × Allowed z ⌝ }
+    ensures { λ r. ⌜ r ≡ taken (caseOf (now (moves .entry)) (now (order .entry)) z line form) (sizesAfter z form) ⌝ }
+    ensures { λ _. ⌜ now (moves .exit) ≡ onlyIf (caseOf (now (moves .entry)) (now (order .entry)) z line form) (movesAfter (now (moves .entry)) z form) (now (moves .entry)) ⌝ }
+    ensures { λ _. ⌜ now (counts .exit) ≡ onlyIf (caseOf (now (moves .entry)) (now (order .entry)) z line form) (countsAfter (now (counts .entry)) z form) (now (counts .entry)) ⌝ }
+    ensures { λ _. ⌜ now (starts .exit) ≡ onlyIf (caseOf (now (moves .entry)) (now (order .entry)) z line form) (startsAfter (now (starts .entry)) z form) (now (starts .entry)) ⌝ }
 {
-    match line {
+    match form {
         Form::Rig(e) => take_rig(z, e),
+        Form::Ord(n) => take_ord(order, z, line, n),
         Form::Begins(k) => take_mon(counts, starts, z, k.states, k.start),
         Form::Continues(p) => take_go(moves, z, p.state, p.event, p.target),
         Form::Other => Taken::Bad(2),
@@ -156,6 +199,7 @@ pub fn read(text: &[u8]) -> Reading
     let mut moves = [255u8; 2048];
     let mut counts = [0u8; 4];
     let mut starts = [0u8; 4];
+    let mut order = rig::lower_first();
     let mut sizes = Sizes {
         events: 0,
         monitors: 0,
@@ -170,8 +214,16 @@ pub fn read(text: &[u8]) -> Reading
         if end == rest.len() {
             return refused(2, line);
         }
-        let form = decoding::decode(&rest[..end]);
-        match take_line(&mut moves, &mut counts, &mut starts, sizes, form) {
+        let form = decoding::decode(&rest[..end], &mut order);
+        match take_line(
+            &mut moves,
+            &mut counts,
+            &mut starts,
+            &order,
+            sizes,
+            line,
+            form,
+        ) {
             Taken::Next(z) => {
                 sizes = z;
             }
@@ -191,6 +243,7 @@ pub fn read(text: &[u8]) -> Reading
             moves,
             counts,
             starts,
+            order,
             monitors: sizes.monitors,
             events: sizes.events,
         },

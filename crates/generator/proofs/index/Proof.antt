@@ -10,7 +10,6 @@ use Rattle.generator.proofs.index.Statement.{statement}
 use Rattle.generator.proofs.index.Tie as tie
 use Rattle.generator.proofs.index.Reads as reads
 use Rattle.generator.proofs.index.Lts as lts
-use Rattle.generator.proofs.first_not_event.Reads as first-not-event-reads
 use Rattle.generator.proofs.index_cells.Reads as index-cells-reads
 use Rattle.checks.proofs.load.Reads as load-reads
 

@@ -4,7 +4,7 @@ use Prim.Native.Nat.{_-_, _≤_}
 use native.Mathlib.Omega.{arith}
 use lib.ListN.{length, drop}
 use Rattle.promises.specs.Calls.{notBelow, firstBad, firstBadFrom}
-use Rattle.ranking.proofs.Walk.{bad-here, bad-later, bad-nowhere}
+use Rattle.promises.proofs.Checks.{bad-here, bad-later, bad-nowhere}
 use borrow.Author.Needs.{needs}
 use Rattle.ranking.proofs.first_not_below.Statement.{statement}
 use Rattle.ranking.proofs.first_not_below.Tie as tie

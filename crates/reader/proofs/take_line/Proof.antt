@@ -1,25 +1,31 @@
 -- Each form has its own function, whose contract is its clause of the definitions.
 -- Assumes nothing.
-use Rattle.reader.specs.Taking.{rigCase, monCase, goCase}
+use Rattle.reader.specs.Taking.{rigCase, ordCase, monCase, goCase}
 use Rattle.reader.proofs.Taking.{kept}
 use borrow.Author.Needs.{needs}
 use Rattle.reader.proofs.take_line.Statement.{statement}
 use Rattle.reader.proofs.take_line.Tie as tie
 
-enum-known-line : tie.Need-enum-known-line
-enum-known-line c = search needs
+enum-known-form : tie.Need-enum-known-form
+enum-known-form c = search needs
 
 take-rig-requires : tie.Need-take-rig-requires
 take-rig-requires c κs = search needs
 
-enum-known-line-2 : tie.Need-enum-known-line-2
-enum-known-line-2 c = search needs
+enum-known-form-2 : tie.Need-enum-known-form-2
+enum-known-form-2 c = search needs
+
+take-ord-requires : tie.Need-take-ord-requires
+take-ord-requires c κs = search needs
+
+enum-known-form-3 : tie.Need-enum-known-form-3
+enum-known-form-3 c = search needs
 
 take-mon-requires : tie.Need-take-mon-requires
 take-mon-requires c κs = search needs
 
-enum-known-line-3 : tie.Need-enum-known-line-3
-enum-known-line-3 c = search needs
+enum-known-form-4 : tie.Need-enum-known-form-4
+enum-known-form-4 c = search needs
 
 take-go-requires : tie.Need-take-go-requires
 take-go-requires c κs = search needs
@@ -29,11 +35,19 @@ enum-told c = search needs
 
 returns : tie.Need-returns
 returns c =
-    let st = c .before .before .before .before .before .before .before .args in
-    let f = c .before .before .line .given in
+    let st = c .before .before .before .before .before .before .before .before .args in
+    let f = c .before .before .form .given in
     let q = f .1 in
     let n = rigCase (st .z) (f .0 .0) in
     (rw q (c .take-rig .ensures), (rw q (kept n (st .moves .now)), (rw q (kept n (st .counts .now)), rw q (kept n (st .starts .now)))))
+
+returns-2 : tie.Need-returns-2
+returns-2 c =
+    let st = c .before .before .before .before .before .before .before .before .args in
+    let f = c .before .before .form2 .given in
+    let q = f .1 in
+    let n = ordCase (st .order .now) (st .z) (st .line) (f .0 .0) in
+    (rw q (c .take-ord .ensures), (rw q (kept n (st .moves .now)), (rw q (kept n (st .counts .now)), rw q (kept n (st .starts .now)))))
 
 same-length : tie.Need-same-length
 same-length c = search needs
@@ -41,10 +55,10 @@ same-length c = search needs
 same-length-2 : tie.Need-same-length-2
 same-length-2 c = search needs
 
-returns-2 : tie.Need-returns-2
-returns-2 c =
-    let st = c .before .before .before .before .before .before .before .before .before .before .before .before .before .args in
-    let f = c .before .before .before .before .before .before .before .before .line2 .given in
+returns-3 : tie.Need-returns-3
+returns-3 c =
+    let st = c .before .before .before .before .before .before .before .before .before .before .before .before .before .before .args in
+    let f = c .before .before .before .before .before .before .before .before .form3 .given in
     let q = f .1 in
     let t = c .before .before .before .before .take-mon .ensures in
     (rw q (t .0), (rw q (kept (monCase (st .z) (f .0 .0 .states) (f .0 .0 .start)) (st .moves .now)), (rw q (t .1 .0), rw q (t .1 .1))))
@@ -52,33 +66,36 @@ returns-2 c =
 same-length-3 : tie.Need-same-length-3
 same-length-3 c = search needs
 
-returns-3 : tie.Need-returns-3
-returns-3 c =
-    let st = c .before .before .before .before .before .before .before .before .before .before .args in
-    let f = c .before .before .before .before .before .line3 .given in
+returns-4 : tie.Need-returns-4
+returns-4 c =
+    let st = c .before .before .before .before .before .before .before .before .before .before .before .args in
+    let f = c .before .before .before .before .before .form4 .given in
     let q = f .1 in
     let t = c .before .before .take-go .ensures in
     let n = goCase (st .moves .now) (st .z) (f .0 .0 .state) (f .0 .0 .event) (f .0 .0 .target) in
     (rw q (t .0), (rw q (t .1), (rw q (kept n (st .counts .now)), rw q (kept n (st .starts .now)))))
 
-returns-4 : tie.Need-returns-4
-returns-4 c = let q = c .enum-told .given .1 in (rw q, (rw q, (rw q, rw q)))
+returns-5 : tie.Need-returns-5
+returns-5 c = let q = c .enum-told .given .1 in (rw q, (rw q, (rw q, rw q)))
 
 pub take-line-spec : {M : Type 1} → statement M
 take-line-spec =
     tie.close
     (tie.spec
-    enum-known-line
+    enum-known-form
     take-rig-requires
-    enum-known-line-2
+    enum-known-form-2
+    take-ord-requires
+    enum-known-form-3
     take-mon-requires
-    enum-known-line-3
+    enum-known-form-4
     take-go-requires
     enum-told
     returns
+    returns-2
     same-length
     same-length-2
-    returns-2
-    same-length-3
     returns-3
-    returns-4)
+    same-length-3
+    returns-4
+    returns-5)
