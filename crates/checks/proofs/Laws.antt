@@ -1,5 +1,7 @@
 -- What the checks come to, case by case. Assumes nothing.
 use mathlib.Core.Path.{_≡_, refl, sym, ap, _∙_}
+use mathlib.Core.Logic.{inl}
+use mathlib.Core.Bool.{false}
 use mathlib.Core.List.{List, []}
 use Prim.Native.Nat.{ℕ, _+_, _*_, _≤_, _<_}
 use native.Mathlib.Omega.{arith}
@@ -7,13 +9,14 @@ use native.Mathlib.Nat.{mul-le-mul}
 use borrow.Author.Tests.{lt-ltb, le-ltb}
 use Rattle.rig.specs.declared.Rig.{Rig}
 use Rattle.rig.specs.Record.{recordAutomaton, recordStart, WellFormed}
-use Rattle.promises.specs.Answer.{Served}
+use Rattle.promises.specs.Answer.{refused, Served}
 use Rattle.promises.specs.Text.{Readable, jointStates}
 use Rattle.promises.specs.Reading as promised
 use Rattle.promises.specs.Rig.{rigAutomaton}
-use Rattle.promises.specs.Calls.{sized}
+use Rattle.promises.specs.Calls.{fills, sized}
 use Rattle.promises.proofs.Meaning.{rig-states}
-use Rattle.promises.proofs.Reading.{reading-serves, reading-refuses, fault-number}
+use Rattle.promises.proofs.Reading.{reading-serves, reading-refuses}
+use Rattle.promises.proofs.Buffers.{early-fills, fault-fills}
 use Rattle.pruning.proofs.Starts.{start-lt}
 use Rattle.reader.specs.Reading.{answerOf, recordOf}
 use Rattle.reader.specs.declared.Verdict.the-variants.{Readable as Read, Refused as Unread}
@@ -28,8 +31,9 @@ use Rattle.checks.specs.declared.Loaded.{Loaded}
 pub cells-few : (h p : ℕ) → h ≤ 1000 → p ≤ 1024 → (h + 1) * p ≤ 1001 * 1024
 cells-few h p a b = mul-le-mul {n₁ = h + 1} {m₁ = p} {n₂ = 1001} {m₂ = 1024} (omega arith) b
 
-refused-early : (n p m q : ℕ) → n ≤ 8 → Refused n p ≡ Refused m q → m ≤ 8
-refused-early n p m q le e = let z : n ≡ m = cc in omega arith
+-- what is said of one refusal holds of the same one
+refused-same : (n p m q : ℕ) → fills (refused n p) ≡ false → Refused n p ≡ Refused m q → fills (refused m q) ≡ false
+refused-same n p m q h e = let z : n ≡ m = cc in let y : p ≡ q = cc in rw (← z, ← y) h
 
 passed-not : (n p : ℕ) → Refused n p ≡ Passed → ⊥
 passed-not n p e = let z : _≡_ {A = ℕ} 0 1 = cc in omega arith
@@ -37,7 +41,7 @@ passed-not n p e = let z : _≡_ {A = ℕ} 0 1 = cc in omega arith
 pub sizes-7 : (r : Rig) (h room : ℕ) → 1000 < h → ChecksSizes r h room (record { checked = Refused 7 0; rig = r; states = 0; start = 0 })
 sizes-7 r h room c = record {
   answer = λ a. rw (lt-ltb 1000 h c);
-  early = λ n p. refused-early 7 0 n p (omega arith);
+  untouched = λ n p. refused-same 7 0 n p (early-fills 7 0 (inl (omega arith)));
   refused-states = λ n p e. (refl, refl);
   same = refl;
   passed = λ e. absurd (passed-not 7 0 e);
@@ -46,7 +50,7 @@ sizes-7 r h room c = record {
 pub sizes-8 : (r : Rig) (h room states : ℕ) → h ≤ 1000 → states ≡ recordAutomaton r .states → room < (h + 1) * states → ChecksSizes r h room (record { checked = Refused 8 0; rig = r; states = 0; start = 0 })
 sizes-8 r h room states c q lt = record {
   answer = λ a. rw (le-ltb 1000 h c, ← q, lt-ltb room ((h + 1) * states) lt);
-  early = λ n p. refused-early 8 0 n p (omega arith);
+  untouched = λ n p. refused-same 8 0 n p (early-fills 8 0 (inl (omega arith)));
   refused-states = λ n p e. (refl, refl);
   same = refl;
   passed = λ e. absurd (passed-not 8 0 e);
@@ -56,7 +60,7 @@ pub sizes-on : (r : Rig) (h room states x : ℕ) → WellFormed r → h ≤ 1000
     → ChecksSizes r h room (record { checked = Passed; rig = r; states = states; start = x })
 sizes-on r h room states x w c q le e = record {
   answer = λ a. rw (le-ltb 1000 h c, ← q, le-ltb room ((h + 1) * states) le);
-  early = λ n p f. absurd (passed-not n p (sym f));
+  untouched = λ n p f. absurd (passed-not n p (sym f));
   refused-states = λ n p f. absurd (passed-not n p (sym f));
   same = refl;
   passed = λ f. record { well-formed = w; joint = q; starts = e; start-below = rw (q, e) (start-lt r w); horizon = c; enough = le };
@@ -70,7 +74,7 @@ pub loads-refused : (t : List ℕ) (h room n p : ℕ) (r : Rig) → answerOf (Un
 unfolding sized
 loads-refused t h room n p r q e = record {
   answer = λ cells a l. rw (sym q);
-  early = λ m k. refused-early n p m k (omega (arith, fault-number t n p (reading-refuses t n p .0 (sym q))));
+  untouched = λ m k. refused-same n p m k (fault-fills t n p (reading-refuses t n p .0 (sym q)));
   refused-states = λ m k f. (refl, refl);
   is-record = e;
   ready = λ f. absurd (passed-not n p f);
@@ -81,7 +85,7 @@ pub loads-readable : (t : List ℕ) (h room : ℕ) (r : Rig) (o : Loaded) → an
 unfolding sized Served
 loads-readable t h room r o q e w = record {
   answer = λ cells a l. rw (← q, l, ← states) (w .answer a);
-  early = w .early;
+  untouched = w .untouched;
   refused-states = w .refused-states;
   is-record = w .same ∙ e;
   ready = λ c. rw (w .same) (record {

@@ -1,11 +1,13 @@
--- What rows 1 to 8 come to, for a call on a text.
+-- What rows 1 to 8, and 16, come to, for a call on a text.
 --   checkedOr c a             == the refusal that c tells, or a where it tells none
 --   Fits r states x h room    == the record r has so many joint states and starts in x, and h and the room for cells are as sized
 --   Ready t h room r states x == the record r stands for the readable text t, and fits
 --   ChecksSizes r h room o    == o tells rows 7 and 8 of the record r
---   Loads t h room o          == o tells rows 1 to 8
--- Nothing is left free: the record is that of the text, and beside a refusal the states and the start are told as 0. Assumes nothing.
+--   Loads t h room o          == o tells rows 1 to 8 and 16
+-- Nothing is left free: the record is that of the text, and beside a refusal the states and the start are told as 0. None of these refusals is one
+-- after which the cells are filled. Assumes nothing.
 use mathlib.Core.Path.{_≡_}
+use mathlib.Core.Bool.{false}
 use mathlib.Core.List.{List}
 use Prim.Native.Nat.{ℕ, _+_, _*_, _≤_, _<_}
 use lib.ListN.{length}
@@ -14,7 +16,7 @@ use Rattle.rig.specs.Record.{recordAutomaton, recordStart, WellFormed}
 use Rattle.promises.specs.Answer.{Answer, refused}
 use Rattle.promises.specs.Text.{decoded, eventsOf, Readable}
 use Rattle.promises.specs.Rig.{rigAutomaton, start}
-use Rattle.promises.specs.Calls.{sizeRows, sized}
+use Rattle.promises.specs.Calls.{sizeRows, fills, sized}
 use Rattle.reader.specs.Reading.{recordOf}
 use Rattle.checks.specs.declared.Checked.{Checked}
 use Rattle.checks.specs.declared.Checked.the-variants.{Passed, Refused}
@@ -41,14 +43,14 @@ pub record Ready (t : List ℕ) (h room : ℕ) (r : Rig) (states x : ℕ) : Type
 
 pub record ChecksSizes (r : Rig) (h room : ℕ) (o : Loaded) : Type 0 where
   pub answer : (a : Answer) → sizeRows (recordAutomaton r .states) h room a ≡ checkedOr (o .checked) a
-  pub early : (n p : ℕ) → o .checked ≡ Refused n p → n ≤ 8
+  pub untouched : (n p : ℕ) → o .checked ≡ Refused n p → fills (refused n p) ≡ false
   pub refused-states : (n p : ℕ) → o .checked ≡ Refused n p → (o .states ≡ 0) × (o .start ≡ 0)
   pub same : o .rig ≡ r
   pub passed : o .checked ≡ Passed → Fits r (o .states) (o .start) h room
 
 pub record Loads (t : List ℕ) (h room : ℕ) (o : Loaded) : Type 0 where
   pub answer : (cells : List ℕ) (a : Answer) → length cells ≡ room → sized t h cells a ≡ checkedOr (o .checked) a
-  pub early : (n p : ℕ) → o .checked ≡ Refused n p → n ≤ 8
+  pub untouched : (n p : ℕ) → o .checked ≡ Refused n p → fills (refused n p) ≡ false
   pub refused-states : (n p : ℕ) → o .checked ≡ Refused n p → (o .states ≡ 0) × (o .start ≡ 0)
   pub is-record : o .rig ≡ recordOf t
   pub ready : o .checked ≡ Passed → Ready t h room (o .rig) (o .states) (o .start)

@@ -50,12 +50,7 @@ fills-told A p x h s k cells left table q lt e t r n = record {
   tabled = n;
 }
 
--- no refusal up to 8 fills the cells
-pub early-fills : (n p : ℕ) → n ≤ 8 → fills (refused n p) ≡ false
-unfolding fills
-early-fills n p le = rw (ne-eqb n 9 (λ q. omega arith), ne-eqb n 10 (λ q. omega arith), ne-eqb n 11 (λ q. omega arith), ne-eqb n 14 (λ q. omega arith))
-
--- 9 and 10 do, and so does what fills them by itself
+-- 9 and 10 fill the cells, and so does what fills them by itself
 pub countRows-fills : (n : ℕ) (a : Answer) → fills a ≡ true → fills (countRows n a) ≡ true
 unfolding fills
 countRows-fills n a f = case (eqb n 0) (λ q. rw q) (λ q. rw q (case (leb most n) (λ r. rw r) (λ r. rw r f)))
@@ -96,7 +91,7 @@ module _ (t : List ℕ) (h room : ℕ) (o : Loaded) (op : Loads t h room o) (cel
 
   pub early-cells : (m p : ℕ) → o .checked ≡ Refused m p → (a : Answer) (A : Automaton) → cells ≡ cellsAfter (sized t h cells a) A h cells
   unfolding cellsAfter
-  early-cells m p e a A = rw (← early-answer m p e a, early-fills m p (op .early m p e))
+  early-cells m p e a A = rw (← early-answer m p e a, op .untouched m p e)
 
   pub early-output : (m p : ℕ) → o .checked ≡ Refused m p → (a : Answer) (fresh out : List ℕ) → out ≡ outputAfter (sized t h cells a) fresh out
   unfolding outputAfter

@@ -18,7 +18,7 @@ use Rattle.automaton.specs.Ranking.{unrank}
 use Rattle.promises.specs.Answer.{Answer, refused}
 use Rattle.promises.specs.Text.{bytes}
 use Rattle.promises.specs.Rig.{rigAutomaton, start}
-use Rattle.promises.specs.Calls.{countFrom, cellsAfter, sized, count, countCells}
+use Rattle.promises.specs.Calls.{countFrom, fills, cellsAfter, sized, count, countCells}
 use Rattle.ranking.specs.Ranks.{Exact, UnrankedBy}
 use Rattle.ranking.proofs.Premises.{filled-exact}
 use Rattle.ranking.proofs.Walk.{length-unrank}
@@ -29,7 +29,7 @@ use Rattle.checks.specs.Loading.{Fits}
 use Rattle.checks.specs.declared.Checked.the-variants.{Passed}
 use Rattle.filling.specs.declared.Filled.{Filled}
 use Rattle.filling.specs.Filling.{FilledBy}
-use Rattle.filling.proofs.Rows.{early-fills, told-count, told-exact, told-few, told-some}
+use Rattle.filling.proofs.Rows.{told-count, told-exact, told-few, told-some}
 use Rattle.line.specs.Line.{lineOf, numbersOf}
 use Rattle.listing.specs.Listing.{asked, text, owned, answerTo, answer, headLine, cellsLeft, horizon, scenarioLine}
 use Rattle.listing.specs.Printing.{askedAs, Leads, EventsBy, Begins, Serves}
@@ -137,8 +137,8 @@ module _ (input : List ℕ) (r : Asked) (a : r ≡ askedAs (asked input) (indexO
       go (some h) q = let z : _≡_ {A = ℕ} 1 0 = ap kind q in absurd (omega arith)
 
   pub cells-bad : r ≡ Bad → (cells : List ℕ) → cells ≡ cellsLeft input cells
-  unfolding cellsLeft cellsAfter
-  cells-bad e cells = rw (← answer-bad e, early-fills 2 0 (omega arith))
+  unfolding cellsLeft cellsAfter fills
+  cells-bad e cells = rw (← answer-bad e)
 
   module _ (h at : ℕ) (e : r ≡ Horizon h at) where
     asked-is : asked input ≡ some h
