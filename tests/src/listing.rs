@@ -1,5 +1,5 @@
 //! What the program `scenarios` prints for an input, every byte, from the independent implementation. No index is turned into a scenario:
-//! the lines come from walking the live states, lowest event first.
+//! the lines come from walking the live states, the first event of the order first.
 use crate::model::{self, Pruned};
 
 /// 'It owns 8,192 cells.'
@@ -53,13 +53,13 @@ fn asked(input: &[u8]) -> Option<(u64, &[u8])> {
     }
 }
 
-/// Walks on from x by `left` events, lowest first, and notes each sequence that it comes to the end of, until there are enough.
+/// Walks on from x by `left` events, the first of the order first, and notes each sequence that it comes to the end of, until there are enough.
 fn walk(pruned: &Pruned, x: usize, left: usize, events: &mut Vec<u8>, found: &mut Vec<Vec<u8>>) {
     if left == 0 {
         found.push(events.clone());
         return;
     }
-    for e in 0..pruned.events {
+    for &e in &pruned.order {
         if let (true, Some(y)) = (found.len() < LINES, pruned.step(x, e)) {
             events.push(e as u8);
             walk(pruned, y, left - 1, events, found);

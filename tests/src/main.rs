@@ -5,7 +5,7 @@ use outside::calls::{self, Told};
 use outside::guarded::{bytes, noise_bytes, noise_words, words, Guarded};
 use outside::model;
 use outside::random::Random;
-use outside::texts::{self, damage, from_state_0, other_start, text, Shape};
+use outside::texts::{self, damage, from_state_0, lower_first, other_order, other_start, text, Shape};
 use std::collections::BTreeMap;
 
 #[derive(Default)]
@@ -16,6 +16,8 @@ struct Tally {
     answers: BTreeMap<(&'static str, u64), (u64, u64)>,
     /// How many random rigs were served that begin in another joint state than 0.
     begun: u64,
+    /// How many random rigs were served whose events are not compared lower first.
+    ordered: u64,
 }
 
 impl Tally {
@@ -106,7 +108,7 @@ fn shuffle(tally: &mut Tally, rng: &mut Random, n: u64, draws: &[u64], scratch: 
 
 /// The worked examples of the paper and of its table of refusals, with the answers written there.
 fn worked(tally: &mut Tally, rng: &mut Random) {
-    use texts::{A, A_FROM_1, B, F, ONE};
+    use texts::{A, A_FROM_1, A_ORDERED, B, F, ONE};
     let at = |t: &str, h: u64, cells: usize, number: u64, words: [u64; 2]| (t.as_bytes().to_vec(), h, cells, number, words);
     let two = "rig\t1\nmon\t32\nmon\t32\n".to_string();
     let mut counts = vec![
@@ -145,6 +147,29 @@ fn worked(tally: &mut Tally, rng: &mut Random) {
         at("mon\t2\t2\n", 0, 2, 5, [1, 0]),
         at(&(two.clone() + "mon\t2\t2\n"), 1, 2, 3, [4, 0]),
         at(&(two.clone() + "mon\t2\t1\n"), 1, 2, 6, [4, 0]),
+        // `ord`: as many scenarios as without it; all its cases, in their order
+        at(A_ORDERED, 3, 8, 0, [5, 1]),
+        at("rig\t2\nord\t1\n", 0, 2, 2, [2, 0]),
+        at("rig\t2\nord\t1\t0\t2\n", 0, 2, 2, [2, 0]),
+        at("rig\t2\nord\n", 0, 2, 2, [2, 0]),
+        at("rig\t2\nord\t5\n", 0, 2, 2, [2, 0]),
+        at("rig\t2\nord\t1\tx\n", 0, 2, 2, [2, 0]),
+        at("rig\t2\nord\t1\t2\n", 0, 2, 3, [2, 0]),
+        at("rig\t2\nord\t2\t2\n", 0, 2, 3, [2, 0]),
+        at("rig\t2\nord\t1\t99999\n", 0, 2, 3, [2, 0]),
+        at("rig\t2\nord\t1\t256\n", 0, 2, 3, [2, 0]),
+        at("rig\t2\nord\t1\t1\n", 0, 2, 16, [2, 0]),
+        at("rig\t1\nord\t0\n", 0, 2, 5, [3, 0]),
+        at("ord\n", 0, 2, 5, [1, 0]),
+        at("ord\t0\t0\n", 0, 2, 5, [1, 0]),
+        at("ord\t0\t\n", 0, 2, 2, [1, 0]),
+        at("rig\t2\nord\t1\t0\nord\t1\t0\n", 0, 2, 5, [3, 0]),
+        at("rig\t2\nmon\t1\nord\n", 0, 2, 5, [3, 0]),
+        at("rig\t2\nmon\t1\nord\t9\t9\t9\n", 0, 2, 5, [3, 0]),
+        at("rig\t2\nmon\t1\nord\t-1\n", 0, 2, 2, [3, 0]),
+        at(&format!("rig\t1\nmon\t1\nord{}\n", "\t0".repeat(30_000)), 0, 2, 5, [3, 0]),
+        at(&format!("rig\t16\nord{}\n", "\t0".repeat(30_000)), 0, 2, 2, [2, 0]),
+        at("rig\t17\nord\t1\t1\n", 0, 2, 3, [1, 0]),
     ];
     let path: String = (0..31).map(|s| format!("go\t{s}\t0\t{}\n", s + 1)).collect();
     counts.push(at(&format!("rig\t1\nmon\t32\n{path}"), 0, 32, 9, [0, 0]));
@@ -155,12 +180,21 @@ fn worked(tally: &mut Tally, rng: &mut Random) {
     let (a, b, f) = (A.as_bytes(), B.as_bytes(), F.as_bytes());
     let want = scenarios(tally, rng, a, 3, &[4, 2, 2], 8, 9);
     assert_eq!((want.number, want.out), (0, vec![1, 0, 1, 0, 1, 0, 0, 1, 0]));
+    let want = scenarios(tally, rng, A_ORDERED.as_bytes(), 3, &[0, 1, 2, 3, 4], 8, 15);
+    assert_eq!((want.number, want.out), (0, vec![1, 0, 1, 1, 0, 0, 0, 1, 0, 0, 0, 1, 0, 0, 0]));
     for (list, out, number, place) in [(vec![0, 1], 5, 12, 0), (vec![5], 3, 11, 0), (vec![4, 9, 5], 9, 11, 1), (vec![], 0, 0, 0)] {
         let want = scenarios(tally, rng, a, 3, &list, 8, out);
         assert_eq!((want.number, want.words[0]), (number, place), "the independent scenarios of a worked example");
     }
-    let sequences: [(&[u8], &[u8], u64, u64); 6] =
-        [(a, &[1, 0, 1], 0, 4), (b, &[1], 14, 0), (a, &[0, 2], 13, 1), (a, &[0, 1, 1], 14, 2), (f, &[2; 64], 13, 0), (f, &[0; 64], 10, 0)];
+    let sequences: [(&[u8], &[u8], u64, u64); 7] = [
+        (a, &[1, 0, 1], 0, 4),
+        (A_ORDERED.as_bytes(), &[0, 1, 0], 0, 2),
+        (b, &[1], 14, 0),
+        (a, &[0, 2], 13, 1),
+        (a, &[0, 1, 1], 14, 2),
+        (f, &[2; 64], 13, 0),
+        (f, &[0; 64], 10, 0),
+    ];
     for (t, w, number, word) in sequences {
         let want = index(tally, rng, t, w, 300);
         assert_eq!((want.number, want.words[0]), (number, word), "the independent index of a worked example");
@@ -200,7 +234,10 @@ fn calls_on(tally: &mut Tally, rng: &mut Random, t: &[u8]) {
     let need = (h.min(1000) as usize + 1) * states;
     let cells = about(rng, need);
     let counted = count(tally, rng, t, h, cells);
-    tally.begun += (counted.number == 0 && rig.is_ok_and(|r| r.monitors.iter().any(|m| m.start > 0))) as u64;
+    if let (0, Ok(rig)) = (counted.number, &rig) {
+        tally.begun += rig.monitors.iter().any(|m| m.start > 0) as u64;
+        tally.ordered += !rig.order.is_sorted() as u64;
+    }
     let n = if counted.number == 0 { counted.words[0] } else { 1 + rng.below(5) };
     let mut list: Vec<u64> = (0..rng.below(6)).map(|_| rng.below(n)).collect();
     for i in &mut list {
@@ -271,8 +308,10 @@ fn demand(tally: &mut Tally, rng: &mut Random, t: &[u8], h: usize) {
         let mut out = vec![0u8; draws.len() * h];
         let listed = calls::scenarios(t, h as u64, &mixed[..draws.len()], &mut cells, &mut out);
         let mut given: Vec<Vec<u8>> = (0..draws.len()).map(|k| out[k * h..(k + 1) * h].to_vec()).collect();
+        let mut each: Vec<Vec<u8>> = belong.iter().map(|w| w.to_vec()).collect();
         given.sort();
-        let once = given.iter().collect::<Vec<_>>() == belong;
+        each.sort();
+        let once = given == each;
         let wrong =
             told_differs(told, 0, [0, 0]).or(told_differs(listed, 0, [0, 0])).or((!once).then(|| "not each scenario exactly once".into()));
         tally.note("demand 3: shuffle", 0, wrong, input);
@@ -296,6 +335,33 @@ fn renumbered(tally: &mut Tally, rng: &mut Random, t: &[u8], h: u64) {
     let same = calls::scenarios(&from_0, h, &list, &mut cells, &mut same_out);
     let wrong = told_differs(told, same.number, same.words).or((same.number == 0 && out != same_out).then(|| "other bytes".into()));
     tally.note("renumbered: scenarios", same.number, wrong, input);
+}
+
+/// A readable rig with its `ord` line and without it: the library tells the same count and passes, and writes the same scenarios, each list in its order.
+fn reordered(tally: &mut Tally, rng: &mut Random, t: &[u8], h: u64) {
+    let rig = model::read(t).expect("a readable text");
+    let plain = lower_first(t);
+    let mut cells = vec![0u64; (h as usize + 1) * rig.joint_states()];
+    let told = calls::count(t, h, &mut cells);
+    let same = calls::count(&plain, h, &mut cells);
+    let input = || format!("h {h}, {} and {}", shown(t), shown(&plain));
+    tally.note("reordered: count", same.number, told_differs(told, same.number, same.words), input);
+    if same.number != 0 || same.words[0] > 300 {
+        return;
+    }
+    let list: Vec<u64> = (0..same.words[0]).collect();
+    let mut listed = |t: &[u8]| -> Vec<Vec<u8>> {
+        let mut out = vec![1u8; list.len() * h as usize];
+        calls::scenarios(t, h, &list, &mut cells, &mut out);
+        (0..list.len()).map(|k| out[k * h as usize..(k + 1) * h as usize].to_vec()).collect()
+    };
+    let (ours, mut theirs) = (listed(t), listed(&plain));
+    let in_order = theirs.is_sorted();
+    theirs.sort_by_key(|w| w.iter().map(|&e| rig.order.iter().position(|&d| d == e as usize)).collect::<Vec<_>>());
+    let wrong = (!in_order || ours != theirs).then(|| format!("{ours:?} and {theirs:?}"));
+    tally.note("reordered: scenarios", 0, wrong, input);
+    let at = rng.below(list.len() as u64) as usize;
+    tally.note("reordered: index", 0, told_differs(calls::index(t, &ours[at], &mut cells), 0, [at as u64, 0]), input);
 }
 
 /// Draws for a shuffle of n numbers, most of them valid.
@@ -454,8 +520,10 @@ fn main() {
         let most = *rng.pick(&[4, 12, 40]);
         let shape = Shape::small(rng, 4, most);
         let mut t = text(&shape, rng);
-        if rng.chance(1, 8) {
-            t = other_start(&t, rng);
+        match rng.below(16) {
+            0 | 1 => t = other_start(&t, rng),
+            2 => t = other_order(&t, rng),
+            _ => (),
         }
         calls_on(&mut tally, rng, &t);
     }
@@ -482,15 +550,16 @@ fn main() {
         let t = text(&Shape::small(rng, 4, 40), rng);
         let h = rng.below(20);
         renumbered(&mut tally, rng, &t, h);
+        reordered(&mut tally, rng, &t, h);
     }
     all_shuffles(&mut tally, rng);
     shuffles(&mut tally, rng, 200_000);
     limits(&mut tally, rng);
     large(&mut tally, rng);
     for (call, numbers) in [
-        ("count", &[0u64, 1, 2, 3, 4, 5, 6, 7, 8, 9, 10][..]),
-        ("scenarios", &[0, 1, 2, 3, 4, 5, 6, 7, 8, 9, 10, 11, 12]),
-        ("index", &[0, 1, 2, 3, 4, 5, 6, 7, 8, 9, 10, 13, 14]),
+        ("count", &[0u64, 1, 2, 3, 4, 5, 6, 7, 8, 9, 10, 16][..]),
+        ("scenarios", &[0, 1, 2, 3, 4, 5, 6, 7, 8, 9, 10, 11, 12, 16]),
+        ("index", &[0, 1, 2, 3, 4, 5, 6, 7, 8, 9, 10, 13, 14, 16]),
         ("shuffle", &[0, 8, 12, 15]),
     ] {
         for &number in numbers {
@@ -498,11 +567,12 @@ fn main() {
         }
     }
     assert!(tally.begun > 1_000, "few rigs begin in another state than 0");
+    assert!(tally.ordered > 1_000, "few rigs have another order of events than lower first");
     for ((call, number), (times, wrong)) in &tally.answers {
         let answer = if *number == 0 { "served".into() } else { format!("refusal {number}") };
         println!("{call:20} {answer:12} {times:8} {wrong:8}");
     }
-    println!("{} of the served rigs begin in another state than 0", tally.begun);
+    println!("{} of the served rigs begin in another state than 0, {} have another order of events", tally.begun, tally.ordered);
     println!("{} comparisons, {} differences", tally.comparisons, tally.differences);
     if tally.differences > 0 {
         std::process::exit(1);

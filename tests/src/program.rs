@@ -2,7 +2,7 @@
 //! The last line is the number of inputs and of differences; the exit status is 0 only without any.
 use outside::listing::{listing, Outcome};
 use outside::random::Random;
-use outside::texts::{damage, other_start, text, Shape, A, A_FROM_1, B, F, ONE};
+use outside::texts::{damage, monitors, other_order, other_start, text, Shape, A, A_FROM_1, A_ORDERED, B, F, ONE};
 use std::collections::{BTreeMap, BTreeSet};
 use std::io::Write;
 use std::process::{ChildStdin, Command, Stdio};
@@ -94,6 +94,8 @@ fn worked(tally: &mut Tally) {
     assert_eq!(tally.compare(&ask(3, A.as_bytes())), whole.as_bytes(), "the independent listing of the paper's example");
     let whole = "count\t3\t1\n0\t0\t0\t0\n1\t0\t0\t1\n2\t0\t1\t0\n";
     assert_eq!(tally.compare(&ask(3, A_FROM_1.as_bytes())), whole.as_bytes(), "the independent listing of A from its state 1");
+    let whole = "count\t5\t1\n0\t1\t0\t1\n1\t1\t0\t0\n2\t0\t1\t0\n3\t0\t0\t1\n4\t0\t0\t0\n";
+    assert_eq!(tally.compare(&ask(3, A_ORDERED.as_bytes())), whole.as_bytes(), "the independent listing of A with another order");
     let long = "\n".repeat(65_535);
     let (two, four) = ("rig\t1\nmon\t32\nmon\t32\n", "rig\t1\nmon\t1\nmon\t1\nmon\t1\nmon\t1\n");
     let refused = [
@@ -112,6 +114,12 @@ fn worked(tally: &mut Tally) {
         (0, "rig\t1\nmon\t2\t1\t0\n".into(), "no\t2\t2\n"),
         (0, "rig\t1\nmon\t2\t01\n".into(), "no\t2\t2\n"),
         (0, "mon\t2\t2\n".into(), "no\t5\t1\n"),
+        (0, "rig\t2\nord\t1\n".into(), "no\t2\t2\n"),
+        (0, "rig\t2\nord\t2\t2\n".into(), "no\t3\t2\n"),
+        (0, "rig\t2\nord\t0\t0\n".into(), "no\t16\t2\n"),
+        (0, "rig\t2\nmon\t1\nord\t0\t0\n".into(), "no\t5\t3\n"),
+        (0, "ord\n".into(), "no\t5\t1\n"),
+        (0, "rig\t1\nord\t0\n".into(), "no\t5\t3\n"),
         (0, "rig\t2\nmon\t2\ngo\t2\t0\t0\n".into(), "no\t3\t3\n"),
         (0, "rig\t2\nmon\t2\ngo\t0\t2\t0\n".into(), "no\t3\t3\n"),
         (0, "rig\t2\nmon\t2\ngo\t0\t0\t2\n".into(), "no\t3\t3\n"),
@@ -141,7 +149,7 @@ fn worked(tally: &mut Tally) {
         tally.compare(&ask(h, format!("rig\t1\nmon\t{monitors}\n").as_bytes()));
     }
     for h in [0, 1, 2, 7, 30, 63, 999, 1000, 1001, 1002, 8191, 8192, 10_000, 65_535, 65_536, 99_999] {
-        for t in [A, A_FROM_1, B, F, ONE, two] {
+        for t in [A, A_FROM_1, A_ORDERED, B, F, ONE, two] {
             tally.compare(&ask(h, t.as_bytes()));
         }
     }
@@ -157,11 +165,12 @@ fn damaged(tally: &mut Tally) {
             tally.compare(&input);
         }
     }
-    let good = ask(10, A_FROM_1.as_bytes());
-    for at in 0..good.len() {
-        tally.compare(&good[..at]);
-        tally.compare(&[&good[..at], &good[at + 1..]].concat());
-        tally.compare(&[&good[..=at], &good[at..]].concat());
+    for good in [A_FROM_1, A_ORDERED].map(|t| ask(10, t.as_bytes())) {
+        for at in 0..good.len() {
+            tally.compare(&good[..at]);
+            tally.compare(&[&good[..at], &good[at + 1..]].concat());
+            tally.compare(&[&good[..=at], &good[at..]].concat());
+        }
     }
     let words = ["", "as", "asks", "asx", "bsk", "Ask", "ASK", "ask ", " ask", "\task", "ask\u{a0}", "rig", "mon", "go\t0\t0"];
     let horizons = ["", "00", "03", "00003", "000003", "100000", "999999", "4294967299", "18446744073709551619", "-3", "+3", "3.0", "0x3"];
@@ -235,8 +244,8 @@ fn long_listings(tally: &mut Tally) {
 /// Inputs about the length that the program can hold, and far longer ones; also some that come in pieces.
 fn long_inputs(tally: &mut Tally, rng: &mut Random) {
     let whole = text(&Shape { events: 16, monitors: vec![32, 32], density: 100 }, rng);
-    let more = text(&Shape { events: 16, monitors: vec![1, 1], density: 100 }, rng);
-    let largest = [&whole[..], &more[7..]].concat();
+    let more = monitors(&Shape { events: 16, monitors: vec![1, 1], density: 100 }, rng);
+    let largest = [whole, more].concat();
     for line in ["ask\t0\n", "ask\t1000\n", "ask\t99999\n", "ask\t100000\n", "asked\t3\n", "ask\t99999"] {
         for t in [A.as_bytes(), &largest] {
             tally.compare(&[line.as_bytes(), t].concat());
@@ -276,8 +285,10 @@ fn random(tally: &mut Tally, rng: &mut Random) {
     for _ in 0..3_000 {
         let most = *rng.pick(&[4, 12, 40]);
         let mut t = text(&Shape::small(rng, 4, most), rng);
-        if rng.chance(1, 8) {
-            t = other_start(&t, rng);
+        match rng.below(16) {
+            0 | 1 => t = other_start(&t, rng),
+            2 => t = other_order(&t, rng),
+            _ => (),
         }
         tally.compare(&ask(horizon(rng), &t));
     }
@@ -322,7 +333,7 @@ fn main() {
     long_inputs(&mut tally, rng);
     random(&mut tally, rng);
     let served = [Outcome::Fewer, Outcome::Thousand, Outcome::More, Outcome::BadAsk];
-    for outcome in served.into_iter().chain((1..=10).map(Outcome::Refused)) {
+    for outcome in served.into_iter().chain((1..=10).chain([16]).map(Outcome::Refused)) {
         assert!(tally.outcomes.contains_key(&outcome), "no input is expected to give {outcome:?}");
     }
     for h in [0, 1, 30, 1000] {

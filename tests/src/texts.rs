@@ -5,6 +5,8 @@ use crate::random::Random;
 pub const A: &str = "rig\t2\nmon\t2\ngo\t0\t0\t0\ngo\t0\t1\t1\ngo\t1\t0\t0\n";
 /// A that begins in its state 1.
 pub const A_FROM_1: &str = "rig\t2\nmon\t2\t1\ngo\t0\t0\t0\ngo\t0\t1\t1\ngo\t1\t0\t0\n";
+/// A with event 1 before event 0.
+pub const A_ORDERED: &str = "rig\t2\nord\t1\t0\nmon\t2\ngo\t0\t0\t0\ngo\t0\t1\t1\ngo\t1\t0\t0\n";
 pub const B: &str = "rig\t2\nmon\t2\ngo\t0\t0\t0\ngo\t0\t1\t1\ngo\t1\t0\t0\nmon\t2\ngo\t0\t0\t0\ngo\t0\t1\t1\ngo\t1\t1\t1\n";
 pub const F: &str = "rig\t2\nmon\t1\ngo\t0\t0\t0\ngo\t0\t1\t0\n";
 pub const ONE: &str = "rig\t1\nmon\t1\ngo\t0\t0\t0\n";
@@ -40,9 +42,27 @@ fn mon(s: u64, rng: &mut Random) -> String {
     }
 }
 
-/// A readable text of this shape; the `go` lines of a monitor stand in random order.
+/// An `ord` line.
+fn ord<T: ToString>(events: &[T]) -> String {
+    format!("ord{}\n", events.iter().map(|e| format!("\t{}", e.to_string())).collect::<String>())
+}
+
+/// A readable text of this shape; half of them have an `ord` line.
 pub fn text(shape: &Shape, rng: &mut Random) -> Vec<u8> {
     let mut t = format!("rig\t{}\n", shape.events);
+    if rng.chance(1, 2) {
+        let mut events: Vec<u64> = (0..shape.events).collect();
+        for i in 1..events.len() {
+            events.swap(i, rng.below(i as u64 + 1) as usize);
+        }
+        t += &ord(&events);
+    }
+    [t.as_bytes(), &monitors(shape, rng)].concat()
+}
+
+/// The lines of the monitors of this shape; the `go` lines of each stand in random order.
+pub fn monitors(shape: &Shape, rng: &mut Random) -> Vec<u8> {
+    let mut t = String::new();
     for &s in &shape.monitors {
         t += &mon(s, rng);
         let mut lines = vec![];
@@ -74,9 +94,45 @@ pub fn other_start(t: &[u8], rng: &mut Random) -> Vec<u8> {
     ls.concat()
 }
 
+/// The text with an `ord` line that is just right or just wrong, in the place of its second line or beside it, or elsewhere.
+pub fn other_order(t: &[u8], rng: &mut Random) -> Vec<u8> {
+    let mut ls = lines(t);
+    let events: u64 = String::from_utf8_lossy(&ls[0]).trim_end().split('\t').nth(1).and_then(|e| e.parse().ok()).unwrap_or(2);
+    let mut listed: Vec<String> = (0..events).rev().map(|e| e.to_string()).collect();
+    let at = rng.below(events.max(1)) as usize;
+    match rng.below(8) {
+        0 => {
+            listed.pop();
+        }
+        1 => listed.push(rng.below(events + 1).to_string()),
+        2 => listed[at] = events.to_string(),
+        3 | 4 => listed[at] = rng.below(events).to_string(),
+        5 => listed[at] = rng.pick(FIELDS).to_string(),
+        6 => listed = (0..rng.below(40)).map(|e| (e % 20).to_string()).collect(),
+        _ => (),
+    }
+    let line = ord(&listed).into_bytes();
+    match rng.below(6) {
+        0 => ls.insert(rng.below(ls.len() as u64 + 1) as usize, line),
+        1 | 2 if ls.len() > 1 => ls.insert(1, line),
+        _ if ls.len() > 1 && ls[1].starts_with(b"ord") => ls[1] = line,
+        _ => ls.insert(1.min(ls.len()), line),
+    }
+    ls.concat()
+}
+
+/// The text without its second line, where that is an `ord` line.
+pub fn lower_first(t: &[u8]) -> Vec<u8> {
+    let mut ls = lines(t);
+    if ls.len() > 1 && ls[1].starts_with(b"ord\t") {
+        ls.remove(1);
+    }
+    ls.concat()
+}
+
 /// The same rig with the states of each monitor renumbered so that it starts in 0; no `mon` line carries a start.
 pub fn from_state_0(rig: &Rig, rng: &mut Random) -> Vec<u8> {
-    let mut t = format!("rig\t{}\n", rig.events);
+    let mut t = format!("rig\t{}\n{}", rig.events, ord(&rig.order));
     for m in &rig.monitors {
         let mut new: Vec<usize> = (0..m.states).collect();
         for i in 1..m.states {
@@ -92,7 +148,7 @@ pub fn from_state_0(rig: &Rig, rng: &mut Random) -> Vec<u8> {
     t.into_bytes()
 }
 
-const ODD: &[u8] = b"0123456789\t\n\r rigmongo-+\0\x7f\xff";
+const ODD: &[u8] = b"0123456789\t\n\r rigmongord-+\0\x7f\xff";
 const FIELDS: &[&str] =
     &["0", "1", "2", "3", "4", "5", "8", "16", "17", "32", "33", "99999", "100000", "00", "01", "", "-1", "1 ", "x", "4294967297"];
 const LINES: &[&str] = &[
@@ -115,7 +171,15 @@ const LINES: &[&str] = &[
     "RIG\t2",
     "rig\t2\t",
     "\trig\t2",
+    "ord",
+    "ord\t",
     "ord\t0",
+    "ord\t0\t1",
+    "ord\t1\t0",
+    "ord\t1\t1",
+    "ord\t2\t0\t1",
+    "ord\t0\t01",
+    "order\t0",
     "stop\t0",
     "mon\t2\t1",
     "mon\t3\t2",
