@@ -1,4 +1,5 @@
-// Runs the four calls on the examples of paper 01 that are left to a test, and on rigs that begin in other states, and prints what each answers and leaves. Cells, scratch and outputs begin
+// Runs the four calls on the examples of paper 01 that are left to a test, on rigs that begin in other states and on rigs with another order of events,
+// and prints what each answers and leaves. Cells, scratch and outputs begin
 // with 7 everywhere and are lent in part, so that what is kept shows: each line ends with how many numbers of each buffer are still 7.
 use generator::Counted;
 use generator::Indexed;
@@ -16,6 +17,7 @@ fn main() {
     lists();
     sequences();
     starts();
+    orders();
     let again = [4u64, 4, 4];
     show_shuffle(5, &again);
     let low = [0u64, 0];
@@ -103,6 +105,23 @@ fn starts() {
     show_list(b"A from 1 h 3: 2 0 1", a, 3, &all, 9);
     show_index(b"A from 1: 0 1 0", a, &last);
     show_index(b"A from 1: 1 0 1", a, &none);
+}
+
+fn orders() {
+    let a = b"rig\t2\nord\t1\t0\nmon\t2\ngo\t0\t0\t0\ngo\t0\t1\t1\ngo\t1\t0\t0\n";
+    let some = [0u64, 2, 4];
+    let third = [0u8, 1, 0];
+    let none = [0u8, 1, 1];
+    show_count(b"A with ord 1 0 h 3", a, 3, 8);
+    show_list(b"A with ord 1 0 h 3: 0 2 4", a, 3, &some, 9);
+    show_index(b"A with ord 1 0: 0 1 0", a, &third);
+    show_index(b"A with ord 1 0: 0 1 1", a, &none);
+    show_count(
+        b"an event twice in ord",
+        b"rig\t2\nord\t1\t1\nmon\t1\n",
+        0,
+        1,
+    );
 }
 
 fn say(bytes: &[u8]) {

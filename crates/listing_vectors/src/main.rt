@@ -34,6 +34,18 @@ fn served() {
         1000,
     );
     show(
+        b"A with ord 1 0 at 3",
+        b"ask\t3\nrig\t2\nord\t1\t0\nmon\t2\ngo\t0\t0\t0\ngo\t0\t1\t1\ngo\t1\t0\t0\n",
+        0,
+        1000,
+    );
+    show(
+        b"three events with ord 2 0 1 at 2",
+        b"ask\t2\nrig\t3\nord\t2\t0\t1\nmon\t2\ngo\t0\t0\t0\ngo\t0\t1\t1\ngo\t0\t2\t1\ngo\t1\t2\t0\ngo\t1\t1\t0\n",
+        0,
+        1000,
+    );
+    show(
         b"A at 14, the last of 987 lines",
         b"ask\t14\nrig\t2\nmon\t2\ngo\t0\t0\t0\ngo\t0\t1\t1\ngo\t1\t0\t0\n",
         985,
@@ -124,6 +136,12 @@ fn refused() {
     show(
         b"8, 1,024 joint states at 8",
         b"ask\t8\nrig\t1\nmon\t32\ngo\t0\t0\t0\nmon\t32\ngo\t0\t0\t0\n",
+        0,
+        1000,
+    );
+    show(
+        b"16, an event twice in ord",
+        b"ask\t3\nrig\t2\nord\t1\t1\nmon\t2\n",
         0,
         1000,
     );

@@ -1,4 +1,4 @@
-// Reads texts and prints what each gives: `read`, E, the number of moves and each S with its start; or `no`, the number and the place.
+// Reads texts and prints what each gives: `read`, E, the events in their order, the number of moves and each S with its start; or `no`, the number and the place.
 // The texts of standard input each have a name up to a line end before them and byte 28 after them; those at the limit of 65,535 bytes are made here.
 use libc::STDIN_FILENO;
 use libc::STDOUT_FILENO;
@@ -38,6 +38,12 @@ fn moves_in(moves: &[u8; 2048]) -> u64 {
 fn say_record(r: Rig) {
     say(b"\tread");
     say_number(r.events as u64);
+    let order = r.order;
+    for i in 0..16 {
+        if i < r.events {
+            say_byte(order[i]);
+        }
+    }
     say_number(moves_in(&r.moves));
     let counts = r.counts;
     let starts = r.starts;

@@ -70,9 +70,9 @@ returns-2 c =
     let l = c .before .before .before .before .before .before .before .before .before .before .before .before .before .before .before .before .args .line .now in
     let u = c .before .before .before .before .before .before .before .before .before .before .before .before .before .until in
     let q =
-        decode-more l (u .result) (u .ensures) (c .before .before .before .before .before .before .before .before .if2 .taken)
-        ∙ form-rig (take (u .result) l) _ (sym (c .before .before .before .before .before .same2 .ensures) ∙ c .before .before .before .before .if3 .taken)
-        ∙ c .before .before .before .only-number .ensures (λ E. rig E) ∙ ap (λ d. orOther (λ E. rig E) (valueOf d)) (c .before .e .given .1) in
+    decode-more l (u .result) (u .ensures) (c .before .before .before .before .before .before .before .before .if2 .taken)
+    ∙ form-rig (take (u .result) l) _ (sym (c .before .before .before .before .before .same2 .ensures) ∙ c .before .before .before .before .if3 .taken)
+    ∙ c .before .before .before .only-number .ensures (λ E. rig E) ∙ ap (λ d. orOther (λ E. rig E) (valueOf d)) (c .before .e .given .1) in
     rw q (refl, refl)
 
 returns-3 : tie.Need-returns-3
@@ -80,9 +80,9 @@ returns-3 c =
     let l = c .before .before .before .before .before .before .before .before .before .before .before .before .before .before .before .args .line .now in
     let u = c .before .before .before .before .before .before .before .before .before .before .before .before .until in
     let q =
-        decode-more l (u .result) (u .ensures) (c .before .before .before .before .before .before .before .if2 .taken)
-        ∙ form-rig (take (u .result) l) _ (sym (c .before .before .before .before .same2 .ensures) ∙ c .before .before .before .if3 .taken)
-        ∙ c .before .before .only-number .ensures (λ E. rig E) ∙ ap (λ d. orOther (λ E. rig E) (valueOf d)) (c .enum-told .given .1) in
+    decode-more l (u .result) (u .ensures) (c .before .before .before .before .before .before .before .if2 .taken)
+    ∙ form-rig (take (u .result) l) _ (sym (c .before .before .before .before .same2 .ensures) ∙ c .before .before .before .if3 .taken)
+    ∙ c .before .before .only-number .ensures (λ E. rig E) ∙ ap (λ d. orOther (λ E. rig E) (valueOf d)) (c .enum-told .given .1) in
     rw q (refl, refl)
 
 slice-aggregate-same-3 : tie.Need-slice-aggregate-same-3
@@ -99,8 +99,8 @@ returns-4 c =
     let l = c .before .before .before .before .before .before .before .before .before .before .before .before .before .before .before .before .args .line .now in
     let u = c .before .before .before .before .before .before .before .before .before .before .before .before .before .until in
     let q =
-        decode-more l (u .result) (u .ensures) (c .before .before .before .before .before .before .before .before .if2 .taken)
-        ∙ form-mon (take (u .result) l) _ (sym (c .before .before .before .before .before .same2 .ensures) ∙ c .before .before .before .before .if3 .left) (sym (c .before .before .same3 .ensures) ∙ c .before .if4 .taken) in
+    decode-more l (u .result) (u .ensures) (c .before .before .before .before .before .before .before .before .if2 .taken)
+    ∙ form-mon (take (u .result) l) _ (sym (c .before .before .before .before .before .same2 .ensures) ∙ c .before .before .before .before .if3 .left) (sym (c .before .before .same3 .ensures) ∙ c .before .if4 .taken) in
     rw q (c .mon-form .ensures, oneOrTwo-kept _ (λ S. begins (mon S 0)) (λ S a. begins (mon S a)) (λ S. refl) (λ S a. refl) _)
 
 slice-aggregate-same-4 : tie.Need-slice-aggregate-same-4
@@ -117,8 +117,8 @@ returns-5 c =
     let l = c .before .before .before .before .before .before .before .before .before .before .before .before .before .before .before .before .before .before .before .args .line .now in
     let u = c .before .before .before .before .before .before .before .before .before .before .before .before .before .before .before .before .until in
     let q =
-        decode-more l (u .result) (u .ensures) (c .before .before .before .before .before .before .before .before .before .before .before .if2 .taken)
-        ∙ form-go (take (u .result) l) _ (sym (c .before .before .before .before .before .before .before .before .same2 .ensures) ∙ c .before .before .before .before .before .before .before .if3 .left) (sym (c .before .before .before .before .before .same3 .ensures) ∙ c .before .before .before .before .if4 .left) (sym (c .before .before .same4 .ensures) ∙ c .before .if5 .taken) in
+    decode-more l (u .result) (u .ensures) (c .before .before .before .before .before .before .before .before .before .before .before .if2 .taken)
+    ∙ form-go (take (u .result) l) _ (sym (c .before .before .before .before .before .before .before .before .same2 .ensures) ∙ c .before .before .before .before .before .before .before .if3 .left) (sym (c .before .before .before .before .before .same3 .ensures) ∙ c .before .before .before .before .if4 .left) (sym (c .before .before .same4 .ensures) ∙ c .before .if5 .taken) in
     rw q (c .go-form .ensures, three-kept _ (λ s e t. continues (go s e t)) (λ s e t. refl) _)
 
 returns-6 : tie.Need-returns-6
@@ -126,8 +126,8 @@ returns-6 c =
     let l = c .before .before .before .before .before .before .before .before .before .before .before .before .before .before .before .before .before .before .args .line .now in
     let u = c .before .before .before .before .before .before .before .before .before .before .before .before .before .before .before .until in
     let q =
-        decode-more l (u .result) (u .ensures) (c .before .before .before .before .before .before .before .before .before .before .if2 .taken)
-        ∙ form-other (take (u .result) l) _ (sym (c .before .before .before .before .before .before .before .same2 .ensures) ∙ c .before .before .before .before .before .before .if3 .left) (sym (c .before .before .before .before .same3 .ensures) ∙ c .before .before .before .if4 .left) (sym (c .before .same4 .ensures) ∙ c .if5 .left) (sym (c .before .before .before .before .before .before .before .before .before .before .before .before .same .ensures) ∙ c .before .before .before .before .before .before .before .before .before .before .before .if1 .left) in
+    decode-more l (u .result) (u .ensures) (c .before .before .before .before .before .before .before .before .before .before .if2 .taken)
+    ∙ form-other (take (u .result) l) _ (sym (c .before .before .before .before .before .before .before .same2 .ensures) ∙ c .before .before .before .before .before .before .if3 .left) (sym (c .before .before .before .before .same3 .ensures) ∙ c .before .before .before .if4 .left) (sym (c .before .same4 .ensures) ∙ c .if5 .left) (sym (c .before .before .before .before .before .before .before .before .before .before .before .before .same .ensures) ∙ c .before .before .before .before .before .before .before .before .before .before .before .if1 .left) in
     rw q (refl, refl)
 
 returns-7 : tie.Need-returns-7

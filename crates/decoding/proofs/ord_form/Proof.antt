@@ -83,7 +83,7 @@ add-count : tie.Need-add-count Inv-loop μ-loop
 add-count c = search needs
 
 add-from : tie.Need-add-from Inv-loop μ-loop
-add-from c = 
+add-from c =
     let l = c .before .before .before .before .before .before .before .before .before .before .before .before .args .line .now in
     let lp = c .before .before .before .before .before .before .before .before .before .loop in
     omega (arith, end-le l (c .before .before .before .before .before .before .before .before .before .before .before .before .args .at) (lp .from) (lp .inv .numbers-are) (lp .inv .reads) (c .before .before .before .before .before .before .before .before .loop-test .taken) (c .before .before .before .before .before .before .until .result) (c .before .before .before .before .before .before .until .ensures))

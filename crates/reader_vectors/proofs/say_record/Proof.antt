@@ -1,4 +1,4 @@
--- Four counts and starts, each within its array.
+-- The events in their order, then the counts and starts, each within its array.
 -- Assumes nothing.
 use Prim.Native.Nat.{_≤_, _-_}
 use borrow.Author.Needs.{needs}
@@ -6,51 +6,75 @@ use Rattle.reader_vectors.proofs.say_record.Statement.{statement}
 use Rattle.reader_vectors.proofs.say_record.Tie as tie
 
 abbrev Inv-loop : tie.InvT-loop
-Inv-loop r counts starts m₀ m = m ≤ 4
+Inv-loop r order i₀ i = i ≤ 16
 
 abbrev μ-loop : tie.MeasureT-loop
-μ-loop r counts starts m₀ m = 4 - m
+μ-loop r order i₀ i = 16 - i
 
-slice-aggregate-say : tie.Need-slice-aggregate-say Inv-loop μ-loop
+abbrev Inv-loop2 : tie.InvT-loop2
+Inv-loop2 r counts starts m₀ m = m ≤ 4
+
+abbrev μ-loop2 : tie.MeasureT-loop2
+μ-loop2 r counts starts m₀ m = 4 - m
+
+slice-aggregate-say : tie.Need-slice-aggregate-say Inv-loop μ-loop Inv-loop2 μ-loop2
 slice-aggregate-say c = search needs
 
-say-requires : tie.Need-say-requires Inv-loop μ-loop
+say-requires : tie.Need-say-requires Inv-loop μ-loop Inv-loop2 μ-loop2
 say-requires c κs = search needs
 
-say-number-requires : tie.Need-say-number-requires Inv-loop μ-loop
+say-number-requires : tie.Need-say-number-requires Inv-loop μ-loop Inv-loop2 μ-loop2
 say-number-requires c κs = search needs
 
-moves-in-requires : tie.Need-moves-in-requires Inv-loop μ-loop
-moves-in-requires c κs = search needs
-
-say-number-requires-2 : tie.Need-say-number-requires-2 Inv-loop μ-loop
-say-number-requires-2 c κs = search needs
-
-loop-holds : tie.Need-loop-holds Inv-loop μ-loop
+loop-holds : tie.Need-loop-holds Inv-loop μ-loop Inv-loop2 μ-loop2
 loop-holds c = search needs
 
-array-read-say-byte : tie.Need-array-read-say-byte Inv-loop μ-loop
+array-read-say-byte : tie.Need-array-read-say-byte Inv-loop μ-loop Inv-loop2 μ-loop2
 array-read-say-byte c = search needs
 
-say-byte-requires : tie.Need-say-byte-requires Inv-loop μ-loop
+say-byte-requires : tie.Need-say-byte-requires Inv-loop μ-loop Inv-loop2 μ-loop2
 say-byte-requires c κs = search needs
 
-array-read-say-byte-2 : tie.Need-array-read-say-byte-2 Inv-loop μ-loop
-array-read-say-byte-2 c = search needs
+add-i : tie.Need-add-i Inv-loop μ-loop Inv-loop2 μ-loop2
+add-i c = search needs
 
-say-byte-requires-2 : tie.Need-say-byte-requires-2 Inv-loop μ-loop
-say-byte-requires-2 c κs = search needs
-
-add-m : tie.Need-add-m Inv-loop μ-loop
-add-m c = search needs
-
-loop-less : tie.Need-loop-less Inv-loop μ-loop
+loop-less : tie.Need-loop-less Inv-loop μ-loop Inv-loop2 μ-loop2
 loop-less c = search needs
 
-loop-again : tie.Need-loop-again Inv-loop μ-loop
+loop-again : tie.Need-loop-again Inv-loop μ-loop Inv-loop2 μ-loop2
 loop-again c = search needs
 
-returns : tie.Need-returns Inv-loop μ-loop
+moves-in-requires : tie.Need-moves-in-requires Inv-loop μ-loop Inv-loop2 μ-loop2
+moves-in-requires c κs = search needs
+
+say-number-requires-2 : tie.Need-say-number-requires-2 Inv-loop μ-loop Inv-loop2 μ-loop2
+say-number-requires-2 c κs = search needs
+
+loop2-holds : tie.Need-loop2-holds Inv-loop μ-loop Inv-loop2 μ-loop2
+loop2-holds c = search needs
+
+array-read-say-byte-2 : tie.Need-array-read-say-byte-2 Inv-loop μ-loop Inv-loop2 μ-loop2
+array-read-say-byte-2 c = search needs
+
+say-byte-requires-2 : tie.Need-say-byte-requires-2 Inv-loop μ-loop Inv-loop2 μ-loop2
+say-byte-requires-2 c κs = search needs
+
+array-read-say-byte-3 : tie.Need-array-read-say-byte-3 Inv-loop μ-loop Inv-loop2 μ-loop2
+array-read-say-byte-3 c = search needs
+
+say-byte-requires-3 : tie.Need-say-byte-requires-3 Inv-loop μ-loop Inv-loop2 μ-loop2
+say-byte-requires-3 c κs = search needs
+
+add-m : tie.Need-add-m Inv-loop μ-loop Inv-loop2 μ-loop2
+add-m c = search needs
+
+loop2-less : tie.Need-loop2-less Inv-loop μ-loop Inv-loop2 μ-loop2
+loop2-less c = search needs
+
+loop2-again : tie.Need-loop2-again Inv-loop μ-loop Inv-loop2 μ-loop2
+loop2-again c = search needs
+
+returns : tie.Need-returns Inv-loop μ-loop Inv-loop2 μ-loop2
 returns c = search needs
 
 pub say-record-spec : {M : Type 1} → statement M
@@ -59,17 +83,25 @@ say-record-spec =
     (tie.spec
     Inv-loop
     μ-loop
+    Inv-loop2
+    μ-loop2
     slice-aggregate-say
     say-requires
     say-number-requires
-    moves-in-requires
-    say-number-requires-2
     loop-holds
     array-read-say-byte
     say-byte-requires
-    array-read-say-byte-2
-    say-byte-requires-2
-    add-m
+    add-i
     loop-less
     loop-again
+    moves-in-requires
+    say-number-requires-2
+    loop2-holds
+    array-read-say-byte-2
+    say-byte-requires-2
+    array-read-say-byte-3
+    say-byte-requires-3
+    add-m
+    loop2-less
+    loop2-again
     returns)
