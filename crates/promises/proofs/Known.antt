@@ -16,6 +16,7 @@ use Rattle.automaton.specs.Automaton.{Automaton}
 use Rattle.automaton.specs.Joint.{both, join, idle, joint, sizes, jointState}
 use Rattle.automaton.specs.Pruning.{keep, prunedSet, size, passesFrom, passes, live}
 use Rattle.automaton.specs.Counting.{N, most, cell}
+use Rattle.automaton.specs.Ranking.{choose, unrank}
 use Rattle.automaton.proofs.Counting.{N-dead}
 use Rattle.promises.specs.Text.{onto, splitOn, init, lastOf, lines, unended, fields, digitsValue, number, ahead, numbers, same, field, endOr, end, one, two, three, oneOrTwo, anyNumber, form, decode, decoded, addPart, extended, monitorsFrom, monitors, statesOf, startOf, latest, product, eventsOf, reordered, orderFrom, orderOf, jointStates, Case12}
 use Rattle.promises.specs.Reading.{leadsTo, moveBy, testBeginning, ofLatest, testContinuing, tests, lineCase, readingFrom, reading}
@@ -25,9 +26,9 @@ use Rattle.promises.specs.Calls.{rows, fills, sized, total, counted, cou
 use Rattle.promises.specs.Demand3.{Calls, Whole, Demand}
 use Rattle.promises.specs.Demand2.{Traced, Demand2}
 use Rattle.promises.specs.Refusals.{Sized}
-use Rattle.promises.specs.Examples.{A, B, one-state, full-cell}
+use Rattle.promises.specs.Examples.{A, B, A-ordered, one-state, full-cell}
 use Rattle.promises.specs.Starred.{lent}
-use Rattle.promises.specs.Wrong.{admitted, without, passWithin, passesWithinFrom, passesWithin}
+use Rattle.promises.specs.Wrong.{byNumber, admitted, without, passWithin, passesWithinFrom, passesWithin}
 use Rattle.promises.proofs.Answers.{listed-length, scenarioOf, scenario-long, scenarios-served, Told, count-told}
 use Rattle.promises.proofs.Buffers.{length-rows, getD-rows, sized-passed, served-fills}
 use Rattle.promises.proofs.Demand2.{total-unsafe, total-traces}
@@ -58,6 +59,9 @@ known t h cells n p q = let k = told t h cells n p q in record { fits = served-s
 
 pub known-A : Known A 3 5 (lent 8)
 known-A = known A 3 (lent 8) 5 1 (starred .a-3)
+
+pub known-ordered : Known A-ordered 3 5 (lent 8)
+known-ordered = known A-ordered 3 (lent 8) 5 1 (starred .ordered)
 
 pub known-B : Known B 1 1 (lent 8)
 known-B = known B 1 (lent 8) 1 3 (starred .b-1)
@@ -99,6 +103,10 @@ module _ (t : List ℕ) (h n : ℕ) (cells : List ℕ) (k : Known t h n cells) w
 -- ---- what the definitions give on these rigs
 
 pub record Values : Type 0 where
+  -- A with `ord` 1 0, its events compared by their numbers
+  pub numbers-0 : unrank (byNumber A-ordered) 3 (start A-ordered) 0 ≡ 0 ∷ 0 ∷ 0 ∷ []
+  pub numbers-4 : unrank (byNumber A-ordered) 3 (start A-ordered) 4 ≡ 1 ∷ 0 ∷ 1 ∷ []
+  pub order-is : orderOf (decoded A-ordered) ≡ 1 ∷ 0 ∷ []
   pub one-state-none : count one-state 0 (lent 1) ≡ refused 9 0
   pub B-admitted : admitted (rigAutomaton B) 1 (start B) ≡ 2
   pub B-within : passesWithin (rigAutomaton B) ≡ 2
@@ -116,8 +124,11 @@ pub record Values : Type 0 where
   pub beside-1 : rigAutomaton full-cell .next 1 1 ≡ 1
 
 pub values : Values
-unfolding reading readingFrom lineCase tests testBeginning testContinuing ofLatest moveBy leadsTo orElse decoded lines unended splitOn onto init lastOf decode fields form one two three oneOrTwo anyNumber field endOr end number numbers ahead digitsValue same monitors monitorsFrom extended addPart latest statesOf product eventsOf orderOf orderFrom reordered startOf jointStates nextOf monitorOf standing linesAutomaton linesStart rigAutomaton start range both join idle joint sizes jointState keep prunedSet size passesFrom passes live N most sized total counted count admitted without passWithin passesWithinFrom passesWithin
+unfolding reading readingFrom lineCase tests testBeginning testContinuing ofLatest moveBy leadsTo orElse decoded lines unended splitOn onto init lastOf decode fields form one two three oneOrTwo anyNumber field endOr end number numbers ahead digitsValue same monitors monitorsFrom extended addPart latest statesOf product eventsOf orderOf orderFrom reordered startOf jointStates nextOf monitorOf standing linesAutomaton linesStart rigAutomaton start range both join idle joint sizes jointState keep prunedSet size passesFrom passes live N most choose unrank sized total counted count admitted without passWithin passesWithinFrom passesWithin
 values = record {
+  numbers-0 = refl;
+  numbers-4 = refl;
+  order-is = refl;
   one-state-none = refl;
   B-admitted = refl;
   B-within = refl;

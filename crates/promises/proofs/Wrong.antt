@@ -2,6 +2,7 @@
 -- Why: on a rig whose count is known the demands fix what is answered and written, and each wrong generator answers or leaves something else.
 -- Assumes nothing.
 use mathlib.Core.Path.{_≡_, refl, sym, ap, _∙_, subst}
+use mathlib.Core.Logic.{⊎-elim}
 use mathlib.Core.Bool.{Bool}
 use mathlib.Core.Option.{some}
 use mathlib.Core.List.{List, [], _∷_, append-nil, List·Memᴰ as In, List·Memᴰ·head as here, List·Memᴰ·tail as there, List·Memᴰ·not-nil}
@@ -10,7 +11,7 @@ use native.Mathlib.Omega.{arith}
 use lib.ListN.{length, getD, take, drop, replicate, length-replicate, getD-replicate}
 use lib.Seq.{take-at, drop-at}
 use lib.Dec.{leb, eqb}
-use Rattle.lists.specs.Lists.{concatMap}
+use Rattle.lists.specs.Lists.{concatMap, indexOf}
 use Rattle.lists.proofs.Tests.{case}
 use Rattle.lists.proofs.Tells.{tells-true, tells-lt, tells-le, tells-eq}
 use Rattle.lists.proofs.Members.{any-in}
@@ -18,27 +19,28 @@ use Rattle.lists.proofs.Blocks.{block-at}
 use Rattle.automaton.specs.Automaton.{Automaton}
 use Rattle.automaton.specs.Pruning.{passes, LastPass}
 use Rattle.automaton.specs.Counting.{most}
+use Rattle.automaton.specs.Ranking.{unrank}
 use Rattle.automaton.specs.Source001.{look, rndPermPrefixFrom, rndPermPrefix}
 use Rattle.automaton.proofs.Pruning.{last-pass, last-pass-unique}
 use Rattle.promises.specs.Text.{jointStates, Case7, Case8, Case12, Case8·scratch, Case12·draws}
 use Rattle.promises.specs.Rig.{rigAutomaton, start}
 use Rattle.promises.specs.Answer.{served, refused, Served, SaysNone}
-use Rattle.promises.specs.Meaning.{Belongs}
+use Rattle.promises.specs.Meaning.{Belongs, Earlier, Comes}
 use Rattle.promises.specs.Calls.{fills, outputAfter, total, count, scenarios, written}
 use Rattle.promises.specs.Demand3.{Calls, ValidDraws, block, Cells, Room, Gives, Whole, Demand}
 use Rattle.promises.specs.Demand2.{Traced, Demand2}
 use Rattle.promises.specs.Refusals.{Sized}
 use Rattle.promises.specs.Generator.{generator}
-use Rattle.promises.specs.Examples.{A, B, one-state, full-cell}
+use Rattle.promises.specs.Examples.{A, B, A-ordered, one-state, full-cell}
 use Rattle.promises.specs.Starred.{lent}
-use Rattle.promises.specs.Wrong.{copiesIndex0, untouchedOutput, fillsFirstOnly, refusesAll, admitted, noneBeforePruning, eightOfCells, eightOfScratch, twelveOfBytes, twelveOfNumbers, tenOfAnyCell, countsAdmitted, passesAs, lastPassMissing, passesWithin, prunesWithin, forgetsSwaps, PassesTold, Rejected}
+use Rattle.promises.specs.Wrong.{copiesIndex0, untouchedOutput, fillsFirstOnly, byNumber, comparesNumbers, refusesAll, admitted, noneBeforePruning, eightOfCells, eightOfScratch, twelveOfBytes, twelveOfNumbers, tenOfAnyCell, countsAdmitted, passesAs, lastPassMissing, passesWithin, prunesWithin, forgetsSwaps, PassesTold, Rejected}
 use Rattle.promises.proofs.Meaning.{rig-states, rig-start}
 use Rattle.promises.proofs.Checks.{check-failed, sized-on, counted-on}
 use Rattle.promises.proofs.Answers.{served-none, refused-none, scenarioOf, block-written, shuffle-served, count-told}
 use Rattle.promises.proofs.Buffers.{refused-serves}
 use Rattle.promises.proofs.Demand3.{demand-3}
 use Rattle.promises.proofs.Starred.{starred}
-use Rattle.promises.proofs.Known.{Known, known, told, count-sized, served-sized, known-A, known-B, whole, traced, some-total, few-total, scenario-0-long, zeros-served, values, full-total, full-row}
+use Rattle.promises.proofs.Known.{Known, known, told, count-sized, served-sized, known-A, known-B, known-ordered, whole, traced, some-total, few-total, scenario-0-long, zeros-served, values, full-total, full-row}
 
 -- ---- what Scenarios writes
 
@@ -105,6 +107,40 @@ first-rejected d =
     second : (out : List ℕ) → Served (scenarios A 3 (replicate 2 0) (lent 8) out)
         → block 3 1 (outputAfter (scenarios A 3 (replicate 2 0) (lent 8) out) (concatMap (scenarioOf A 3) (take 1 (replicate 2 0))) out) ≡ take 3 (drop 3 out)
     second out (vs, s) = rw (s, append-nil, scenario-0-long A 3 5 (lent 8) known-A) (ap (take 3) (drop-at (scenarioOf A 3 0) (drop 3 out) 3 (scenario-0-long A 3 5 (lent 8) known-A)))
+
+-- with `ord` 1 0, what begins with event 0 does not come first
+not-earlier : Comes A-ordered (0 ∷ 0 ∷ 0 ∷ []) (1 ∷ 0 ∷ 1 ∷ []) → ⊥
+unfolding Comes Earlier indexOf
+not-earlier c = ⊎-elim (λ l. omega arith) (λ (q, r). omega arith) (rw (values .order-is) at c)
+
+compares-rejected : Demand comparesNumbers → ⊥
+unfolding comparesNumbers Gives Cells Room Case12 block outputAfter Served
+compares-rejected d = go (whole A-ordered 3 5 (lent 8) known-ordered comparesNumbers d)
+  where
+    is : List ℕ
+    is = 0 ∷ 4 ∷ []
+
+    room : length (lent 6) < length is * 3 → ⊥
+    room c = omega arith
+
+    given : Served (scenarios A-ordered 3 is (lent 8) (lent 6))
+        → outputAfter (scenarios A-ordered 3 is (lent 8) (lent 6)) (concatMap (unrank (byNumber A-ordered) 3 (start A-ordered)) is) (lent 6) ≡ 0 ∷ 0 ∷ 0 ∷ 1 ∷ 0 ∷ 1 ∷ []
+    given (vs, s) = rw (s, values .numbers-0, values .numbers-4)
+
+    go : (L : List (List ℕ)) × (length L ≡ 5) × Whole comparesNumbers A-ordered 3 L → ⊥
+    go (L, e, w) =
+        let c8 = known-ordered .fits .room in
+        let (u, b, g) = w .gives 0 (omega arith) in
+        let (v, c, f) = w .gives 4 (omega arith) in
+        let s = w .listed is (lent 8) (lent 6) c8 room below in
+        let p : u ≡ 0 ∷ 0 ∷ 0 ∷ [] = sym (g is (lent 8) (lent 6) 0 c8 room (omega arith) refl s) ∙ ap (λ l. take 3 l) (given s) in
+        let q : v ≡ 1 ∷ 0 ∷ 1 ∷ [] = sym (f is (lent 8) (lent 6) 1 c8 room (omega arith) refl s) ∙ ap (λ l. take 3 (drop 3 l)) (given s) in
+        not-earlier (rw (p, q) at (w .ordered 0 4 u v (omega arith) (omega arith) g f))
+      where
+        below : (i : ℕ) → In i is → i < length L
+        below i (here q) = omega arith
+        below i (there (here q)) = omega arith
+        below i (there (there m)) = absurd (List·Memᴰ·not-nil m)
 
 -- ---- refusals
 
@@ -292,6 +328,7 @@ rejected = record {
   copies-index-0 = copies-rejected;
   untouched-output = untouched-rejected;
   fills-first-only = first-rejected;
+  compares-numbers = compares-rejected;
   refuses-all = all-rejected;
   none-before-pruning = none-rejected;
   eight-of-cells = cells-rejected;

@@ -1,6 +1,7 @@
--- The wrong generators that paper 01 names, each the generator with one answer or output changed, and the demand that rejects each.
+-- The wrong generators that paper 01 names, and one for paper 02, each the generator with one answer or output changed, and the demand that rejects each.
 --   countAs f, scenariosAs f, writtenAs f, shuffleAs f, shuffledAs f == the generator, but one call answers or leaves what f says
 --   copiesIndex0, untouchedOutput, fillsFirstOnly == Scenarios writes something else
+--   byNumber t, comparesNumbers                   == the automaton of t with its events lower first; Scenarios writes what the indices give then, `ord` or not
 --   refusesAll n p                                == every call refuses, with n and p
 --   noneBeforePruning                             == 9 is said by what is admitted, nothing pruned
 --   eightOfCells, eightOfScratch m                == 8 is said of buffers long enough, up to m beyond what is asked
@@ -19,13 +20,13 @@ use mathlib.Core.List.{List, [], _∷_}
 use Prim.Native.Nat.{ℕ, zero, suc, _+_, _*_, _-_}
 use lib.ListN.{length, take}
 use lib.Dec.{ltb, leb, eqb}
-use Rattle.lists.specs.Lists.{pick, any, sum, count, concatMap}
-use Rattle.automaton.specs.Automaton.{Automaton}
+use Rattle.lists.specs.Lists.{pick, any, sum, count, concatMap, range}
+use Rattle.automaton.specs.Automaton.{Automaton, inOrder}
 use Rattle.automaton.specs.Pruning.{keep, passes, LastPass}
 use Rattle.automaton.specs.Counting.{most}
 use Rattle.automaton.specs.Ranking.{unrank}
 use Rattle.promises.specs.Answer.{Answer, served, refused, unless}
-use Rattle.promises.specs.Text.{jointStates}
+use Rattle.promises.specs.Text.{eventsOf, decoded, jointStates}
 use Rattle.promises.specs.Rig.{rigAutomaton, start}
 use Rattle.promises.specs.Calls as calls
 use Rattle.promises.specs.Calls.{rows, sized, counted, total, outputAfter}
@@ -101,6 +102,13 @@ untouchedOutput = writtenAs (λ t h is cells out. out)
 -- 'a list filled only in its first scenario'
 unfoldable pub fillsFirstOnly : Calls
 fillsFirstOnly = writtenAs (λ t h is cells out. outputAfter (calls.scenarios t h is cells out) (concatMap (unrank (rigAutomaton t) h (start t)) (take 1 is)) out)
+
+-- 02 no. 2, `ord` 'replaces 'lower first' in comparing two events': a generator that compares them by their numbers all the same
+abbrev pub byNumber : List ℕ → Automaton
+byNumber t = inOrder (range (eventsOf (decoded t))) (rigAutomaton t)
+
+unfoldable pub comparesNumbers : Calls
+comparesNumbers = writtenAs (λ t h is cells out. outputAfter (calls.scenarios t h is cells out) (concatMap (unrank (byNumber t) h (start t)) is) out)
 
 -- ---- refusals
 
@@ -209,6 +217,8 @@ pub record Rejected : Type 0 where
   pub untouched-output : Demand2 untouchedOutput → ⊥
   -- 'a list filled only in its first scenario (2)'
   pub fills-first-only : Demand2 fillsFirstOnly → ⊥
+  -- 'so do the claim about indices' (02 no. 2)
+  pub compares-numbers : Demand comparesNumbers → ⊥
   -- 'a generator that refuses all (3)'
   pub refuses-all : (n p : ℕ) → Demand (refusesAll n p) → ⊥
   -- ''none' said before pruning (3)'

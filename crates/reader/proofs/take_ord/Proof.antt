@@ -14,13 +14,13 @@ use Rattle.reader.proofs.take_ord.Tie as tie
 
 returns : tie.Need-returns
 unfolding ordCase
-returns c = let st = c .before .before .args in let q : ordCase (st .order .now) (st .z) (st .line) (st .n) ≡ 5 = rw (ne-eqb _ _ (c .if1 .taken)) in rw q
+returns c = let st = c .before .before .args in let q : ordCase (st .order .now) (st .z) (st .line) (st .n) ≡ 5 = rw (ne-eqb (st .line) 2 (λ q. omega (arith, c .if1 .taken))) in rw q
 
 returns-2 : tie.Need-returns-2
 unfolding ordCase
 returns-2 c =
     let st = c .before .before .before .before .args in
-    let q : ordCase (st .order .now) (st .z) (st .line) (st .n) ≡ 2 = rw (eq-eqb _ _ (c .before .before .if1 .left), ne-eqb _ _ (c .if2 .taken)) in
+    let q : ordCase (st .order .now) (st .z) (st .line) (st .n) ≡ 2 = rw (eq-eqb (st .line) 2 (omega (arith, c .before .before .if1 .left)), ne-eqb _ _ (c .if2 .taken)) in
     rw q
 
 slice-aggregate-events : tie.Need-slice-aggregate-events
@@ -35,7 +35,7 @@ returns-3 c =
     let st = c .before .before .before .before .before .before .before .args in
     let e : st .n ≡ st .z .events = c .before .before .before .if2 .left in
     let room : st .n ≤ length (st .order .now) = omega (arith, c .before .before .before .before .before .before .before .pre .0, c .before .before .before .before .before .before .before .pre .1 .few-events) in
-    let q : ordCase (st .order .now) (st .z) (st .line) (st .n) ≡ 3 = rw (eq-eqb _ _ (c .before .before .before .before .before .if1 .left), eq-eqb _ _ e, ← e, front-bad (st .order .now) (st .n) _ room (c .before .first-not-event .ensures) (c .if3 .taken)) in
+    let q : ordCase (st .order .now) (st .z) (st .line) (st .n) ≡ 3 = rw (eq-eqb (st .line) 2 (omega (arith, c .before .before .before .before .before .if1 .left)), eq-eqb _ _ e, ← e, front-bad (st .order .now) (st .n) _ room (c .before .first-not-event .ensures) (c .if3 .taken)) in
     rw q
 
 repeats-requires : tie.Need-repeats-requires
@@ -47,7 +47,7 @@ returns-4 c =
     let st = c .before .before .before .before .before .before .before .before .before .args in
     let e : st .n ≡ st .z .events = c .before .before .before .before .before .if2 .left in
     let room : st .n ≤ length (st .order .now) = omega (arith, c .before .before .before .before .before .before .before .before .before .pre .0, c .before .before .before .before .before .before .before .before .before .pre .1 .few-events) in
-    let q : ordCase (st .order .now) (st .z) (st .line) (st .n) ≡ 16 = rw (eq-eqb _ _ (c .before .before .before .before .before .before .before .if1 .left), eq-eqb _ _ e, ← e, front-good (st .order .now) (st .n) _ room (c .before .before .before .first-not-event .ensures) (c .before .before .if3 .left), ← c .before .repeats .ensures, c .if4 .taken) in
+    let q : ordCase (st .order .now) (st .z) (st .line) (st .n) ≡ 16 = rw (eq-eqb (st .line) 2 (omega (arith, c .before .before .before .before .before .before .before .if1 .left)), eq-eqb _ _ e, ← e, front-good (st .order .now) (st .n) _ room (c .before .before .before .first-not-event .ensures) (c .before .before .if3 .left), ← c .before .repeats .ensures, c .if4 .taken) in
     rw q
 
 returns-5 : tie.Need-returns-5
@@ -56,7 +56,7 @@ returns-5 c =
     let st = c .before .before .before .before .before .before .before .before .before .args in
     let e : st .n ≡ st .z .events = c .before .before .before .before .before .if2 .left in
     let room : st .n ≤ length (st .order .now) = omega (arith, c .before .before .before .before .before .before .before .before .before .pre .0, c .before .before .before .before .before .before .before .before .before .pre .1 .few-events) in
-    let q : ordCase (st .order .now) (st .z) (st .line) (st .n) ≡ 0 = rw (eq-eqb _ _ (c .before .before .before .before .before .before .before .if1 .left), eq-eqb _ _ e, ← e, front-good (st .order .now) (st .n) _ room (c .before .before .before .first-not-event .ensures) (c .before .before .if3 .left), ← c .before .repeats .ensures, c .if4 .left) in
+    let q : ordCase (st .order .now) (st .z) (st .line) (st .n) ≡ 0 = rw (eq-eqb (st .line) 2 (omega (arith, c .before .before .before .before .before .before .before .if1 .left)), eq-eqb _ _ e, ← e, front-good (st .order .now) (st .n) _ room (c .before .before .before .first-not-event .ensures) (c .before .before .if3 .left), ← c .before .repeats .ensures, c .if4 .left) in
     rw q
 
 pub take-ord-spec : {M : Type 1} → statement M
