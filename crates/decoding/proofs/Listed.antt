@@ -1,7 +1,6 @@
 -- The numbers of an `ord` line, read one by one and written over the front of a list. Assumes nothing.
 --   Reads l at from es == of the fields after the byte at `at`, the numbers es are read, and those after the byte at `from` are left
-use mathlib.Core.Path.{_≡_, refl, sym, ap, ap₂, _∙_}
-use mathlib.Core.Bool.{Bool, true, false}
+use mathlib.Core.Path.{_≡_, refl, sym, ap, _∙_}
 use mathlib.Core.List.{List, [], _∷_, _++_, append-nil, append-assoc}
 use mathlib.Core.Option.{Option, none, some}
 use Prim.Native.Nat.{ℕ, suc, _+_, _-_, _≤_, _<_, min}
@@ -10,9 +9,9 @@ use lib.ListN.{length, take, drop, set, length-append, length-drop}
 use lib.Seq.{drop-drop}
 use lib.Dec.{ltb}
 use borrow.Author.Tests.{lt-ltb, le-ltb, ltb-true, ltb-false}
-use Rattle.lists.specs.Lists.{pick, indexOf}
+use Rattle.lists.specs.Lists.{indexOf}
 use Rattle.lists.proofs.Tests.{case}
-use Rattle.promises.specs.Text.{Line, ord, other, fields, number, ahead, numbers, anyNumber}
+use Rattle.promises.specs.Text.{ord, other, fields, number, ahead, numbers, anyNumber}
 use Rattle.decoding.specs.Forms.{fieldsFrom, over}
 use Rattle.decoding.proofs.Parts.{indexOf-le}
 use Rattle.decoding.proofs.Numbers.{rest-whole, fields-first}

@@ -217,9 +217,6 @@ pub fn decode(line: &[u8], order: &mut [u8]) -> Form
 {
     let end = until(line, 9);
     let word = &line[..end];
-    if same(word, b"ord") {
-        return ord_form(line, end, order);
-    }
     if end < line.len() {
         let a = end + 1;
         let rest = &line[a..];
@@ -235,6 +232,9 @@ pub fn decode(line: &[u8], order: &mut [u8]) -> Form
         if same(word, b"go") {
             return go_form(rest);
         }
+    }
+    if same(word, b"ord") {
+        return ord_form(line, end, order);
     }
     Form::Other
 }

@@ -1,7 +1,7 @@
 -- Rows 1 to 10 as a whole call sees them: what a refusal up to 8 leaves, what the start's cell tells, and that what is counted of the record is
 -- counted of the text. Assumes nothing.
 use mathlib.Core.Path.{_≡_, refl, sym, ap, _∙_}
-use mathlib.Core.Bool.{true, false}
+use mathlib.Core.Bool.{true}
 use mathlib.Core.List.{List, [], _∷_}
 use Prim.Native.Nat.{ℕ, _+_, _*_, _≤_, _<_, min}
 use native.Mathlib.Omega.{arith}
@@ -9,7 +9,6 @@ use native.Mathlib.Nat.{suc-mul}
 use native.Mathlib.Numerals.{add-one}
 use lib.ListN.{length, getD}
 use lib.Dec.{leb, eqb}
-use borrow.Author.Tests.{ne-eqb}
 use Rattle.lists.proofs.Tests.{case}
 use Rattle.automaton.specs.Automaton.{Automaton}
 use Rattle.automaton.specs.Pruning.{passes}

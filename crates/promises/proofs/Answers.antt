@@ -1,7 +1,7 @@
 -- What the calls answer on a readable text with buffers as sized, and what Scenarios writes. Both demands rest on this.
 -- Why: on such input the checks up to 8, and 12, pass; what is left is decided by N, by the first bad index and by the first event that leads astray.
 -- Assumes nothing.
-use mathlib.Core.Path.{_≡_, sym, _∙_, subst}
+use mathlib.Core.Path.{_≡_, sym, _∙_}
 use mathlib.Core.Logic.{_⊎_, inl, inr, _≢_, _↔_, ⊎-elim}
 use mathlib.Core.Bool.{true, false, _||_}
 use mathlib.Core.List.{List, [], _∷_, List·Memᴰ as In}
@@ -15,7 +15,6 @@ use borrow.Author.Tests.{leb-true, leb-false}
 use Rattle.lists.proofs.Tests.{contra, case, split}
 use Rattle.lists.proofs.Tells.{tells-true, tells-false, tells-lt, tells-le, tells-or}
 use Rattle.lists.proofs.Members.{getD-in}
-use Rattle.lists.proofs.Ordered.{range-in}
 use Rattle.lists.proofs.Distinct.{in-place, distinct-once, same-length, once-distinct}
 use Rattle.lists.proofs.Blocks.{block-at}
 use Rattle.automaton.specs.Pruning.{passes, live}

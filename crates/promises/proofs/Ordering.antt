@@ -1,16 +1,14 @@
 -- What an `ord` line is, and that it changes the order and nothing else.
 -- Why: its cases are those of the line, the first line being sound; the monitors are the same with it and without. Assumes nothing.
-use mathlib.Core.Path.{_≡_, refl, sym, ap, _∙_, subst}
+use mathlib.Core.Path.{_≡_, refl}
 use mathlib.Core.Logic.{_⊎_, inl, inr, _↔_, _≢_}
 use mathlib.Core.List.{List, [], _∷_, _++_, List·Memᴰ as In}
 use Prim.Native.Nat.{ℕ, suc, _≤_, _<_}
 use native.Mathlib.Omega.{arith}
 use lib.ListN.{length}
-use Rattle.lists.specs.Lists.{Permutation}
-use Rattle.promises.specs.Text.{Line, rig, ord, extended, monitorsFrom, monitors, eventsOf, decoded, Twice, cases, Case1, Case2, Case5, Case3, Case16, Case4, Case6, Sound, AllSound, Readable, LineFault, Fault}
+use Rattle.promises.specs.Text.{Line, rig, ord, extended, monitorsFrom, monitors, eventsOf, decoded, Twice, cases, Case1, Case2, Case5, Case3, Case16, Case4, Case6, AllSound, LineFault, Fault}
 use Rattle.promises.specs.Meaning.{AllAdmit, CarriedOn, Belongs}
 use Rattle.promises.specs.Ordering.{Second, Ordering}
-use Rattle.promises.proofs.Lines.{not-empty}
 use Rattle.promises.proofs.Meaning.{order-permutes}
 use Rattle.promises.proofs.Order.{ord-second, order-listed}
 use Rattle.promises.proofs.Answers.{same-count}

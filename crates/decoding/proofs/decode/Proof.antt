@@ -1,11 +1,12 @@
 -- The word is what stands before the first byte 9, and the rest of the fields stand after it; without a byte 9 there is no field but the word.
 -- Assumes nothing.
 use mathlib.Core.Path.{_≡_, refl, sym, ap, _∙_}
+use mathlib.Core.Logic.{⊎-elim}
 use lib.ListN.{take}
 use lib.Seq.{length-take-le}
-use Rattle.promises.specs.Text.{rig, begins, mon, continues, go}
+use Rattle.promises.specs.Text.{rig, begins, mon, continues, go, other}
 use Rattle.promises.specs.Text as text
-use Rattle.decoding.specs.Forms.{valueOf, orOther, formOf}
+use Rattle.decoding.specs.Forms.{valueOf, orOther}
 use Rattle.decoding.proofs.Parts.{indexOf-le}
 use Rattle.decoding.proofs.Numbers.{decode-more, decode-ord, decode-alone, form-rig, form-mon, form-go, form-other, oneOrTwo-kept, three-kept}
 use borrow.Author.Needs.{needs}
@@ -20,24 +21,6 @@ slice-aggregate-word c =
     let l = c .before .before .before .before .args .line .now in
     sym (length-take-le (c .before .until .result) l (rw (c .before .until .ensures) (indexOf-le l 9)))
 
-slice-aggregate-same : tie.Need-slice-aggregate-same
-slice-aggregate-same c = search needs
-
-same-requires : tie.Need-same-requires
-same-requires c κs = search needs
-
-ord-form-requires : tie.Need-ord-form-requires
-ord-form-requires c κs = search needs
-
-same-length : tie.Need-same-length
-same-length c = search needs
-
-returns : tie.Need-returns
-returns c =
-    let u = c .before .before .before .before .before .before .before .before .until in
-    let q = decode-ord (c .before .before .before .before .before .before .before .before .before .before .before .args .line .now) (u .result) (u .ensures) (sym (c .before .before .before .before .before .same .ensures) ∙ c .before .before .before .before .if1 .taken) in
-    rw q (c .before .before .ord-form .ensures)
-
 add-a : tie.Need-add-a
 add-a c = search needs
 
@@ -50,11 +33,11 @@ part-rest-start c = search needs
 part-rest-end : tie.Need-part-rest-end
 part-rest-end c = search needs
 
-slice-aggregate-same-2 : tie.Need-slice-aggregate-same-2
-slice-aggregate-same-2 c = search needs
+slice-aggregate-same : tie.Need-slice-aggregate-same
+slice-aggregate-same c = search needs
 
-same-requires-2 : tie.Need-same-requires-2
-same-requires-2 c κs = search needs
+same-requires : tie.Need-same-requires
+same-requires c κs = search needs
 
 only-number-requires : tie.Need-only-number-requires
 only-number-requires c κs = search needs
@@ -65,25 +48,43 @@ enum-known-e c = search needs
 enum-told : tie.Need-enum-told
 enum-told c = search needs
 
-returns-2 : tie.Need-returns-2
-returns-2 c =
-    let l = c .before .before .before .before .before .before .before .before .before .before .before .before .before .before .before .before .args .line .now in
-    let u = c .before .before .before .before .before .before .before .before .before .before .before .before .before .until in
+returns : tie.Need-returns
+returns c =
+    let l = c .before .before .before .before .before .before .before .before .before .before .before .before .before .args .line .now in
+    let u = c .before .before .before .before .before .before .before .before .before .before .until in
     let q =
-    decode-more l (u .result) (u .ensures) (c .before .before .before .before .before .before .before .before .if2 .taken)
-    ∙ form-rig (take (u .result) l) _ (sym (c .before .before .before .before .before .same2 .ensures) ∙ c .before .before .before .before .if3 .taken)
+    decode-more l (u .result) (u .ensures) (c .before .before .before .before .before .before .before .before .if1 .taken)
+    ∙ form-rig (take (u .result) l) _ (sym (c .before .before .before .before .before .same .ensures) ∙ c .before .before .before .before .if2 .taken)
     ∙ c .before .before .before .only-number .ensures (λ E. rig E) ∙ ap (λ d. orOther (λ E. rig E) (valueOf d)) (c .before .e .given .1) in
     rw q (refl, refl)
 
-returns-3 : tie.Need-returns-3
-returns-3 c =
-    let l = c .before .before .before .before .before .before .before .before .before .before .before .before .before .before .before .args .line .now in
-    let u = c .before .before .before .before .before .before .before .before .before .before .before .before .until in
+returns-2 : tie.Need-returns-2
+returns-2 c =
+    let l = c .before .before .before .before .before .before .before .before .before .before .before .before .args .line .now in
+    let u = c .before .before .before .before .before .before .before .before .before .until in
     let q =
-    decode-more l (u .result) (u .ensures) (c .before .before .before .before .before .before .before .if2 .taken)
-    ∙ form-rig (take (u .result) l) _ (sym (c .before .before .before .before .same2 .ensures) ∙ c .before .before .before .if3 .taken)
+    decode-more l (u .result) (u .ensures) (c .before .before .before .before .before .before .before .if1 .taken)
+    ∙ form-rig (take (u .result) l) _ (sym (c .before .before .before .before .same .ensures) ∙ c .before .before .before .if2 .taken)
     ∙ c .before .before .only-number .ensures (λ E. rig E) ∙ ap (λ d. orOther (λ E. rig E) (valueOf d)) (c .enum-told .given .1) in
     rw q (refl, refl)
+
+slice-aggregate-same-2 : tie.Need-slice-aggregate-same-2
+slice-aggregate-same-2 c = search needs
+
+same-requires-2 : tie.Need-same-requires-2
+same-requires-2 c κs = search needs
+
+mon-form-requires : tie.Need-mon-form-requires
+mon-form-requires c κs = search needs
+
+returns-3 : tie.Need-returns-3
+returns-3 c =
+    let l = c .before .before .before .before .before .before .before .before .before .before .before .before .before .args .line .now in
+    let u = c .before .before .before .before .before .before .before .before .before .before .until in
+    let q =
+    decode-more l (u .result) (u .ensures) (c .before .before .before .before .before .before .before .before .if1 .taken)
+    ∙ form-mon (take (u .result) l) _ (sym (c .before .before .before .before .before .same .ensures) ∙ c .before .before .before .before .if2 .left) (sym (c .before .before .same2 .ensures) ∙ c .before .if3 .taken) in
+    rw q (c .mon-form .ensures, oneOrTwo-kept _ (λ S. begins (mon S 0)) (λ S a. begins (mon S a)) (λ S. refl) (λ S a. refl) _)
 
 slice-aggregate-same-3 : tie.Need-slice-aggregate-same-3
 slice-aggregate-same-3 c = search needs
@@ -91,17 +92,17 @@ slice-aggregate-same-3 c = search needs
 same-requires-3 : tie.Need-same-requires-3
 same-requires-3 c κs = search needs
 
-mon-form-requires : tie.Need-mon-form-requires
-mon-form-requires c κs = search needs
+go-form-requires : tie.Need-go-form-requires
+go-form-requires c κs = search needs
 
 returns-4 : tie.Need-returns-4
 returns-4 c =
     let l = c .before .before .before .before .before .before .before .before .before .before .before .before .before .before .before .before .args .line .now in
     let u = c .before .before .before .before .before .before .before .before .before .before .before .before .before .until in
     let q =
-    decode-more l (u .result) (u .ensures) (c .before .before .before .before .before .before .before .before .if2 .taken)
-    ∙ form-mon (take (u .result) l) _ (sym (c .before .before .before .before .before .same2 .ensures) ∙ c .before .before .before .before .if3 .left) (sym (c .before .before .same3 .ensures) ∙ c .before .if4 .taken) in
-    rw q (c .mon-form .ensures, oneOrTwo-kept _ (λ S. begins (mon S 0)) (λ S a. begins (mon S a)) (λ S. refl) (λ S a. refl) _)
+    decode-more l (u .result) (u .ensures) (c .before .before .before .before .before .before .before .before .before .before .before .if1 .taken)
+    ∙ form-go (take (u .result) l) _ (sym (c .before .before .before .before .before .before .before .before .same .ensures) ∙ c .before .before .before .before .before .before .before .if2 .left) (sym (c .before .before .before .before .before .same2 .ensures) ∙ c .before .before .before .before .if3 .left) (sym (c .before .before .same3 .ensures) ∙ c .before .if4 .taken) in
+    rw q (c .go-form .ensures, three-kept _ (λ s e t. continues (go s e t)) (λ s e t. refl) _)
 
 slice-aggregate-same-4 : tie.Need-slice-aggregate-same-4
 slice-aggregate-same-4 c = search needs
@@ -109,31 +110,29 @@ slice-aggregate-same-4 c = search needs
 same-requires-4 : tie.Need-same-requires-4
 same-requires-4 c κs = search needs
 
-go-form-requires : tie.Need-go-form-requires
-go-form-requires c κs = search needs
+ord-form-requires : tie.Need-ord-form-requires
+ord-form-requires c κs = search needs
+
+same-length : tie.Need-same-length
+same-length c = search needs
 
 returns-5 : tie.Need-returns-5
 returns-5 c =
-    let l = c .before .before .before .before .before .before .before .before .before .before .before .before .before .before .before .before .before .before .before .args .line .now in
-    let u = c .before .before .before .before .before .before .before .before .before .before .before .before .before .before .before .before .until in
-    let q =
-    decode-more l (u .result) (u .ensures) (c .before .before .before .before .before .before .before .before .before .before .before .if2 .taken)
-    ∙ form-go (take (u .result) l) _ (sym (c .before .before .before .before .before .before .before .before .same2 .ensures) ∙ c .before .before .before .before .before .before .before .if3 .left) (sym (c .before .before .before .before .before .same3 .ensures) ∙ c .before .before .before .before .if4 .left) (sym (c .before .before .same4 .ensures) ∙ c .before .if5 .taken) in
-    rw q (c .go-form .ensures, three-kept _ (λ s e t. continues (go s e t)) (λ s e t. refl) _)
+    let u = c .before .before .before .before .before .before .before .before .before .until in
+    let q = decode-ord (c .before .before .before .before .before .before .before .before .before .before .before .before .args .line .now) (u .result) (u .ensures) (sym (c .before .before .before .before .before .same4 .ensures) ∙ c .before .before .before .before .if5 .taken) in
+    rw q (c .before .before .ord-form .ensures)
 
 returns-6 : tie.Need-returns-6
 returns-6 c =
-    let l = c .before .before .before .before .before .before .before .before .before .before .before .before .before .before .before .before .before .before .args .line .now in
-    let u = c .before .before .before .before .before .before .before .before .before .before .before .before .before .before .before .until in
-    let q =
-    decode-more l (u .result) (u .ensures) (c .before .before .before .before .before .before .before .before .before .before .if2 .taken)
-    ∙ form-other (take (u .result) l) _ (sym (c .before .before .before .before .before .before .before .same2 .ensures) ∙ c .before .before .before .before .before .before .if3 .left) (sym (c .before .before .before .before .same3 .ensures) ∙ c .before .before .before .if4 .left) (sym (c .before .same4 .ensures) ∙ c .if5 .left) (sym (c .before .before .before .before .before .before .before .before .before .before .before .before .same .ensures) ∙ c .before .before .before .before .before .before .before .before .before .before .before .if1 .left) in
-    rw q (refl, refl)
-
-returns-7 : tie.Need-returns-7
-returns-7 c =
+    let l = c .before .before .before .before .before .before .before .before .args .line .now in
     let u = c .before .before .before .before .before .until in
-    let q = decode-alone (c .before .before .before .before .before .before .before .before .args .line .now) (u .result) (u .ensures) (c .if2 .left) (sym (c .before .before .same .ensures) ∙ c .before .if1 .left) in
+    let not-ord = sym (c .before .same4 .ensures) ∙ c .if5 .left in
+    let q : text.decode l ≡ other = ⊎-elim
+    (λ (x, rest, a, is-rig, not-rig, b, is-mon, not-mon, d, is-go, not-go).
+    decode-more l (u .result) (u .ensures) (x .taken)
+    ∙ form-other (take (u .result) l) _ (sym (is-rig .ensures) ∙ not-rig .left) (sym (is-mon .ensures) ∙ not-mon .left) (sym (is-go .ensures) ∙ not-go .left) not-ord)
+    (λ x. decode-alone l (u .result) (u .ensures) (x .left) not-ord)
+    (c .before .before .before .if1 .came) in
     rw q (refl, refl)
 
 pub decode-spec : {M : Type 1} → statement M
@@ -142,29 +141,28 @@ decode-spec =
     (tie.spec
     until-requires
     slice-aggregate-word
-    slice-aggregate-same
-    same-requires
-    ord-form-requires
-    same-length
-    returns
     add-a
     sub-rest
     part-rest-start
     part-rest-end
-    slice-aggregate-same-2
-    same-requires-2
+    slice-aggregate-same
+    same-requires
     only-number-requires
     enum-known-e
     enum-told
+    returns
     returns-2
+    slice-aggregate-same-2
+    same-requires-2
+    mon-form-requires
     returns-3
     slice-aggregate-same-3
     same-requires-3
-    mon-form-requires
+    go-form-requires
     returns-4
     slice-aggregate-same-4
     same-requires-4
-    go-form-requires
+    ord-form-requires
+    same-length
     returns-5
-    returns-6
-    returns-7)
+    returns-6)

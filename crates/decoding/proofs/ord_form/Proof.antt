@@ -3,11 +3,11 @@
 use mathlib.Core.Path.{_≡_, refl, sym, ap, _∙_}
 use mathlib.Core.Logic.{⊎-elim}
 use mathlib.Core.List.{List, [], _∷_, _++_}
-use Prim.Native.Nat.{ℕ, _+_, _-_, _≤_, _<_, min}
+use Prim.Native.Nat.{ℕ, _+_, _-_}
 use native.Mathlib.Omega.{arith}
-use lib.ListN.{length, take, drop, set, length-append}
+use lib.ListN.{length, take, drop, length-append}
 use lib.Seq.{length-take-le}
-use Rattle.decoding.specs.Forms.{valueOf, over, formOf, Leaves}
+use Rattle.decoding.specs.Forms.{valueOf, over}
 use Rattle.decoding.specs.declared.Form.the-variants.{Ord}
 use Rattle.decoding.proofs.Parts.{indexOf-le}
 use Rattle.decoding.proofs.Listed.{length-over, over-more, over-past, Reads, reads-none, end-le, reads-more, reads-bad, reads-all}
