@@ -11,6 +11,7 @@
  *
  * Rig text: at most 65,535 bytes; lines end with byte 10, fields are parted by one byte 9:
  *   rig E          first line; events are 0 to E-1, E from 1 to 16
+ *   ord e e ...    second line, which may be left out: all E events, first to last, in the order of scenarios; without it lower first
  *   mon S          a new monitor with states 0 to S-1, S from 1 to 32, starting in 0; one to four monitors
  *   mon S start    the same, starting in the state given, which is below S
  *   go s e t       the latest monitor moves from s to t on event e
@@ -18,10 +19,12 @@
  *
  * Returned: 0 where the call is served, else the number of refusal, with a place (0 where none is named):
  *    1  text over 65,535 bytes
- *    2  no such line form, a field that is no number, or the last line unended   place: line, from 1
+ *    2  no such line form, a field that is no number, or the last line unended;  place: line, from 1
+ *       on line 2, an `ord` with other than E events
  *    3  a number out of its range, a start not below S, or a fifth `mon`         place: line
  *    4  s and e again in one monitor                                             place: line
- *    5  first line not `rig`, `rig` later, `go` before `mon`, or no `mon`        place: line; at the end, lines + 1
+ *    5  first line not `rig`, `rig` later, `ord` not on line 2, `go` before      place: line; at the end, lines + 1
+ *       `mon`, or no `mon`
  *    6  P over 1,024                                                             place: `mon` line
  *    7  h over 1,000
  *    8  cells_len below (h + 1) * P; scratch_len below 2 * draws_len
@@ -32,7 +35,8 @@
  *   13  event byte E or more                                                     place: position in the sequence, from 0
  *   14  the sequence is no scenario                                              place: the first event that leads astray, from 0
  *   15  draw i not from i to n-1                                                 place: position, from 0
- * Checks go in the order 1, 2 to 6 line by line (on one line 2, 5, 3, 4, 6), 7, 8, 12, 13, 9, 10, 11, 14, 15.
+ *   16  an event named twice in `ord`                                            place: line
+ * Checks go in the order 1, 2 to 6 and 16 line by line (on one line 2, 5, 3, 16, 4, 6), 7, 8, 12, 13, 9, 10, 11, 14, 15.
  */
 #ifndef WANDUKHAI_H
 #define WANDUKHAI_H

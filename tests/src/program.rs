@@ -134,7 +134,7 @@ fn worked(tally: &mut Tally) {
         (8, two.into(), "no\t8\t0\n"),
         (0, two.into(), "no\t9\t0\n"),
         (64, F.into(), "no\t10\t0\n"),
-        // the first bad line counts; on one line 2, 5, 3, 4, 6; the rig before the horizon, the horizon before the cells
+        // the first bad line counts; on one line 2, 5, 3, 16, 4, 6; the rig before the horizon, the horizon before the cells
         (1001, "rig\t1\nmon\t1\nmon\t0\nx\n".into(), "no\t3\t3\n"),
         (0, "go\t0\t0\t99999\n".into(), "no\t5\t1\n"),
         (0, format!("{four}mon\t33\n"), "no\t3\t6\n"),

@@ -1,4 +1,4 @@
-// Rows 1 to 8 of the table of refusals: the text, the horizon and the room for the cells, checked before anything is written.
+// Rows 1 to 8 of the table of refusals, and 16: the text, the horizon and the room for the cells, checked before anything is written.
 use reader::Verdict;
 use rig::Rig;
 ghost use Rattle.rig.specs.Record.{WellFormed};
@@ -10,7 +10,7 @@ pub enum Checked {
     Refused(u64, u64),
 }
 
-// What rows 1 to 8 come to, with the record; and where they are passed, how many joint states it has and the number of the start.
+// What these rows come to, with the record; and where they are passed, how many joint states it has and the number of the start.
 pub struct Loaded {
     pub checked: Checked,
     pub rig: Rig,
@@ -18,7 +18,7 @@ pub struct Loaded {
     pub start: usize,
 }
 
-// Rows 1 to 8: the text, the horizon, and the room for the cells.
+// Rows 1 to 8 and 16: the text, the horizon, and the room for the cells.
 pub fn load(text: &[u8], h: u64, room: usize) -> Loaded
     ensures { λ o. ⌜ Loads (now (text .entry)) h room o ⌝ }
 {

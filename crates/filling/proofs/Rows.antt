@@ -81,10 +81,10 @@ module _ (A : Automaton) (p x h : ℕ) (f : Filled) (cells left table : List ℕ
 pub cell-room : (h p x n : ℕ) → x < p → (h + 1) * p ≤ n → h * p + x < n
 cell-room h p x n lt le = omega (arith, suc-mul h p, ap (λ (i : ℕ). i * p) (add-one h))
 
--- ---- rows 1 to 8, as the whole call sees them
+-- ---- rows 1 to 8 and 16, as the whole call sees them
 
 module _ (t : List ℕ) (h room : ℕ) (o : Loaded) (op : Loads t h room o) (cells : List ℕ) (l : length cells ≡ room) where
-  -- a row up to 8 applied: its refusal is the answer, and the cells are as before
+  -- one of them applied: its refusal is the answer, and the cells are as before
   pub early-answer : (m p : ℕ) → o .checked ≡ Refused m p → (a : Answer) → refused m p ≡ sized t h cells a
   early-answer m p e a = sym (op .answer cells a l ∙ ap (λ (k : Checked). checkedOr k a) e)
 
