@@ -181,7 +181,7 @@ fn go_form(rest: &[u8]) -> Form
     })
 }
 
-// A number as a byte: 255 where it is larger.
+// A number as a byte: 255 where it is larger, which is no event.
 fn as_byte(n: usize) -> u8
     ensures { λ b. ⌜ b ≡ min n 255 ⌝ }
 {

@@ -16,7 +16,8 @@
 --   Readable t         == no case of a check on the text holds of it
 --   Fault t n p        == the checks on the text, in their order, refuse t with number n and place p
 --   Case7 .. Case13    == the case holds of a horizon, of lent buffers, of a sequence
--- A new line form is one constructor of Kind, Part or Line, its word in `form` and one clause of `cases`; a new Kind also has its states and its start.
+-- A new line form is one constructor of Kind, Part or Line, its word in `form` and one clause of `cases`; a new Kind also has its states and its start,
+-- a new Line what it does to the monitors (`extended`) and to the order of events (`reordered`).
 -- How each form is written is fixed by the theorem of Spelling. Assumes nothing.
 use mathlib.Core.Path.{_≡_}
 use mathlib.Core.Logic.{_⊎_, _≢_}
@@ -223,7 +224,7 @@ eventsOf (other ∷ ls) = 0
 
 -- ---- the order of events
 
--- 'lower first' with `rig`, E; an `ord` line 'replaces 'lower first' in comparing two events' (02 no. 2); es before this line
+-- the events es with one line more: 'lower first' with `rig`, E; an `ord` line 'replaces 'lower first' in comparing two events' (02 no. 2)
 unfoldable pub reordered : List ℕ → Line → List ℕ
 reordered es (rig E) = range E
 reordered es (ord ds) = ds
