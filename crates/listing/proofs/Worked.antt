@@ -1,4 +1,4 @@
--- The listing that paper 01 prints whole, and the least inputs: each side computes to the other. Assumes nothing.
+-- The listing that paper 01 prints whole, the same rig with another order of events, and the least inputs: each side computes to the other. Assumes nothing.
 use mathlib.Core.Option.{orElse}
 use mathlib.Core.Path.{_≡_, refl}
 use mathlib.Core.List.{List, [], _++_}
@@ -12,7 +12,7 @@ use Rattle.promises.specs.Text.{bytes, onto, splitOn, init, lastOf, lines, unen
 use Rattle.promises.specs.Reading.{leadsTo, moveBy, testBeginning, ofLatest, testContinuing, tests, lineCase, readingFrom, reading}
 use Rattle.promises.specs.Rig.{nextOf, monitorOf, standing, linesAutomaton, linesStart, rigAutomaton, start}
 use Rattle.promises.specs.Calls.{sized, total, counted, count}
-use Rattle.promises.specs.Examples.{A}
+use Rattle.promises.specs.Examples.{A, A-ordered}
 use Rattle.lists.specs.Decimal as decimals
 use Rattle.lists.specs.Decimal.{decimal}
 use Rattle.line.specs.Line.{lineOf, numbersOf}
@@ -27,6 +27,11 @@ bad = bytes "no\t2\t0\n"
 pub worked : listing (bytes "ask\t3\n" ++ A) ≡ bytes "count\t5\t1\n0\t0\t0\t0\n1\t0\t0\t1\n2\t0\t1\t0\n3\t1\t0\t0\n4\t1\t0\t1\n"
 unfolding listing answer asked askedIn firstLine text owned horizon scenarioLine indexOf lineOf numbersOf decimal decimals.digits reading readingFrom lineCase tests testBeginning testContinuing ofLatest moveBy leadsTo orElse decoded lines unended splitOn onto init lastOf decode fields form one two three oneOrTwo anyNumber field endOr end number numbers ahead digitsValue same monitors monitorsFrom extended addPart latest statesOf product eventsOf orderOf orderFrom reordered startOf jointStates nextOf monitorOf standing linesAutomaton linesStart rigAutomaton start range both join idle joint sizes jointState keep prunedSet size passesFrom passes live N most choose unrank sized total counted count
 worked = refl
+
+-- the same with `ord` 1 0 (02 no. 2)
+pub ordered : listing (bytes "ask\t3\n" ++ A-ordered) ≡ bytes "count\t5\t1\n0\t1\t0\t1\n1\t1\t0\t0\n2\t0\t1\t0\n3\t0\t0\t1\n4\t0\t0\t0\n"
+unfolding listing answer asked askedIn firstLine text owned horizon scenarioLine indexOf lineOf numbersOf decimal decimals.digits reading readingFrom lineCase tests testBeginning testContinuing ofLatest moveBy leadsTo orElse decoded lines unended splitOn onto init lastOf decode fields form one two three oneOrTwo anyNumber field endOr end number numbers ahead digitsValue same monitors monitorsFrom extended addPart latest statesOf product eventsOf orderOf orderFrom reordered startOf jointStates nextOf monitorOf standing linesAutomaton linesStart rigAutomaton start range both join idle joint sizes jointState keep prunedSet size passesFrom passes live N most choose unrank sized total counted count
+ordered = refl
 
 -- F at 10, which has 1,024 scenarios
 abbrev long : List ℕ
