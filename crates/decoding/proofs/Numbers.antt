@@ -17,7 +17,7 @@ use Rattle.promises.proofs.Pieces.{splitOn-some}
 use Rattle.promises.proofs.Spelling.{same-tells}
 use Rattle.decoding.specs.declared.Field.the-variants.{Last, More, Bad}
 use Rattle.decoding.specs.declared.Field.{Field}
-use Rattle.decoding.specs.Forms.{asField, fieldOf, fieldsFrom, fieldBy, orOther, Leaves}
+use Rattle.decoding.specs.Forms.{asField, fieldOf, fieldsFrom, fieldBy, orOther, leading, listedIn}
 use Rattle.decoding.proofs.Parts.{splitOn-whole, splitOn-first}
 
 -- ---- digits
@@ -220,6 +220,20 @@ module _ (l : List ℕ) (end : ℕ) (e : end ≡ indexOf l 9) where
       go false false true = refl
       go false false false = refl
 
+-- a word is no other
+pub other-word : (w u v : List ℕ) → same w u ≡ true → same u v ≡ false → same w v ≡ false
+other-word w u v p q = ap (λ x. same x v) (same-tells w u .yes p) ∙ q
+
+-- what a line lists
+module _ (l : List ℕ) (end : ℕ) (e : end ≡ indexOf l 9) where
+  pub listed-ord : same (take end l) (bytes "ord") ≡ true → listedIn l ≡ leading (fieldsFrom l end)
+  unfolding listedIn
+  listed-ord p = rw (← e, p)
+
+  pub listed-none : same (take end l) (bytes "ord") ≡ false → listedIn l ≡ []
+  unfolding listedIn
+  listed-none p = rw (← e, p)
+
 module _ (w : List ℕ) (fs : List (List ℕ)) where
   pub form-rig : same w (bytes "rig") ≡ true → form (w ∷ fs) ≡ one (λ E. rig E) fs
   unfolding form
@@ -236,39 +250,3 @@ module _ (w : List ℕ) (fs : List (List ℕ)) where
   pub form-other : same w (bytes "rig") ≡ false → same w (bytes "mon") ≡ false → same w (bytes "go") ≡ false → same w (bytes "ord") ≡ false → form (w ∷ fs) ≡ other
   unfolding form
   form-other p q r o = rw (p, q, r, o)
-
--- ---- forms that leave the list of events as it is
-
-module _ (os : List ℕ) where
-  abbrev Kept : Line → Type 0
-  Kept l = Leaves l os os
-
-  field-kept : (rest : ℕ → List (List ℕ) → Line) → ((n : ℕ) (fs : List (List ℕ)) → Kept (rest n fs)) → (fs : List (List ℕ)) → Kept (field number rest fs)
-  unfolding field
-  field-kept rest h [] = refl
-  field-kept rest h (f ∷ fs) = go (number f) refl
-    where
-      go : (o : Option ℕ) → number f ≡ o → Kept (field number rest (f ∷ fs))
-      go none q = rw q refl
-      go (some n) q = rw q (h n fs)
-
-  endOr-kept : (l : Line) (more : List (List ℕ) → Line) → Kept l → ((fs : List (List ℕ)) → Kept (more fs)) → (fs : List (List ℕ)) → Kept (endOr l more fs)
-  unfolding endOr
-  endOr-kept l more h k [] = h
-  endOr-kept l more h k (f ∷ fs) = k (f ∷ fs)
-
-  one-kept : (f : ℕ → Line) → ((a : ℕ) → Kept (f a)) → (fs : List (List ℕ)) → Kept (one f fs)
-  unfolding one end
-  one-kept f h = field-kept (λ a. end (f a)) (λ a. endOr-kept (f a) (λ fs. other) (h a) (λ fs. refl))
-
-  two-kept : (f : ℕ → ℕ → Line) → ((a b : ℕ) → Kept (f a b)) → (fs : List (List ℕ)) → Kept (two f fs)
-  unfolding two
-  two-kept f h = field-kept (λ a. one (f a)) (λ a. one-kept (f a) (h a))
-
-  pub three-kept : (f : ℕ → ℕ → ℕ → Line) → ((a b c : ℕ) → Kept (f a b c)) → (fs : List (List ℕ)) → Kept (three f fs)
-  unfolding three
-  three-kept f h = field-kept (λ a. two (f a)) (λ a. two-kept (f a) (h a))
-
-  pub oneOrTwo-kept : (f : ℕ → Line) (g : ℕ → ℕ → Line) → ((a : ℕ) → Kept (f a)) → ((a b : ℕ) → Kept (g a b)) → (fs : List (List ℕ)) → Kept (oneOrTwo f g fs)
-  unfolding oneOrTwo
-  oneOrTwo-kept f g h k = field-kept (λ a. endOr (f a) (one (g a))) (λ a. endOr-kept (f a) (one (g a)) (h a) (one-kept (g a) (k a)))

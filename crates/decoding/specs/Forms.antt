@@ -4,14 +4,14 @@
 --   partOf p         == the line p of a monitor, likewise
 --   formOf l         == the line form l, likewise; of an `ord` line, how many events it lists
 --   over es os       == the numbers es as bytes, 255 for a larger one, written over the front of os as far as that goes
---   Leaves l os left == reading the line l leaves `left` of os: the events of an `ord` line over its front; of a line that is no form nothing is said
 --   orOther f n      == the form of the number n, or `other` where there is none
 --   asField n more i == the field that is the number n, the next one starting at i where there is more
 --   fieldOf l        == the first field of what is left of a line
 --   fieldsFrom l k   == the fields after the byte 9 at k, none where the line l ends there
+--   leading fs       == the numbers that the fields fs begin with, up to the first that is none
+--   listedIn l       == these of the line l where its word is `ord`, else none
 --   fieldBy rest l x == what `rest` makes of the field x, the first of l, and of the fields after it
 -- A new line form is one constructor of Kind, Part or Form and one clause here. Assumes nothing.
-use mathlib.Core.Path.{_≡_}
 use mathlib.Core.Bool.{Bool}
 use mathlib.Core.List.{List, [], _∷_}
 use mathlib.Core.Option.{Option, none, some}
@@ -19,7 +19,7 @@ use Prim.Native.Nat.{ℕ, _+_, min}
 use lib.ListN.{length, take, drop}
 use lib.Dec.{ltb}
 use Rattle.lists.specs.Lists.{pick, indexOf}
-use Rattle.promises.specs.Text.{Line, rig, ord, begins, continues, other, mon, go, number, fields}
+use Rattle.promises.specs.Text.{Line, rig, ord, begins, continues, other, mon, go, number, fields, same, bytes}
 use Rattle.promises.specs.Text as text
 use Rattle.decoding.specs.declared.Decimal.{Decimal}
 use Rattle.decoding.specs.declared.Decimal.the-variants.{Value, Wrong}
@@ -53,13 +53,6 @@ over [] os = os
 over (e ∷ es) [] = []
 over (e ∷ es) (o ∷ os) = min e 255 ∷ over es os
 
-abbrev pub Leaves : Line → List ℕ → List ℕ → Type 0
-Leaves (rig E) os left = left ≡ os
-Leaves (ord es) os left = left ≡ over es os
-Leaves (begins k) os left = left ≡ os
-Leaves (continues p) os left = left ≡ os
-Leaves other os left = length left ≡ length os
-
 abbrev pub orOther : (ℕ → Line) → Option ℕ → Line
 orOther f none = other
 orOther f (some n) = f n
@@ -74,6 +67,17 @@ fieldOf l = asField (number (take (indexOf l 9) l)) (ltb (indexOf l 9) (length l
 
 unfoldable pub fieldsFrom : List ℕ → ℕ → List (List ℕ)
 fieldsFrom l k = pick (ltb k (length l)) (fields (drop (k + 1) l)) []
+
+unfoldable pub onFirst : Option ℕ → List ℕ → List ℕ
+onFirst none ns = []
+onFirst (some n) ns = n ∷ ns
+
+unfoldable pub leading : List (List ℕ) → List ℕ
+leading [] = []
+leading (f ∷ fs) = onFirst (number f) (leading fs)
+
+unfoldable pub listedIn : List ℕ → List ℕ
+listedIn l = pick (same (take (indexOf l 9) l) (bytes "ord")) (leading (fieldsFrom l (indexOf l 9))) []
 
 abbrev pub fieldBy : (ℕ → List (List ℕ) → Line) → List ℕ → Field → Line
 fieldBy rest l (Last n) = rest n []

@@ -5,7 +5,7 @@ ghost use lib.ListN.{length};
 ghost use Rattle.lists.specs.Lists.{indexOf};
 ghost use Rattle.promises.specs.Text.{Line, ord, begins, mon, continues, go, one, oneOrTwo, three, anyNumber, fields};
 ghost use Rattle.promises.specs.Text as text;
-ghost use Rattle.decoding.specs.Forms.{valueOf, fieldOf, orOther, fieldsFrom, formOf, Leaves};
+ghost use Rattle.decoding.specs.Forms.{valueOf, fieldOf, orOther, fieldsFrom, leading, listedIn, over, formOf};
 
 // What a field is: a number of paper 01, or none.
 pub enum Decimal {
@@ -191,7 +191,7 @@ fn as_byte(n: usize) -> u8
 // `ord` and any number of numbers, the first after the byte 9 at `at`; none where the line ends there. `order` gets those that it has room for.
 fn ord_form(line: &[u8], at: usize, order: &mut [u8]) -> Form
     ensures { λ r. ⌜ r ≡ formOf (anyNumber (λ es. ord es) (fieldsFrom (now (line .entry)) at)) ⌝ }
-    ensures { λ _. ⌜ Leaves (anyNumber (λ es. ord es) (fieldsFrom (now (line .entry)) at)) (now (order .entry)) (now (order .exit)) ⌝ }
+    ensures { λ _. ⌜ now (order .exit) ≡ over (leading (fieldsFrom (now (line .entry)) at)) (now (order .entry)) ⌝ }
 {
     let mut count = 0;
     let mut from = at;
@@ -210,10 +210,10 @@ fn ord_form(line: &[u8], at: usize, order: &mut [u8]) -> Form
     Form::Ord(count)
 }
 
-// The form that a line is. The events of an `ord` line are written over the front of `order`, as bytes.
+// The form that a line is. The numbers of an `ord` line, up to a field that is none, are written over the front of `order`, as bytes.
 pub fn decode(line: &[u8], order: &mut [u8]) -> Form
     ensures { λ r. ⌜ r ≡ formOf (text.decode (now (line .entry))) ⌝ }
-    ensures { λ _. ⌜ Leaves (text.decode (now (line .entry))) (now (order .entry)) (now (order .exit)) ⌝ }
+    ensures { λ _. ⌜ now (order .exit) ≡ over (listedIn (now (line .entry))) (now (order .entry)) ⌝ }
 {
     let end = until(line, 9);
     let word = &line[..end];

@@ -216,7 +216,7 @@ decimals-free : (ns : List ℕ) (q : List ℕ) → In q (map decimal ns) → Fre
 decimals-free (n ∷ ns) q (here e) = subst (Free 9) (sym e) (decimal-free n)
 decimals-free (n ∷ ns) q (there i) = decimals-free ns q i
 
-fields-spelled : (w : String) (ns : List ℕ) → any (eqb 9) (bytes w) ≡ false → fields (spelled w ns) ≡ bytes w ∷ map decimal ns
+pub fields-spelled : (w : String) (ns : List ℕ) → any (eqb 9) (bytes w) ≡ false → fields (spelled w ns) ≡ bytes w ∷ map decimal ns
 unfolding fields spelled
 fields-spelled w ns q = ap (λ l. splitOn 9 (bytes w ++ l)) (numbers-preceded ns) ∙ splitOn-pieces 9 (bytes w) (map decimal ns) (free-any 9 (bytes w) q) (decimals-free ns)
 

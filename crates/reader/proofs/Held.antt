@@ -22,8 +22,8 @@ use Rattle.promises.specs.Reading.{empty, isSome, moveBy, outside, testBeginnin
 use Rattle.promises.proofs.Lines.{monitors-more, order-more, length-addPart, product-addPart, product-append}
 use Rattle.rig.specs.declared.Rig.{Rig}
 use Rattle.rig.specs.Record.{moveIndex, moveAt, lowerFirst}
-use Rattle.decoding.specs.Forms.{over, formOf, Leaves}
-use Rattle.decoding.proofs.Listed.{length-over}
+use Rattle.decoding.specs.Forms.{over, formOf}
+use Rattle.decoding.proofs.Listed.{length-over, Leaves}
 use Rattle.reader.specs.declared.Sizes.{Sizes}
 use Rattle.reader.specs.Reading.{withPart, withLine, recordFrom}
 use Rattle.reader.specs.Record.{nobody}

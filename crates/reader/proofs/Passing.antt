@@ -17,7 +17,8 @@ use Rattle.promises.specs.Reading.{empty, lineCase, readingFrom, reading}
 use Rattle.rig.specs.declared.Rig.{Rig}
 use Rattle.rig.specs.Record.{lowerFirst, emptyRig}
 use Rattle.decoding.specs.declared.Form.{Form}
-use Rattle.decoding.specs.Forms.{formOf, Leaves}
+use Rattle.decoding.specs.Forms.{over, listedIn, formOf}
+use Rattle.decoding.proofs.Listed.{Leaves, leaves}
 use Rattle.decoding.proofs.Parts.{indexOf-le}
 use Rattle.decoding.proofs.Numbers.{rest-whole}
 use Rattle.reader.specs.declared.Reading.{Reading}
@@ -94,7 +95,10 @@ module _ (r : Rig) (t : List ℕ) (z : Sizes) (line at : ℕ) (mv ct st os : Lis
     unended-left = unended-first (drop at t) end at-end ended ∙ ap unended (drop-drop (end + 1) at t)
 
     -- its form f, and what decoding it leaves of the list os
-    module _ (f : Form) (d : f ≡ formOf next) (left : List ℕ) (lv : Leaves next os left) where
+    module _ (f : Form) (d : f ≡ formOf next) (left : List ℕ) (wr : left ≡ over (listedIn (take end (take (length t - at) (drop at t)))) os) where
+      lv : Leaves next os left
+      lv = rw wr (leaves (take end (take (length t - at) (drop at t))) os)
+
       case-of : caseOf mv left z line f ≡ lineCase (P .front) next
       case-of = rw d (case-is r (P .front) z mv ct st os (P .holds) next line left (P .counted) lv)
 

@@ -26,7 +26,8 @@ use Rattle.promises.proofs.Meaning.{move-is, sizes-standing, order-permutes}
 use Rattle.promises.proofs.Reading.{moved, sound-case, readable-said}
 use Rattle.rig.specs.declared.Rig.{Rig}
 use Rattle.rig.specs.Record.{moveAt, countOf, startAt, orderIn, moveOf, monitorAt, standing, recordAutomaton, recordStart, WellFormed, lowerFirst, emptyRig}
-use Rattle.decoding.specs.Forms.{over, formOf, Leaves}
+use Rattle.decoding.specs.Forms.{over, formOf}
+use Rattle.decoding.proofs.Listed.{Leaves}
 use Rattle.reader.specs.declared.Sizes.{Sizes}
 use Rattle.reader.specs.Reading.{recordFrom, whereServed, recordOf}
 use Rattle.reader.specs.Record.{nobody, monitorIn, ReadFrom}

@@ -2,16 +2,25 @@
 -- Assumes nothing.
 use mathlib.Core.Path.{_≡_, refl, sym, ap, _∙_}
 use mathlib.Core.Logic.{⊎-elim}
+use mathlib.Core.Bool.{true, false}
+use mathlib.Core.List.{List}
+use Prim.Native.Nat.{ℕ}
 use lib.ListN.{take}
 use lib.Seq.{length-take-le}
-use Rattle.promises.specs.Text.{rig, begins, mon, continues, go, other}
+use Rattle.lists.specs.Lists.{indexOf}
+use Rattle.promises.specs.Text.{rig, other, bytes}
 use Rattle.promises.specs.Text as text
-use Rattle.decoding.specs.Forms.{valueOf, orOther}
+use Rattle.decoding.specs.Forms.{valueOf, orOther, over, listedIn}
 use Rattle.decoding.proofs.Parts.{indexOf-le}
-use Rattle.decoding.proofs.Numbers.{decode-more, decode-ord, decode-alone, form-rig, form-mon, form-go, form-other, oneOrTwo-kept, three-kept}
+use Rattle.decoding.proofs.Numbers.{decode-more, decode-ord, decode-alone, form-rig, form-mon, form-go, form-other, other-word, listed-ord, listed-none}
 use borrow.Author.Needs.{needs}
 use Rattle.decoding.proofs.decode.Statement.{statement}
 use Rattle.decoding.proofs.decode.Tie as tie
+
+-- a word that is not `ord` lists nothing
+not-listed : (l : List ℕ) (end : ℕ) → end ≡ indexOf l 9 → (u : List ℕ) → text.same (take end l) u ≡ true → text.same u (bytes "ord") ≡ false → (os : List ℕ) → os ≡ over (listedIn l) os
+unfolding over
+not-listed l end e u p q os = rw (listed-none l end e (other-word (take end l) u (bytes "ord") p q))
 
 until-requires : tie.Need-until-requires
 until-requires c κs = search needs
@@ -56,7 +65,7 @@ returns c =
     decode-more l (u .result) (u .ensures) (c .before .before .before .before .before .before .before .before .if1 .taken)
     ∙ form-rig (take (u .result) l) _ (sym (c .before .before .before .before .before .same .ensures) ∙ c .before .before .before .before .if2 .taken)
     ∙ c .before .before .before .only-number .ensures (λ E. rig E) ∙ ap (λ d. orOther (λ E. rig E) (valueOf d)) (c .before .e .given .1) in
-    rw q (refl, refl)
+    (rw q, not-listed l (u .result) (u .ensures) (bytes "rig") (sym (c .before .before .before .before .before .same .ensures) ∙ c .before .before .before .before .if2 .taken) (unfold text.same in refl) _)
 
 returns-2 : tie.Need-returns-2
 returns-2 c =
@@ -66,7 +75,7 @@ returns-2 c =
     decode-more l (u .result) (u .ensures) (c .before .before .before .before .before .before .before .if1 .taken)
     ∙ form-rig (take (u .result) l) _ (sym (c .before .before .before .before .same .ensures) ∙ c .before .before .before .if2 .taken)
     ∙ c .before .before .only-number .ensures (λ E. rig E) ∙ ap (λ d. orOther (λ E. rig E) (valueOf d)) (c .enum-told .given .1) in
-    rw q (refl, refl)
+    (rw q, not-listed l (u .result) (u .ensures) (bytes "rig") (sym (c .before .before .before .before .same .ensures) ∙ c .before .before .before .if2 .taken) (unfold text.same in refl) _)
 
 slice-aggregate-same-2 : tie.Need-slice-aggregate-same-2
 slice-aggregate-same-2 c = search needs
@@ -84,7 +93,7 @@ returns-3 c =
     let q =
     decode-more l (u .result) (u .ensures) (c .before .before .before .before .before .before .before .before .if1 .taken)
     ∙ form-mon (take (u .result) l) _ (sym (c .before .before .before .before .before .same .ensures) ∙ c .before .before .before .before .if2 .left) (sym (c .before .before .same2 .ensures) ∙ c .before .if3 .taken) in
-    rw q (c .mon-form .ensures, oneOrTwo-kept _ (λ S. begins (mon S 0)) (λ S a. begins (mon S a)) (λ S. refl) (λ S a. refl) _)
+    (rw q (c .mon-form .ensures), not-listed l (u .result) (u .ensures) (bytes "mon") (sym (c .before .before .same2 .ensures) ∙ c .before .if3 .taken) (unfold text.same in refl) _)
 
 slice-aggregate-same-3 : tie.Need-slice-aggregate-same-3
 slice-aggregate-same-3 c = search needs
@@ -102,7 +111,7 @@ returns-4 c =
     let q =
     decode-more l (u .result) (u .ensures) (c .before .before .before .before .before .before .before .before .before .before .before .if1 .taken)
     ∙ form-go (take (u .result) l) _ (sym (c .before .before .before .before .before .before .before .before .same .ensures) ∙ c .before .before .before .before .before .before .before .if2 .left) (sym (c .before .before .before .before .before .same2 .ensures) ∙ c .before .before .before .before .if3 .left) (sym (c .before .before .same3 .ensures) ∙ c .before .if4 .taken) in
-    rw q (c .go-form .ensures, three-kept _ (λ s e t. continues (go s e t)) (λ s e t. refl) _)
+    (rw q (c .go-form .ensures), not-listed l (u .result) (u .ensures) (bytes "go") (sym (c .before .before .same3 .ensures) ∙ c .before .if4 .taken) (unfold text.same in refl) _)
 
 slice-aggregate-same-4 : tie.Need-slice-aggregate-same-4
 slice-aggregate-same-4 c = search needs
@@ -118,9 +127,11 @@ same-length c = search needs
 
 returns-5 : tie.Need-returns-5
 returns-5 c =
+    let l = c .before .before .before .before .before .before .before .before .before .before .before .before .args .line .now in
     let u = c .before .before .before .before .before .before .before .before .before .until in
-    let q = decode-ord (c .before .before .before .before .before .before .before .before .before .before .before .before .args .line .now) (u .result) (u .ensures) (sym (c .before .before .before .before .before .same4 .ensures) ∙ c .before .before .before .before .if5 .taken) in
-    rw q (c .before .before .ord-form .ensures)
+    let p = sym (c .before .before .before .before .before .same4 .ensures) ∙ c .before .before .before .before .if5 .taken in
+    let f = c .before .before .ord-form .ensures in
+    (rw (decode-ord l (u .result) (u .ensures) p) (f .0), rw (listed-ord l (u .result) (u .ensures) p) (f .1))
 
 returns-6 : tie.Need-returns-6
 returns-6 c =
@@ -133,7 +144,7 @@ returns-6 c =
     ∙ form-other (take (u .result) l) _ (sym (is-rig .ensures) ∙ not-rig .left) (sym (is-mon .ensures) ∙ not-mon .left) (sym (is-go .ensures) ∙ not-go .left) not-ord)
     (λ x. decode-alone l (u .result) (u .ensures) (x .left) not-ord)
     (c .before .before .before .if1 .came) in
-    rw q (refl, refl)
+    (rw q, rw (listed-none l (u .result) (u .ensures) not-ord) (unfold over in refl))
 
 pub decode-spec : {M : Type 1} → statement M
 decode-spec =

@@ -71,7 +71,7 @@ returns c =
     let l = c .before .before .before .before .before .before .before .before .before .before .args .line .now in
     let lp = c .before .before .before .before .before .before .before .loop in
     let q = reads-bad l (c .before .before .before .before .before .before .before .before .before .before .args .at) (lp .from) (lp .inv .numbers-are) (lp .inv .reads) (c .before .before .before .before .before .before .loop-test .taken) (c .before .before .before .before .until .result) (c .before .before .before .before .until .ensures) (sym (ap valueOf (c .enum-told .given .1)) ∙ c .before .before .number .ensures) in
-    rw q (refl, ap length (lp .inv .written) ∙ length-over (lp .inv .numbers-are) _)
+    rw (q .0) (refl, lp .inv .written ∙ ap (λ ns. over ns (c .before .before .before .before .before .before .before .before .before .before .args .order .now)) (sym (q .1)))
 
 as-byte-requires : tie.Need-as-byte-requires Inv-loop μ-loop
 as-byte-requires c κs = search needs
@@ -122,7 +122,7 @@ returns-2 c =
     let l = c .before .before .before .before .args .line .now in
     let lp = c .before .loop in
     let q = reads-all l (c .before .before .before .before .args .at) (lp .from) (lp .inv .numbers-are) (lp .inv .reads) (c .loop-test .left) in
-    rw q (ap Ord (lp .inv .counted), lp .inv .written)
+    rw (q .0) (ap Ord (lp .inv .counted), lp .inv .written ∙ ap (λ ns. over ns (c .before .before .before .before .args .order .now)) (sym (q .1)))
 
 pub ord-form-spec : {M : Type 1} → statement M
 ord-form-spec =
