@@ -47,13 +47,13 @@ over-past (d ∷ es) (o ∷ os) e h = ap (λ l. min d 255 ∷ l) (over-past es o
 
 -- ---- the fields that are left
 
--- es before the elements of a list, where there is one
-unfoldable pub before : List ℕ → Option (List ℕ) → Option (List ℕ)
-before es none = none
-before es (some l) = some (es ++ l)
+-- the elements of a list after es, where there is one
+unfoldable pub prefixed : List ℕ → Option (List ℕ) → Option (List ℕ)
+prefixed es none = none
+prefixed es (some l) = some (es ++ l)
 
 pub record Reads (l : List ℕ) (at from : ℕ) (es : List ℕ) : Type 0 where
-  pub left : numbers (fieldsFrom l at) ≡ before es (numbers (fieldsFrom l from))
+  pub left : numbers (fieldsFrom l at) ≡ prefixed es (numbers (fieldsFrom l from))
   pub led : leading (fieldsFrom l at) ≡ es ++ leading (fieldsFrom l from)
   pub few : length es ≤ from
 
@@ -69,10 +69,10 @@ fields-onward l from end = case (ltb end (length (drop (from + 1) l)))
 
 module _ (l : List ℕ) (at : ℕ) where
   pub reads-none : Reads l at at []
-  unfolding before
+  unfolding prefixed
   reads-none = record { left = go (numbers (fieldsFrom l at)); led = refl; few = omega arith }
     where
-      go : (o : Option (List ℕ)) → o ≡ before [] o
+      go : (o : Option (List ℕ)) → o ≡ prefixed [] o
       go none = refl
       go (some ns) = refl
 
@@ -107,27 +107,27 @@ module _ (l : List ℕ) (at : ℕ) where
 
       -- one field more
       pub reads-more : (n : ℕ) → some n ≡ number field → Reads l at (from + (end + 1)) (es ++ (n ∷ []))
-      unfolding before ahead onFirst
+      unfolding prefixed ahead onFirst
       reads-more n q = record {
-        left = R .left ∙ ap (before es) (rw (← q) at first-left) ∙ go (numbers (fieldsFrom l (from + (end + 1))));
+        left = R .left ∙ ap (prefixed es) (rw (← q) at first-left) ∙ go (numbers (fieldsFrom l (from + (end + 1))));
         led = R .led ∙ ap (λ ns. es ++ ns) (rw (← q) at first-led) ∙ sym (append-assoc es (n ∷ []) (leading (fieldsFrom l (from + (end + 1)))));
         few = rw length-append (omega (arith, R .few));
       }
         where
-          go : (o : Option (List ℕ)) → before es (ahead (some n) o) ≡ before (es ++ (n ∷ [])) o
+          go : (o : Option (List ℕ)) → prefixed es (ahead (some n) o) ≡ prefixed (es ++ (n ∷ [])) o
           go none = refl
           go (some ns) = ap some (sym (append-assoc es (n ∷ []) ns))
 
       -- one that is no number
       pub reads-bad : none ≡ number field → (anyNumber (λ es. ord es) (fieldsFrom l at) ≡ other) × (leading (fieldsFrom l at) ≡ es)
-      unfolding anyNumber before ahead onFirst
+      unfolding anyNumber prefixed ahead onFirst
       reads-bad q =
-          let z : numbers (fieldsFrom l at) ≡ none = R .left ∙ ap (before es) (rw (← q) at first-left) in
+          let z : numbers (fieldsFrom l at) ≡ none = R .left ∙ ap (prefixed es) (rw (← q) at first-left) in
           (rw z, R .led ∙ ap (λ ns. es ++ ns) (rw (← q) at first-led) ∙ append-nil es)
 
     -- none is left
     pub reads-all : length l ≤ from → (anyNumber (λ es. ord es) (fieldsFrom l at) ≡ ord es) × (leading (fieldsFrom l at) ≡ es)
-    unfolding anyNumber fieldsFrom before numbers leading
+    unfolding anyNumber fieldsFrom prefixed numbers leading
     reads-all h =
         let z : numbers (fieldsFrom l at) ≡ some es = R .left ∙ rw (le-ltb from (length l) h, append-nil) in
         (rw z, R .led ∙ rw (le-ltb from (length l) h, append-nil))

@@ -6,8 +6,8 @@ use mathlib.Core.List.{List, [], _∷_, List·Memᴰ as In, List·Memᴰ·head a
 use Prim.Native.Nat.{ℕ, zero, suc, _≤_, _<_}
 use native.Mathlib.Omega.{arith}
 use lib.ListN.{length, getD}
-use lib.Dec.{eqb}
-use borrow.Author.Tests.{eq-eqb, ne-eqb, eqb-true}
+use lib.Dec.{eqb, ltb}
+use borrow.Author.Tests.{eq-eqb, ne-eqb, eqb-true, eqb-false, lt-ltb, le-ltb, ltb-true, ltb-false}
 use Rattle.lists.specs.Lists.{any, range, indexOf, Pairwise, more, Permutation}
 use Rattle.lists.proofs.Tests.{contra, case}
 use Rattle.lists.proofs.Members.{any-some, any-in, getD-in}
@@ -31,6 +31,17 @@ unfolding indexOf
 indexOf-at [] i p h = absurd (omega arith)
 indexOf-at (d ∷ l) zero p h = rw (eq-eqb d d refl)
 indexOf-at (d ∷ l) (suc i) (more f p) h = rw (ne-eqb d (getD l i 0) (f (getD l i 0) (getD-in l i 0 (omega arith))), indexOf-at l i p (omega arith))
+
+-- a number stands in a list where its first place is in it
+pub indexOf-any : (l : List ℕ) (e : ℕ) → ltb (indexOf l e) (length l) ≡ any (eqb e) l
+unfolding indexOf
+indexOf-any [] e = le-ltb 0 0 (omega arith)
+indexOf-any (d ∷ l) e = case (eqb d e)
+    (λ p. rw (p, eq-eqb e d (sym (eqb-true d e p))) (lt-ltb 0 (suc (length l)) (omega arith)))
+    (λ p. rw (p, ne-eqb e d (λ q. eqb-false d e p (sym q))) (less (indexOf l e) (length l) ∙ indexOf-any l e))
+  where
+    less : (a b : ℕ) → ltb (suc a) (suc b) ≡ ltb a b
+    less a b = case (ltb a b) (λ p. rw p (lt-ltb (suc a) (suc b) (omega (arith, ltb-true a b p)))) (λ p. rw p (le-ltb (suc a) (suc b) (omega (arith, ltb-false a b p))))
 
 -- ---- permutations
 

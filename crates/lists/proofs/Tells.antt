@@ -3,11 +3,14 @@
 use mathlib.Core.Path.{_≡_, refl}
 use mathlib.Core.Logic.{_⊎_, inl, inr}
 use mathlib.Core.Bool.{Bool, true, false, not, _&&_, _||_}
+use mathlib.Core.List.{List, List·Memᴰ as In}
 use Prim.Native.Nat.{ℕ, _≤_, _<_}
 use native.Mathlib.Omega.{arith}
 use lib.Dec.{ltb, leb, eqb}
 use borrow.Author.Tests.{ltb-true, ltb-false, leb-true, leb-false, eqb-true, eqb-false}
+use Rattle.lists.specs.Lists.{any}
 use Rattle.lists.proofs.Tests.{contra, case}
+use Rattle.lists.proofs.Members.{any-some, any-in}
 
 pub record Tells (b : Bool) (P : Type 0) : Type 0 where
   pub yes : b ≡ true → P
@@ -50,3 +53,10 @@ tells-or {a = false} {b} {P} {Q} s t = record { yes = λ q. inr (t .yes q); no =
 pub tells-and : {a b : Bool} {P Q : Type 0} → Tells a P → Tells b Q → Tells (a && b) (P × Q)
 tells-and {a = true} s t = record { yes = λ q. (s .yes refl, t .yes q); no = λ q h. t .no q (h .1) }
 tells-and {a = false} s t = record { yes = λ q. contra q refl; no = λ q h. s .no refl (h .0) }
+
+-- some element of a list
+pub tells-any : (f : ℕ → Bool) (P : ℕ → Type 0) → ((e : ℕ) → Tells (f e) (P e)) → (es : List ℕ) → Tells (any f es) ((e : ℕ) × In e es × P e)
+tells-any f P t es = record {
+  yes = λ q. let (e, i, p) = any-some f es q in (e, i, t e .yes p);
+  no = λ q (e, i, p). contra (any-in f i (tells-true (t e) p)) q;
+}

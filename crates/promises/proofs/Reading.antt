@@ -10,11 +10,11 @@ use native.Mathlib.Omega.{arith}
 use lib.ListN.{length, getD}
 use lib.Dec.{ltb, leb, eqb}
 use borrow.Author.Tests.{eq-eqb}
-use Rattle.lists.specs.Lists.{pick, any}
+use Rattle.lists.specs.Lists.{pick}
 use Rattle.lists.proofs.Tests.{contra, case}
-use Rattle.lists.proofs.Members.{any-some, any-in, getD-in}
+use Rattle.lists.proofs.Members.{getD-in}
 use Rattle.lists.proofs.Distinct.{in-place}
-use Rattle.lists.proofs.Tells.{Tells, tells-true, tells-false, tells-lt, tells-le, tells-eq, tells-never, tells-always, tells-not, tells-or, tells-and}
+use Rattle.lists.proofs.Tells.{Tells, tells-true, tells-false, tells-lt, tells-le, tells-eq, tells-never, tells-always, tells-not, tells-or, tells-and, tells-any}
 use Rattle.promises.specs.Answer.{served, refused, Served, unless}
 use Rattle.promises.specs.Text.{Kind, mon, Part, go, Line, rig, ord, begins, continues, other, Monitor, monitors, latest, statesOf, eventsOf, product, decoded, unended, Outside, Cases, beginning, OfLatest, continuing, Twice, cases, Case1, Case2, Case3, Case16, Case4, Case5, Case6, Sound, AllSound, Readable, first, LineFault, Fault}
 use Rattle.promises.specs.Reading.{empty, isSome, leadsTo, moveBy, Tests, outside, testBeginning, ofLatest, testContinuing, repeats, tests, lineCase, readingFrom, reading}
@@ -77,12 +77,6 @@ tells-latest : (f : Monitor → Bool) (P : Monitor → Type 0) → ((m : Monitor
 unfolding ofLatest OfLatest
 tells-latest f P t none = tells-never
 tells-latest f P t (some m) = t m
-
-tells-any : (f : ℕ → Bool) (P : ℕ → Type 0) → ((e : ℕ) → Tells (f e) (P e)) → (es : List ℕ) → Tells (any f es) ((e : ℕ) × In e es × P e)
-tells-any f P t es = record {
-  yes = λ q. let (e, i, p) = any-some f es q in (e, i, t e .yes p);
-  no = λ q (e, i, p). contra (any-in f i (tells-true (t e) p)) q;
-}
 
 -- some number stands at two places
 tells-twice : (es : List ℕ) → Tells (repeats es) (Twice es)

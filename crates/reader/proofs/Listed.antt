@@ -11,9 +11,10 @@ use native.Mathlib.Numerals.{add-one}
 use lib.ListN.{length, getD, take, drop, length-map, drop-of-length-le}
 use lib.Seq.{take-at, drop-cons, length-take-le}
 use lib.Dec.{eqb, ltb, leb}
-use borrow.Author.Tests.{eq-eqb, ne-eqb, eqb-true, eqb-false, lt-ltb, le-ltb, ltb-true, ltb-false, le-leb, leb-false}
+use borrow.Author.Tests.{eq-eqb, ne-eqb, eqb-true, eqb-false, lt-ltb, le-ltb, le-leb, leb-false}
 use Rattle.lists.specs.Lists.{pick, any, indexOf}
 use Rattle.lists.proofs.Tests.{case, or-left, or-rest, split}
+use Rattle.lists.proofs.Permutations.{indexOf-any}
 use Rattle.promises.specs.Text.{Line, ord, eventsOf}
 use Rattle.promises.specs.Reading.{repeats, tests, lineCase}
 use Rattle.promises.specs.Calls.{notBelow, firstBad}
@@ -90,17 +91,6 @@ module _ (os : List ℕ) (n k : ℕ) (room : n ≤ length os) (q : k ≡ firstBa
   front-good h = sym front-test ∙ le-ltb k n h
 
 -- ---- repeats, byte by byte
-
--- a byte stands in a list where its first place is in it
-indexOf-any : (l : List ℕ) (e : ℕ) → ltb (indexOf l e) (length l) ≡ any (eqb e) l
-unfolding indexOf
-indexOf-any [] e = le-ltb 0 0 (omega arith)
-indexOf-any (d ∷ l) e = case (eqb d e)
-    (λ p. rw (p, eq-eqb e d (sym (eqb-true d e p))) (lt-ltb 0 (suc (length l)) (omega arith)))
-    (λ p. rw (p, ne-eqb e d (λ q. eqb-false d e p (sym q))) (less (indexOf l e) (length l) ∙ indexOf-any l e))
-  where
-    less : (a b : ℕ) → ltb (suc a) (suc b) ≡ ltb a b
-    less a b = case (ltb a b) (λ p. rw p (lt-ltb (suc a) (suc b) (omega (arith, ltb-true a b p)))) (λ p. rw p (le-ltb (suc a) (suc b) (omega (arith, ltb-false a b p))))
 
 module _ (l : List ℕ) (k : ℕ) where
   -- the bytes after k, as they are lent

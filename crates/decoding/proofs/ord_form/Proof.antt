@@ -16,14 +16,14 @@ use Rattle.decoding.proofs.ord_form.Statement.{statement}
 use Rattle.decoding.proofs.ord_form.Tie as tie
 
 -- what is read of the line l, and where it is written
-record Listed (l : List ℕ) (at : ℕ) (order₀ order : List ℕ) (count from : ℕ) : Type 0 where
+record SoFar (l : List ℕ) (at : ℕ) (order₀ order : List ℕ) (count from : ℕ) : Type 0 where
   numbers-are : List ℕ
   reads : Reads l at from numbers-are
   counted : count ≡ length numbers-are
   written : order ≡ over numbers-are order₀
 
 abbrev Inv-loop : tie.InvT-loop
-Inv-loop line at order₀ count₀ from₀ order count from = Listed line at order₀ order count from
+Inv-loop line at order₀ count₀ from₀ order count from = SoFar line at order₀ order count from
 
 abbrev μ-loop : tie.MeasureT-loop
 μ-loop line at order₀ count₀ from₀ order count from = length line - from
