@@ -1,2 +1,3 @@
--- The laws of decimal digits.
+-- The laws of decimal digits and of the powers of ten.
 pub mod Digits
+pub mod Powers

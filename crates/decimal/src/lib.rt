@@ -4,6 +4,51 @@ ghost use mathlib.Core.List.{_++_};
 ghost use Prim.Native.Nat.{_≤_};
 ghost use lib.ListN.{length, drop};
 ghost use Rattle.lists.specs.Decimal.{decimal};
+ghost use Rattle.decimal.specs.Powers.{powers};
+
+// The powers of ten that 64 bits hold. No other place has one.
+const POWERS: [u64; 20] = [
+    1,
+    10,
+    100,
+    1_000,
+    10_000,
+    100_000,
+    1_000_000,
+    10_000_000,
+    100_000_000,
+    1_000_000_000,
+    10_000_000_000,
+    100_000_000_000,
+    1_000_000_000_000,
+    10_000_000_000_000,
+    100_000_000_000_000,
+    1_000_000_000_000_000,
+    10_000_000_000_000_000,
+    100_000_000_000_000_000,
+    1_000_000_000_000_000_000,
+    10_000_000_000_000_000_000,
+];
+
+// The table: entry k, from 0, is ten to the power k.
+fn powers_of_ten() -> [u64; 20]
+    ensures { λ r. ⌜ r ≡ powers ⌝ }
+{
+    POWERS
+}
+
+// How many digits n has: a number below ten to the power k, and not below the power before, has k.
+fn count_digits(n: u64) -> usize
+    ensures { λ r. ⌜ r ≡ length (decimal n) ⌝ }
+{
+    let powers = powers_of_ten();
+    for k in 1..powers.len() {
+        if n < powers[k] {
+            return k;
+        }
+    }
+    powers.len()
+}
 
 // Writes the digits of n at the front of `out` and gives how many they are; the rest of `out` keeps its contents.
 // Twenty bytes are enough for every n.
@@ -12,11 +57,16 @@ pub fn write(n: u64, out: &mut [u8]) -> usize
     ensures { λ r. ⌜ r ≡ length (decimal n) ⌝ }
     ensures { λ _. ⌜ now (out .exit) ≡ decimal n ++ drop (length (decimal n)) (now (out .entry)) ⌝ }
 {
-    if n < 10 {
-        out[0] = 48 + n as u8;
-        return 1;
+    let digits = count_digits(n);
+    let powers = powers_of_ten();
+    let ten = powers[1];
+    let mut left = n;
+    let mut at = digits - 1;
+    while ten <= left {
+        out[at] = 48 + (left % ten) as u8;
+        at -= 1;
+        left /= ten;
     }
-    let at = write(n / 10, out);
-    out[at] = 48 + (n % 10) as u8;
-    at + 1
+    out[at] = 48 + left as u8;
+    digits
 }

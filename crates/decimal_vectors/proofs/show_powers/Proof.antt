@@ -11,20 +11,17 @@ Inv-loop power₀ power = 1 ≤ power
 abbrev μ-loop : tie.MeasureT-loop
 μ-loop power₀ power = 18446744073709551615 - power
 
+show-around-requires : tie.Need-show-around-requires Inv-loop μ-loop
+show-around-requires c κs = search needs
+
 loop-holds : tie.Need-loop-holds Inv-loop μ-loop
 loop-holds c = search needs
 
 mul-power : tie.Need-mul-power Inv-loop μ-loop
 mul-power c = search needs
 
-sub-show : tie.Need-sub-show Inv-loop μ-loop
-sub-show c = search needs
-
-show-requires : tie.Need-show-requires Inv-loop μ-loop
-show-requires c κs = search needs
-
-show-requires-2 : tie.Need-show-requires-2 Inv-loop μ-loop
-show-requires-2 c κs = search needs
+show-around-requires-2 : tie.Need-show-around-requires-2 Inv-loop μ-loop
+show-around-requires-2 c κs = search needs
 
 loop-less : tie.Need-loop-less Inv-loop μ-loop
 loop-less c = search needs
@@ -41,11 +38,10 @@ show-powers-spec =
     (tie.spec
     Inv-loop
     μ-loop
+    show-around-requires
     loop-holds
     mul-power
-    sub-show
-    show-requires
-    show-requires-2
+    show-around-requires-2
     loop-less
     loop-again
     returns)

@@ -1,0 +1,2 @@
+-- The definitions that the contracts of decimal cite.
+pub mod Powers
