@@ -143,6 +143,26 @@ fn scenarios(name: &str, t: &[u8], h: usize, list: usize, rng: &mut Random) {
     assert!(i == j && i == k);
 }
 
+/// Lines of a listing with the indices 0 to 999, again and again, each with h random events below `most`.
+fn lines(name: &str, count: usize, h: usize, most: u64, rng: &mut Random) {
+    let events: Vec<u8> = (0..count * h).map(|_| rng.below(most) as u8).collect();
+    let listed = |write: fn(u64, &[u8], &mut [u8]) -> usize, out: &mut [u8]| {
+        let mut end = 0;
+        for k in 0..count {
+            end += write(k as u64 % 1000, &events[k * h..(k + 1) * h], &mut out[end..]);
+        }
+        end
+    };
+    let [mut a, mut b, mut c] = [(); 3].map(|_| vec![0; count * (21 + 4 * h)]);
+    let [mut i, mut j, mut k] = [0; 3];
+    row(
+        name,
+        50,
+        &mut [&mut || i = listed(calls::line, &mut a), &mut || j = listed(plain::line, &mut b), &mut || k = listed(plain::c_line, &mut c)],
+    );
+    assert!(a[..i] == b[..j] && a[..i] == c[..k]);
+}
+
 fn shuffle(name: &str, n: u64, draws: Vec<u64>, array: bool) {
     let z = draws.len();
     let (mut scratch, mut a, mut b) = (vec![0; 2 * z], vec![0; z], vec![0; z]);
@@ -215,6 +235,10 @@ fn main() {
     let slow = slow_growth(6, &[32]);
     scenarios("20,000 scenarios of 1,000 events, sparse, P 192", &slow, 1000, 20_000, rng);
     scenarios("200,000 scenarios of 30 events, sparse, P 192", &slow, 30, 200_000, rng);
+    lines("10,000 lines of a listing, 30 events below 10", 10_000, 30, 10, rng);
+    lines("10,000 lines of a listing, 30 events below 16", 10_000, 30, 16, rng);
+    lines("1,000 lines of a listing, 1,000 events below 10", 1_000, 1_000, 10, rng);
+    lines("1,000 lines of a listing, 1,000 events below 16", 1_000, 1_000, 16, rng);
     let full = 1_000_000;
     shuffle("shuffle, all of 10^6, against an array", full, (0..full).map(|i| rng.from_to(i, full - 1)).collect(), true);
     shuffle("shuffle, all of 10^6, against a map", full, (0..full).map(|i| rng.from_to(i, full - 1)).collect(), false);

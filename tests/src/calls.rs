@@ -1,4 +1,5 @@
-//! Safe wrappers of the four C functions of include/wandukhai.h: slices are valid, non-null also when empty, and don't overlap.
+//! Safe wrappers of the four C functions of include/wandukhai.h, and of the line writer's in crate `line_capi`: slices are valid, non-null
+//! also when empty, and don't overlap.
 
 extern "C" {
     fn wandukhai_count(text: *const u8, text_len: usize, h: u64, cells: *mut u64, cells_len: usize, answer: *mut u64) -> u64;
@@ -33,6 +34,7 @@ extern "C" {
         out_len: usize,
         place: *mut u64,
     ) -> u64;
+    fn wandukhai_line(index: u64, events: *const u8, events_len: usize, out: *mut u8, out_len: usize) -> usize;
 }
 
 /// What a function returns and the words it writes beside. Scenarios, Index and Shuffle write one word: the second is 0.
@@ -83,4 +85,9 @@ pub fn shuffle(n: u64, draws: &[u64], scratch: &mut [u64], out: &mut [u64]) -> T
     told::<1>(|place| unsafe {
         wandukhai_shuffle(n, draws.as_ptr(), draws.len(), scratch.as_mut_ptr(), scratch.len(), out.as_mut_ptr(), out.len(), place)
     })
+}
+
+/// The length of the line that is written at the front of `out`, 0 where `out` is too short for every such line.
+pub fn line(index: u64, events: &[u8], out: &mut [u8]) -> usize {
+    unsafe { wandukhai_line(index, events.as_ptr(), events.len(), out.as_mut_ptr(), out.len()) }
 }

@@ -43,6 +43,12 @@ fn line(fields: &[Vec<u8>]) -> Vec<u8> {
     l
 }
 
+/// 'a line of the index and its events'
+pub fn scenario_line(index: u64, events: &[u8]) -> Vec<u8> {
+    let fields: Vec<Vec<u8>> = [index].into_iter().chain(events.iter().map(|&e| e as u64)).map(decimal).collect();
+    line(&fields)
+}
+
 /// 'one line `ask`, h, then a rig text': h and the text, unless the line is bad.
 fn asked(input: &[u8]) -> Option<(u64, &[u8])> {
     let end = input.iter().position(|&b| b == 10)?;
@@ -87,8 +93,7 @@ pub fn listing(input: &[u8]) -> Listing {
     walk(&pruned, pruned.start, horizon as usize, &mut vec![], &mut found);
     assert_eq!(found.len() as u64, n.min(LINES as u64), "the independent count of the sequences that are walked");
     for (i, events) in found.iter().enumerate() {
-        let fields: Vec<Vec<u8>> = [i as u64].into_iter().chain(events.iter().map(|&e| e as u64)).map(decimal).collect();
-        printed.extend(line(&fields));
+        printed.extend(scenario_line(i as u64, events));
     }
     let outcome = match n {
         0..=999 => Outcome::Fewer,

@@ -3,6 +3,7 @@
 use outside::brute::{sequences, Runs};
 use outside::calls::{self, Told};
 use outside::guarded::{bytes, noise_bytes, noise_words, words, Guarded};
+use outside::listing::scenario_line;
 use outside::model;
 use outside::random::Random;
 use outside::texts::{self, damage, from_state_0, lower_first, other_order, other_start, text, Shape};
@@ -18,6 +19,8 @@ struct Tally {
     begun: u64,
     /// How many random rigs were served whose events are not compared lower first.
     ordered: u64,
+    /// How many lines had too short an output, so that nothing is written.
+    short: u64,
 }
 
 impl Tally {
@@ -512,6 +515,42 @@ fn large(tally: &mut Tally, rng: &mut Random) {
     }
 }
 
+/// Compares one line of a listing, written to an output of `room` bytes.
+fn line(tally: &mut Tally, rng: &mut Random, index: u64, events: &[u8], room: usize) {
+    let (events, was) = (bytes(events, rng), noise_bytes(room, rng));
+    let (events0, mut now) = (events.clone(), was.clone());
+    let written = calls::line(index, events.lent(), now.lend());
+    let enough = room >= 21 + 4 * events.lent().len();
+    let want = if enough { scenario_line(index, events.lent()) } else { vec![] };
+    let mut out = was.lent().to_vec();
+    out[..want.len()].copy_from_slice(&want);
+    let wrong = (written != want.len())
+        .then(|| format!("told {written}, expected {}", want.len()))
+        .or(named("output", &now, &was, &out, 0))
+        .or(named("events", &events, &events0, events0.lent(), 0));
+    tally.short += u64::from(!enough);
+    tally.note("line", 0, wrong, || format!("index {index}, events {:?}, {room} bytes", events.lent()));
+}
+
+/// Lines of every index below 100,000, of the powers of ten and what stands one below and above each, of indices of every length, many of
+/// them with zeros inside, and with any bytes as events.
+fn lines(tally: &mut Tally, rng: &mut Random) {
+    let powers = (0..20).map(|k| 10u64.pow(k)).flat_map(|p| [p - 1, p, p + 1]);
+    for index in (0..100_000).chain(powers).chain([u64::MAX - 1, u64::MAX]) {
+        line(tally, rng, index, &[], 21);
+    }
+    line(tally, rng, 0, &(0..=255).collect::<Vec<u8>>(), 21 + 4 * 256);
+    for _ in 0..50_000 {
+        let (length, zeros) = (rng.from_to(1, 20) as u32, rng.below(11));
+        let digits = (0..length).fold(0u64, |n, _| n.wrapping_mul(10).wrapping_add(if rng.chance(zeros, 10) { 0 } else { rng.below(10) }));
+        let (h, most) = (*rng.pick(&[0, 1, 3, 30, 1000]), *rng.pick(&[10, 16, 256]));
+        let events: Vec<u8> = (0..rng.below(h + 1)).map(|_| rng.below(most) as u8).collect();
+        let need = 21 + 4 * events.len();
+        let room = about(rng, need);
+        line(tally, rng, digits, &events, room);
+    }
+}
+
 fn main() {
     let mut tally = Tally::default();
     let rng = &mut Random::seeded(20_261_115);
@@ -556,11 +595,13 @@ fn main() {
     shuffles(&mut tally, rng, 200_000);
     limits(&mut tally, rng);
     large(&mut tally, rng);
+    lines(&mut tally, rng);
     for (call, numbers) in [
         ("count", &[0u64, 1, 2, 3, 4, 5, 6, 7, 8, 9, 10, 16][..]),
         ("scenarios", &[0, 1, 2, 3, 4, 5, 6, 7, 8, 9, 10, 11, 12, 16]),
         ("index", &[0, 1, 2, 3, 4, 5, 6, 7, 8, 9, 10, 13, 14, 16]),
         ("shuffle", &[0, 8, 12, 15]),
+        ("line", &[0]),
     ] {
         for &number in numbers {
             assert!(tally.answers.contains_key(&(call, number)), "no {call} call is expected to answer {number}");
@@ -568,11 +609,13 @@ fn main() {
     }
     assert!(tally.begun > 1_000, "few rigs begin in another state than 0");
     assert!(tally.ordered > 1_000, "few rigs have another order of events than lower first");
+    assert!(tally.short > 1_000, "few lines have too short an output");
     for ((call, number), (times, wrong)) in &tally.answers {
         let answer = if *number == 0 { "served".into() } else { format!("refusal {number}") };
         println!("{call:20} {answer:12} {times:8} {wrong:8}");
     }
     println!("{} of the served rigs begin in another state than 0, {} have another order of events", tally.begun, tally.ordered);
+    println!("{} of the lines have too short an output", tally.short);
     println!("{} comparisons, {} differences", tally.comparisons, tally.differences);
     if tally.differences > 0 {
         std::process::exit(1);

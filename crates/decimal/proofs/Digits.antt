@@ -20,8 +20,8 @@ module _ (n at : ℕ) (last : suc at ≡ length (decimal n)) where
   last-later more = omega (arith, length-more n more, decimal-some (n / 10))
 
   module _ (out : List ℕ) (room : at < length out) where
-    -- it is the only one
-    pub only-put : n < 10 → set out at (48 + n) ≡ decimal n ++ drop (suc at) out
+    -- it is the only one, and stands first
+    pub only-put : n < 10 → set out 0 (48 + n) ≡ decimal n ++ drop (suc at) out
     only-put one =
         let q : at ≡ 0 = omega (arith, ap length (decimal-one n one)) in
         rw (q, decimal-one n one) (drop-put out 0 (48 + n) (omega arith))

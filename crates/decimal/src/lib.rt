@@ -67,6 +67,6 @@ pub fn write(n: u64, out: &mut [u8]) -> usize
         at -= 1;
         left /= ten;
     }
-    out[at] = 48 + left as u8;
+    out[0] = 48 + left as u8;
     digits
 }

@@ -1,11 +1,11 @@
-// The line writer for C: benchmarks and tests from outside reach it by this function, which no product has.
+// The line writer as a C function: benchmarks and tests from outside reach it by this one. The product has no such call.
 ghost use mathlib.Core.Path.{_≡_};
 ghost use mathlib.Core.List.{_++_};
 ghost use lib.ListN.{length, drop};
 ghost use Rattle.line_capi.specs.Room.{lineWithin};
 
-// Writes the line of an index and its events at the front of `out` and gives its length; 0, and nothing is written, where `out` has
-// fewer than 21 + 4 × events bytes. The rest of `out` keeps its contents.
+// Writes the line of an index and its events at the front of `out` and gives its length. Where `out` has fewer than 21 + 4 × events
+// bytes it gives 0 and writes nothing. The rest of `out` keeps its contents.
 #[no_mangle]
 pub extern "C" fn wandukhai_line(index: u64, events: &[u8], out: &mut [u8]) -> usize
     ensures { λ r. ⌜ r ≡ length (lineWithin index (now (events .entry)) (length (now (out .entry)))) ⌝ }
