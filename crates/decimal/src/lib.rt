@@ -6,7 +6,7 @@ ghost use lib.ListN.{length, drop};
 ghost use Rattle.lists.specs.Decimal.{decimal};
 ghost use Rattle.decimal.specs.Powers.{powers};
 
-// The powers of ten that 64 bits hold. No other place has one.
+// The powers of ten that 64 bits hold. The writer has no power from anywhere else.
 const POWERS: [u64; 20] = [
     1,
     10,
@@ -37,7 +37,8 @@ fn powers_of_ten() -> [u64; 20]
     POWERS
 }
 
-// How many digits n has: a number below ten to the power k, and not below the power before, has k.
+// How many digits n has: a number below ten to the power k, and not below the power before, has k. The table is copied before the loop,
+// since a constant that is indexed within it would be stored anew at each turn.
 fn count_digits(n: u64) -> usize
     ensures { λ r. ⌜ r ≡ length (decimal n) ⌝ }
 {
@@ -50,7 +51,7 @@ fn count_digits(n: u64) -> usize
     powers.len()
 }
 
-// Writes the digits of n at the front of `out` and gives how many they are; the rest of `out` keeps its contents.
+// Writes the digits of n at the front of `out`, the last one first, and gives how many they are; the rest of `out` keeps its contents.
 // Twenty bytes are enough for every n.
 pub fn write(n: u64, out: &mut [u8]) -> usize
     requires { ⌜ length (decimal n) ≤ length (now out) ⌝ }
