@@ -542,12 +542,12 @@ fn lines(tally: &mut Tally, rng: &mut Random) {
     line(tally, rng, 0, &(0..=255).collect::<Vec<u8>>(), 21 + 4 * 256);
     for _ in 0..50_000 {
         let (length, zeros) = (rng.from_to(1, 20) as u32, rng.below(11));
-        let digits = (0..length).fold(0u64, |n, _| n.wrapping_mul(10).wrapping_add(if rng.chance(zeros, 10) { 0 } else { rng.below(10) }));
+        let index = (0..length).fold(0u64, |n, _| n.wrapping_mul(10).wrapping_add(if rng.chance(zeros, 10) { 0 } else { rng.below(10) }));
         let (h, most) = (*rng.pick(&[0, 1, 3, 30, 1000]), *rng.pick(&[10, 16, 256]));
         let events: Vec<u8> = (0..rng.below(h + 1)).map(|_| rng.below(most) as u8).collect();
         let need = 21 + 4 * events.len();
         let room = about(rng, need);
-        line(tally, rng, digits, &events, room);
+        line(tally, rng, index, &events, room);
     }
 }
 
