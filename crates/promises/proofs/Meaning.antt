@@ -14,7 +14,7 @@ use Rattle.lists.proofs.Ordered.{indexOf-ordered}
 use Rattle.automaton.specs.Automaton as automaton
 use Rattle.automaton.specs.Automaton.{Automaton}
 use Rattle.automaton.specs.Joint.{idle, joint, sizes, jointState, Fit, EachAdmits}
-use Rattle.automaton.proofs.Joint.{joint-admits, joint-states, joint-events, joint-state, join-never}
+use Rattle.automaton.proofs.Joint.{joint-admits, joint-states, joint-events, joint-state, joint-never, admits-state}
 use Rattle.automaton.proofs.Counting.{carried-plain}
 use Rattle.promises.specs.Text.{Kind, mon, Part, go, Monitor, monitors, statesOf, startOf, product, eventsOf, orderOf, decoded, Readable, jointStates}
 use Rattle.promises.specs.Meaning.{Follows, Says, Admits, AllAdmit, CarriedOn, Belongs, Earlier}
@@ -24,11 +24,6 @@ use Rattle.promises.proofs.Lines.{Once, PartRanged, Kept, WellFormed, s
 use Rattle.promises.proofs.Reading.{moved, moves}
 
 -- ---- one monitor
-
-admits-state : (A : Automaton) (x : ℕ) (v : List ℕ) → automaton.Admits A x v → x < A .states
-unfolding automaton.Admits
-admits-state A x [] a = a
-admits-state A x (e ∷ v) a = a .0
 
 -- a sequence that some automaton admits is made of its events
 idle-admits : (A : Automaton) (x : ℕ) (v : List ℕ) → automaton.Admits A x v → automaton.Admits (idle (A .events)) 0 v
@@ -126,9 +121,9 @@ unfolding rigAutomaton linesAutomaton jointStates
 rig-states t = joint-states (orderOf (decoded t)) (standing (orderOf (decoded t)) (monitors (decoded t))) ∙ sizes-standing (orderOf (decoded t)) (monitors (decoded t))
 
 never-stops : (es : List ℕ) (ms : List Monitor) → ms ≢ [] → (x : ℕ) → joint es (standing es ms) .stop x ≡ false
-unfolding joint standing monitorOf
+unfolding standing monitorOf
 never-stops es [] full x = absurd (full refl)
-never-stops es (m ∷ ms) full x = join-never (monitorOf es m) (joint es (standing es ms)) (inl (λ s. refl)) x
+never-stops es (m ∷ ms) full x = joint-never es (standing es (m ∷ ms)) (record { of = monitorOf es m; state = startOf (m .kind) }) (here refl) (λ s. refl) x
 
 module _ (t : List ℕ) (r : Readable t) where
   well-formed : WellFormed (eventsOf (decoded t)) (monitors (decoded t))
