@@ -1,5 +1,5 @@
 -- Demand 2 holds of the four calls.
--- Why: no state of a rig may stop, so live is the greatest solution of equation (1), N is ext and unrank is trace (crate automaton); the calls
+-- Why: no state of an endless rig may stop, so live is the greatest solution of equation (1), N is ext and unrank is trace (crate automaton); the calls
 -- tell N, unrank and rank. Assumes nothing.
 use mathlib.Core.Path.{_≡_, sym, ap, _∙_, subst}
 use mathlib.Core.Logic.{_⊎_, inl, inr, _↔_, ⊎-elim}
@@ -26,21 +26,21 @@ use Rattle.promises.specs.Answer.{Answer, served, refused, Served, SaysN
 use Rattle.promises.specs.Text.{decoded, eventsOf, Readable, Case7, Case8, Case12, Case13}
 use Rattle.promises.specs.Rig.{rigAutomaton, start}
 use Rattle.promises.specs.Calls.{unlessAt, total, counted, count, scenarios, index}
-use Rattle.promises.specs.Demand2.{Traced, Traces, Demand2}
+use Rattle.promises.specs.Demand2.{Endless, Traced, Traces, Demand2}
 use Rattle.promises.specs.Generator.{generator}
-use Rattle.promises.proofs.Meaning.{rig-start, rig-never-stops, events-just, events-distinct, events-ordered}
+use Rattle.promises.proofs.Meaning.{rig-start, endless-never-stops, events-just, events-distinct, events-ordered}
 use Rattle.promises.proofs.Checks.{checked-list, counted-most, counted-on, says-none}
 use Rattle.promises.proofs.Answers.{count-is, scenarios-is, scenarios-told, served-below, block-written, index-good, index-none, index-of-scenario, served-none, list-none, shuffle-served, shuffled-is}
 
-module _ (t : List ℕ) (h : ℕ) (r : Readable t) (c7 : Case7 h → ⊥) (Φ : ℕ → Bool) (safe : Safe (rigAutomaton t) Φ) where
+module _ (t : List ℕ) (h : ℕ) (r : Readable t) (e : Endless t) (c7 : Case7 h → ⊥) (Φ : ℕ → Bool) (safe : Safe (rigAutomaton t) Φ) where
   start-safe : Φ (start t) ≡ live (rigAutomaton t) (start t)
-  start-safe = safe-live (rigAutomaton t) Φ (rig-never-stops t r) safe (start t) (rig-start t r)
+  start-safe = safe-live (rigAutomaton t) Φ (endless-never-stops t r e) safe (start t) (rig-start t r)
 
   -- there is no scenario exactly where the start is not safe
   pub total-unsafe : (total t h ≡ 0) ↔ (Φ (start t) ≡ false)
   unfolding total
   total-unsafe = (
-    λ z. case (Φ (start t)) (λ p. absurd (let l : 0 < N (rigAutomaton t) h (start t) = live-count (rigAutomaton t) (rig-never-stops t r) h (start t) (sym start-safe ∙ p) in omega arith)) (λ p. p),
+    λ z. case (Φ (start t)) (λ p. absurd (let l : 0 < N (rigAutomaton t) h (start t) = live-count (rigAutomaton t) (endless-never-stops t r e) h (start t) (sym start-safe ∙ p) in omega arith)) (λ p. p),
     λ p. N-dead (rigAutomaton t) h (start t) (sym start-safe ∙ p),
   )
 
@@ -50,18 +50,18 @@ module _ (t : List ℕ) (h : ℕ) (r : Readable t) (c7 : Case7 h → ⊥) (Φ : 
   module _ (p : Φ (start t) ≡ true) where
     pub total-traces : nb-traces (rigAutomaton t) Φ (start t) h ≡ total t h
     unfolding total
-    total-traces = nb-traces-is (rigAutomaton t) Φ (rig-never-stops t r) safe (start t) h p (rig-start t r)
+    total-traces = nb-traces-is (rigAutomaton t) Φ (endless-never-stops t r e) safe (start t) h p (rig-start t r)
 
     some-scenario : 1 ≤ total t h
     some-scenario = ⊎-elim (λ l. l) (λ l. contra p (total-unsafe .0 (omega arith))) (split 1 (total t h))
 
     trace-below : (i : ℕ) → i < total t h → trace (rigAutomaton t) Φ (start t) i h ≡ some (unrank (rigAutomaton t) h (start t) i)
     unfolding total
-    trace-below i l = trace-unranks (rigAutomaton t) Φ (rig-never-stops t r) safe (events-distinct t r) (start t) i h p (rig-start t r) l
+    trace-below i l = trace-unranks (rigAutomaton t) Φ (endless-never-stops t r e) safe (events-distinct t r) (start t) i h p (rig-start t r) l
 
     trace-beyond : (i : ℕ) → total t h ≤ i → trace (rigAutomaton t) Φ (start t) i h ≡ none
     unfolding total
-    trace-beyond i l = trace-refuses (rigAutomaton t) Φ (rig-never-stops t r) safe (start t) i h p (rig-start t r) l
+    trace-beyond i l = trace-refuses (rigAutomaton t) Φ (endless-never-stops t r e) safe (start t) i h p (rig-start t r) l
 
     module _ (lt : total t h < most) where
       bounded-by : (is cells out : List ℕ) → (Case8 t h cells → ⊥) → (Case12 h is out → ⊥)
@@ -135,6 +135,6 @@ demand-2 = record {
   traces = traces-said;
   inputs = events-just;
   compared = events-ordered;
-  safe-states = λ t r. (live (rigAutomaton t), live-safe (rigAutomaton t) (rig-never-stops t r));
+  safe-states = λ t r e. (live (rigAutomaton t), live-safe (rigAutomaton t) (endless-never-stops t r e));
   permuted = λ n ds scratch out v c8 c12. (([], shuffle-served n ds scratch out v c8 c12), shuffled-is n ds scratch out v c8 c12 ∙ sym (rndPermPrefix-shuffles ds));
 }

@@ -8,18 +8,19 @@ use Prim.Native.Nat.{ℕ, _<_}
 use native.Mathlib.Omega.{arith}
 use lib.ListN.{length, length-replicate}
 use Rattle.lists.specs.Lists.{range, indexOf}
+use Rattle.lists.proofs.Distinct.{in-place}
 use Rattle.automaton.specs.Joint.{both, join, idle, joint, sizes, jointState}
 use Rattle.automaton.specs.Pruning.{keep, prunedSet, size, passesFrom, passes, live}
 use Rattle.automaton.specs.Counting.{N}
 use Rattle.automaton.specs.Ranking.{choose, unrank, firstViolation}
-use Rattle.automaton.proofs.Counting.{scenarios-sound, stays-live, stays-events}
+use Rattle.automaton.proofs.Counting.{scenarios-length, scenarios-sound, stays-live, stays-events}
 use Rattle.automaton.proofs.Ranking.{index-belongs, firstViolation-none}
 use Rattle.promises.specs.Text.{onto, splitOn, init, lastOf, lines, unended, fields, digitsValue, number, ahead, numbers, same, field, endOr, end, one, two, three, oneOrTwo, anyNumber, form, decode, decoded, addPart, extended, monitorsFrom, monitors, statesOf, startOf, latest, product, eventsOf, reordered, orderFrom, orderOf, Readable, Fault, Case1}
 use Rattle.promises.specs.Answer.{served, refused, Served}
 use Rattle.promises.specs.Meaning.{Belongs, Earlier, Comes}
-use Rattle.promises.specs.Reading.{leadsTo, moveBy, testBeginning, ofLatest, testContinuing, tests, lineCase, readingFrom, reading}
-use Rattle.promises.specs.Rig.{nextOf, monitorOf, standing, linesAutomaton, linesStart, rigAutomaton, start}
-use Rattle.promises.specs.Examples.{A, B, A-from-1, A-exchanged, most-events, most-joint-states, Words, start-S, field-after-start, empty-start, A-ordered, ord-too-short, ord-not-below, ord-twice, ord-third, ord-first, ord-no-number, ord-alone, mon-without-S, last-line-unended, leading-zero, six-digits, empty-field, seventeen-events, five-digits, fifth-monitor, go-again-out-of-range, go-again, nothing, rig-alone, rig-later, go-before-mon, too-many-joint-states}
+use Rattle.promises.specs.Reading.{leadsTo, moveBy, marks, markedBy, testBeginning, ofLatest, testContinuing, tests, lineCase, readingFrom, reading}
+use Rattle.promises.specs.Rig.{nextOf, markedOf, monitorOf, standing, linesAutomaton, linesStart, rigAutomaton, start}
+use Rattle.promises.specs.Examples.{A, B, A-from-1, A-exchanged, most-events, most-joint-states, Words, closes, one-unmarked, both-marked, may-close, stop-without-state, field-after-stop, stop-before-mon, stop-S, stop-again, start-S, field-after-start, empty-start, A-ordered, ord-too-short, ord-not-below, ord-twice, ord-third, ord-first, ord-no-number, ord-alone, mon-without-S, last-line-unended, leading-zero, six-digits, empty-field, seventeen-events, five-digits, fifth-monitor, go-again-out-of-range, go-again, nothing, rig-alone, rig-later, go-before-mon, too-many-joint-states}
 use Rattle.promises.proofs.Reading.{reading-refuses, reading-serves}
 use Rattle.promises.proofs.Meaning.{text-belongs}
 use Rattle.promises.proofs.Answers.{belongs-listed}
@@ -30,6 +31,15 @@ record Readings : Type 0 where
   of-A-from-1 : reading A-from-1 ≡ served []
   of-A-exchanged : reading A-exchanged ≡ served []
   of-A-ordered : reading A-ordered ≡ served []
+  of-closes : reading closes ≡ served []
+  of-one-unmarked : reading one-unmarked ≡ served []
+  of-both-marked : reading both-marked ≡ served []
+  of-may-close : reading may-close ≡ served []
+  of-stop-without-state : reading stop-without-state ≡ refused 2 3
+  of-field-after-stop : reading field-after-stop ≡ refused 2 3
+  of-stop-before-mon : reading stop-before-mon ≡ refused 5 2
+  of-stop-S : reading stop-S ≡ refused 3 3
+  of-stop-again : reading stop-again ≡ refused 4 5
   of-most-events : reading most-events ≡ served []
   of-most-joint-states : reading most-joint-states ≡ served []
   of-start-S : reading start-S ≡ refused 3 2
@@ -59,13 +69,22 @@ record Readings : Type 0 where
   of-too-many-joint-states : reading too-many-joint-states ≡ refused 6 4
 
 readings : Readings
-unfolding reading readingFrom lineCase tests testBeginning testContinuing ofLatest moveBy leadsTo orElse decoded lines unended splitOn onto init lastOf decode fields form one two three oneOrTwo anyNumber field endOr end number numbers ahead digitsValue same monitors monitorsFrom extended addPart latest statesOf product eventsOf orderOf orderFrom reordered
+unfolding reading readingFrom lineCase tests testBeginning testContinuing ofLatest moveBy leadsTo markedBy marks orElse decoded lines unended splitOn onto init lastOf decode fields form one two three oneOrTwo anyNumber field endOr end number numbers ahead digitsValue same monitors monitorsFrom extended addPart latest statesOf product eventsOf orderOf orderFrom reordered
 readings = record {
   of-A = refl;
   of-B = refl;
   of-A-from-1 = refl;
   of-A-exchanged = refl;
   of-A-ordered = refl;
+  of-closes = refl;
+  of-one-unmarked = refl;
+  of-both-marked = refl;
+  of-may-close = refl;
+  of-stop-without-state = refl;
+  of-field-after-stop = refl;
+  of-stop-before-mon = refl;
+  of-stop-S = refl;
+  of-stop-again = refl;
   of-most-events = refl;
   of-most-joint-states = refl;
   of-start-S = refl;
@@ -109,8 +128,24 @@ record Scenarios-A : Type 0 where
   leaves-at-once : firstViolation (rigAutomaton A-from-1) (start A-from-1) (1 ∷ []) ≡ 0
 
 scenarios-A : Scenarios-A
-unfolding decoded lines unended splitOn onto init lastOf decode fields form one two three oneOrTwo anyNumber field endOr end number numbers ahead digitsValue same monitors monitorsFrom extended addPart latest statesOf product eventsOf orderOf orderFrom reordered startOf moveBy leadsTo orElse nextOf monitorOf standing linesAutomaton linesStart rigAutomaton start range both join idle joint sizes jointState keep prunedSet size passesFrom passes live N choose unrank firstViolation
+unfolding decoded lines unended splitOn onto init lastOf decode fields form one two three oneOrTwo anyNumber field endOr end number numbers ahead digitsValue same monitors monitorsFrom extended addPart latest statesOf product eventsOf orderOf orderFrom reordered startOf moveBy leadsTo markedBy marks orElse nextOf markedOf monitorOf standing linesAutomaton linesStart rigAutomaton start range both join idle joint sizes jointState keep prunedSet size passesFrom passes live N choose unrank firstViolation
 scenarios-A = record { four-below = omega arith; four-is = refl; leaves-at = refl; zero-below = omega arith; zero-is = refl; leaves-at-once = refl }
+
+-- where the depot closes, and where it may: index 0 at horizon 1, and where what follows it leaves the live states; two monitors, with both states marked and with one
+record Closing : Type 0 where
+  only-below : 0 < N (rigAutomaton closes) 1 (start closes)
+  only-is : unrank (rigAutomaton closes) 1 (start closes) 0 ≡ 0 ∷ []
+  none-then : N (rigAutomaton closes) 2 (start closes) ≡ 0
+  last-below : 0 < N (rigAutomaton may-close) 1 (start may-close)
+  last-is : unrank (rigAutomaton may-close) 1 (start may-close) 0 ≡ 0 ∷ []
+  leaves-then : firstViolation (rigAutomaton may-close) (start may-close) (0 ∷ 1 ∷ []) ≡ 1
+  both-below : 0 < N (rigAutomaton both-marked) 1 (start both-marked)
+  both-is : unrank (rigAutomaton both-marked) 1 (start both-marked) 0 ≡ 0 ∷ []
+  one-leaves : firstViolation (rigAutomaton one-unmarked) (start one-unmarked) (0 ∷ []) ≡ 0
+
+closing : Closing
+unfolding decoded lines unended splitOn onto init lastOf decode fields form one two three oneOrTwo anyNumber field endOr end number numbers ahead digitsValue same monitors monitorsFrom extended addPart latest statesOf product eventsOf orderOf orderFrom reordered startOf moveBy leadsTo markedBy marks orElse nextOf markedOf monitorOf standing linesAutomaton linesStart rigAutomaton start range both join idle joint sizes jointState keep prunedSet size passesFrom passes live N choose unrank firstViolation
+closing = record { only-below = omega arith; only-is = refl; none-then = refl; last-below = omega arith; last-is = refl; leaves-then = refl; both-below = omega arith; both-is = refl; one-leaves = refl }
 
 -- where the events stand in the order of A with `ord`, and without
 record Compared : Type 0 where
@@ -131,6 +166,9 @@ module _ (t : List ℕ) (r : Readable t) where
       let q : firstViolation (rigAutomaton t) (start t) w ≡ length w = firstViolation-none (rigAutomaton t) (start t) w (stays-live (rigAutomaton t) (start t) w s) (stays-events (rigAutomaton t) (start t) w s) .1 s in
       omega arith
 
+  none-of : (h : ℕ) → N (rigAutomaton t) h (start t) ≡ 0 → (w : List ℕ) → Belongs t h w → ⊥
+  none-of h q w b = let (p, l, e) = in-place [] (belongs-listed t h r w .0 b) in omega (arith, scenarios-length (rigAutomaton t) h (start t))
+
 -- the limit is met by 65,535 bytes: the other cases have a line as their place
 long-enough : (t : List ℕ) → length t ≡ 65535 → Fault t 1 0 → ⊥
 unfolding Fault Case1
@@ -147,6 +185,10 @@ words = record {
   readable-A-from-1 = readable A-from-1 (readings .of-A-from-1);
   readable-A-exchanged = readable A-exchanged (readings .of-A-exchanged);
   readable-A-ordered = readable A-ordered (readings .of-A-ordered);
+  readable-closes = readable closes (readings .of-closes);
+  readable-one-unmarked = readable one-unmarked (readings .of-one-unmarked);
+  readable-both-marked = readable both-marked (readings .of-both-marked);
+  readable-may-close = readable may-close (readings .of-may-close);
   readable-most-events = readable most-events (readings .of-most-events);
   readable-most-joint-states = readable most-joint-states (readings .of-most-joint-states);
   belongs = index-given A (readable A (readings .of-A)) 3 4 _ (scenarios-A .four-below) (scenarios-A .four-is);
@@ -155,6 +197,12 @@ words = record {
   not-belongs-from-1 = leaves A-from-1 (readable A-from-1 (readings .of-A-from-1)) (1 ∷ []) (omega (arith, scenarios-A .leaves-at-once));
   comes-by-ord = unfold Comes Earlier in inl (compared .by-ord);
   comes-lower-first = unfold Comes Earlier in inl (compared .lower-first);
+  belongs-closes = index-given closes (readable closes (readings .of-closes)) 1 0 _ (closing .only-below) (closing .only-is);
+  none-closed = none-of closes (readable closes (readings .of-closes)) 2 (closing .none-then);
+  belongs-closing = index-given may-close (readable may-close (readings .of-may-close)) 1 0 _ (closing .last-below) (closing .last-is);
+  not-belongs-closed = leaves may-close (readable may-close (readings .of-may-close)) (0 ∷ 1 ∷ []) (omega (arith, closing .leaves-then));
+  belongs-both = index-given both-marked (readable both-marked (readings .of-both-marked)) 1 0 _ (closing .both-below) (closing .both-is);
+  not-belongs-one = leaves one-unmarked (readable one-unmarked (readings .of-one-unmarked)) (0 ∷ []) (omega (arith, closing .one-leaves));
   fault-too-long = inl (omega (arith, length-replicate {A = ℕ} 65536 10), refl, refl);
   never-too-long = long-enough;
   fault-mon-without-S = reading-refuses mon-without-S 2 2 .0 (readings .of-mon-without-S);
@@ -177,6 +225,11 @@ words = record {
   fault-ord-alone = reading-refuses ord-alone 5 3 .0 (readings .of-ord-alone);
   fault-go-again-out-of-range = reading-refuses go-again-out-of-range 3 4 .0 (readings .of-go-again-out-of-range);
   fault-go-again = reading-refuses go-again 4 4 .0 (readings .of-go-again);
+  fault-stop-without-state = reading-refuses stop-without-state 2 3 .0 (readings .of-stop-without-state);
+  fault-field-after-stop = reading-refuses field-after-stop 2 3 .0 (readings .of-field-after-stop);
+  fault-stop-before-mon = reading-refuses stop-before-mon 5 2 .0 (readings .of-stop-before-mon);
+  fault-stop-S = reading-refuses stop-S 3 3 .0 (readings .of-stop-S);
+  fault-stop-again = reading-refuses stop-again 4 5 .0 (readings .of-stop-again);
   fault-nothing = reading-refuses nothing 5 1 .0 (readings .of-nothing);
   fault-rig-alone = reading-refuses rig-alone 5 2 .0 (readings .of-rig-alone);
   fault-rig-later = reading-refuses rig-later 5 2 .0 (readings .of-rig-later);

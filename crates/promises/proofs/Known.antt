@@ -1,9 +1,10 @@
 -- Small rigs whose count is known, and what the demands say there of any four calls.
 -- Why: a served count of the starred table shows that the text is readable, that the cells suffice, and N. Assumes nothing.
 use mathlib.Core.Path.{_≡_, refl, ap, _∙_, subst}
+use mathlib.Core.Logic.{_≢_}
 use mathlib.Core.Bool.{Bool, true, false}
 use mathlib.Core.Option.{orElse}
-use mathlib.Core.List.{List, [], _∷_, List·Memᴰ as In}
+use mathlib.Core.List.{List, [], _∷_, List·Memᴰ as In, List·Memᴰ·head as here, List·Memᴰ·tail as there, List·Memᴰ·not-nil}
 use Prim.Native.Nat.{ℕ, zero, suc, _+_, _*_, _^_, _≤_, _<_, min}
 use native.Mathlib.Omega.{arith}
 use native.Mathlib.Nat.{pow-zero, pow-suc}
@@ -18,13 +19,13 @@ use Rattle.automaton.specs.Pruning.{keep, prunedSet, size, passesFrom, passes, 
 use Rattle.automaton.specs.Counting.{N, most, cell}
 use Rattle.automaton.specs.Ranking.{choose, unrank}
 use Rattle.automaton.proofs.Counting.{N-dead}
-use Rattle.promises.specs.Text.{onto, splitOn, init, lastOf, lines, unended, fields, digitsValue, number, ahead, numbers, same, field, endOr, end, one, two, three, oneOrTwo, anyNumber, form, decode, decoded, addPart, extended, monitorsFrom, monitors, statesOf, startOf, latest, product, eventsOf, reordered, orderFrom, orderOf, jointStates, Case12}
-use Rattle.promises.specs.Reading.{leadsTo, moveBy, testBeginning, ofLatest, testContinuing, tests, lineCase, readingFrom, reading}
-use Rattle.promises.specs.Rig.{nextOf, monitorOf, standing, linesAutomaton, linesStart, rigAutomaton, start}
+use Rattle.promises.specs.Text.{onto, splitOn, init, lastOf, lines, unended, fields, digitsValue, number, ahead, numbers, same, field, endOr, end, one, two, three, oneOrTwo, anyNumber, form, decode, mon, go, stop, Line, rig, begins, continues, decoded, addPart, extended, monitorsFrom, monitors, statesOf, startOf, latest, product, eventsOf, reordered, orderFrom, orderOf, jointStates, Case12}
+use Rattle.promises.specs.Reading.{leadsTo, moveBy, marks, markedBy, testBeginning, ofLatest, testContinuing, tests, lineCase, readingFrom, reading}
+use Rattle.promises.specs.Rig.{nextOf, markedOf, monitorOf, standing, linesAutomaton, linesStart, rigAutomaton, start}
 use Rattle.promises.specs.Answer.{served, refused, Served}
 use Rattle.promises.specs.Calls.{rows, fills, sized, total, counted, count, scenarios}
 use Rattle.promises.specs.Demand3.{Calls, Whole, Demand}
-use Rattle.promises.specs.Demand2.{Traced, Demand2}
+use Rattle.promises.specs.Demand2.{Endless, Traced, Demand2}
 use Rattle.promises.specs.Refusals.{Sized}
 use Rattle.promises.specs.Examples.{A, B, A-ordered, one-state, full-cell}
 use Rattle.promises.specs.Starred.{lent}
@@ -33,6 +34,7 @@ use Rattle.promises.proofs.Answers.{listed-length, scenarioOf, scenario
 use Rattle.promises.proofs.Buffers.{length-rows, getD-rows, sized-passed, served-fills}
 use Rattle.promises.proofs.Demand2.{total-unsafe, total-traces}
 use Rattle.promises.proofs.Starred.{starred}
+use Rattle.promises.proofs.Stopping.{without-stop}
 
 -- ---- rigs on which the count is known
 
@@ -66,6 +68,27 @@ known-ordered = known A-ordered 3 (lent 8) 5 1 (starred .ordered)
 pub known-B : Known B 1 1 (lent 8)
 known-B = known B 1 (lent 8) 1 3 (starred .b-1)
 
+-- A has no `stop` line
+lines-A : decoded A ≡ rig 2 ∷ begins (mon 2 0) ∷ continues (go 0 0 0) ∷ continues (go 0 1 1) ∷ continues (go 1 0 0) ∷ []
+unfolding decoded lines splitOn onto init decode fields form one two three oneOrTwo anyNumber field endOr end number numbers ahead digitsValue same
+lines-A = refl
+
+pub endless-A : Endless A
+endless-A = without-stop A (known-A .fits .readable) (λ s i. none s (rw lines-A at i))
+  where
+    other-line : (s : ℕ) (l : Line) (ls : List Line) → continues (stop s) ≢ l → (In (continues (stop s)) ls → ⊥) → In (continues (stop s)) (l ∷ ls) → ⊥
+    other-line s l ls ne rest (here q) = ne q
+    other-line s l ls ne rest (there i) = rest i
+
+    none : (s : ℕ) → In (continues (stop s)) (rig 2 ∷ begins (mon 2 0) ∷ continues (go 0 0 0) ∷ continues (go 0 1 1) ∷ continues (go 1 0 0) ∷ []) → ⊥
+    none s =
+        other-line s _ _ (λ q. let z : _≡_ {A = ℕ} 0 1 = cc in omega arith)
+        (other-line s _ _ (λ q. let z : _≡_ {A = ℕ} 0 1 = cc in omega arith)
+        (other-line s _ _ (λ q. let z : _≡_ {A = ℕ} 0 1 = cc in omega arith)
+        (other-line s _ _ (λ q. let z : _≡_ {A = ℕ} 0 1 = cc in omega arith)
+        (other-line s _ _ (λ q. let z : _≡_ {A = ℕ} 0 1 = cc in omega arith)
+        List·Memᴰ·not-nil))))
+
 module _ (t : List ℕ) (h n : ℕ) (cells : List ℕ) (k : Known t h n cells) where
   -- what demand 3 says where n sequences belong
   pub whole : (C : Calls) → Demand C → (L : List (List ℕ)) × (length L ≡ n) × Whole C t h L
@@ -75,13 +98,13 @@ module _ (t : List ℕ) (h n : ℕ) (cells : List ℕ) (k : Known t h n cells) w
       (L, e, d .whole t h (k .fits .readable) (k .fits .horizon) L once all (rw e (k .some)) (rw e (k .few)))
 
   -- what demand 2 says there
-  pub traced : (C : Calls) → Demand2 C → (Φ : ℕ → Bool) × Traced C t h Φ
-  traced C d =
+  pub traced : Endless t → (C : Calls) → Demand2 C → (Φ : ℕ → Bool) × Traced C t h Φ
+  traced e C d =
       let r = k .fits .readable in
       let c7 = k .fits .horizon in
-      let (Φ, safe) = d .safe-states t r in
-      let on : Φ (start t) ≡ true = case (Φ (start t)) (λ p. p) (λ p. absurd (let z : total t h ≡ 0 = total-unsafe t h r c7 Φ safe .1 p in omega (arith, k .total-is, k .some))) in
-      (Φ, d .traces t h r c7 Φ safe .safe on (rw (total-traces t h r c7 Φ safe on, k .total-is) (k .few)))
+      let (Φ, safe) = d .safe-states t r e in
+      let on : Φ (start t) ≡ true = case (Φ (start t)) (λ p. p) (λ p. absurd (let z : total t h ≡ 0 = total-unsafe t h r e c7 Φ safe .1 p in omega (arith, k .total-is, k .some))) in
+      (Φ, d .traces t h r e c7 Φ safe .safe on (rw (total-traces t h r e c7 Φ safe on, k .total-is) (k .few)))
 
   pub some-total : 1 ≤ total t h
   some-total = rw (k .total-is) (k .some)
@@ -124,7 +147,7 @@ pub record Values : Type 0 where
   pub beside-1 : rigAutomaton full-cell .next 1 1 ≡ 1
 
 pub values : Values
-unfolding reading readingFrom lineCase tests testBeginning testContinuing ofLatest moveBy leadsTo orElse decoded lines unended splitOn onto init lastOf decode fields form one two three oneOrTwo anyNumber field endOr end number numbers ahead digitsValue same monitors monitorsFrom extended addPart latest statesOf product eventsOf orderOf orderFrom reordered startOf jointStates nextOf monitorOf standing linesAutomaton linesStart rigAutomaton start range both join idle joint sizes jointState keep prunedSet size passesFrom passes live N most choose unrank sized total counted count admitted without passWithin passesWithinFrom passesWithin
+unfolding reading readingFrom lineCase tests testBeginning testContinuing ofLatest moveBy leadsTo markedBy marks orElse decoded lines unended splitOn onto init lastOf decode fields form one two three oneOrTwo anyNumber field endOr end number numbers ahead digitsValue same monitors monitorsFrom extended addPart latest statesOf product eventsOf orderOf orderFrom reordered startOf jointStates nextOf markedOf monitorOf standing linesAutomaton linesStart rigAutomaton start range both join idle joint sizes jointState keep prunedSet size passesFrom passes live N most choose unrank sized total counted count admitted without passWithin passesWithinFrom passesWithin
 values = record {
   numbers-0 = refl;
   numbers-4 = refl;

@@ -13,6 +13,7 @@ pub mod Examples
 pub mod Starred
 pub mod Starts
 pub mod Ordering
+pub mod Stopping
 pub mod Refusals
 pub mod Buffers
 pub mod Shapes

@@ -20,7 +20,7 @@ use Rattle.lists.specs.Lists.{none, Permutation}
 use Rattle.lists.proofs.Tests.{split, ℕ-trichotomy}
 use Rattle.lists.proofs.Distinct.{once-distinct}
 use Rattle.lists.proofs.Permutations.{range-permutation, full-permutation}
-use Rattle.promises.specs.Text.{Kind, mon, Part, go, Line, rig, ord, begins, continues, other, Monitor, addPart, extended, monitorsFrom, monitors, statesOf, startOf, latest, product, eventsOf, reordered, orderFrom, orderOf, beginning, OfLatest, continuing, Twice, cases, Case2, Case3, Case16, Case4, Case5, Case6, Sound, AllSound, Readable, decoded}
+use Rattle.promises.specs.Text.{Kind, mon, Part, go, stop, Line, rig, ord, begins, continues, other, Monitor, addPart, extended, monitorsFrom, monitors, statesOf, startOf, latest, product, eventsOf, reordered, orderFrom, orderOf, beginning, OfLatest, continuing, Twice, cases, Case2, Case3, Case16, Case4, Case5, Case6, Sound, AllSound, Readable, decoded}
 
 -- ---- one line more
 
@@ -47,7 +47,7 @@ abbrev more-parts : Monitor → Part → Monitor
 more-parts m p = record { kind = m .kind; parts = m .parts ++ (p ∷ []) }
 
 -- a monitor after one more line of the latest is as it was, or it is the latest with that line
-in-addPart : (p : Part) (ms : List Monitor) (m : Monitor) → In m (addPart p ms)
+pub in-addPart : (p : Part) (ms : List Monitor) (m : Monitor) → In m (addPart p ms)
     → In m ms ⊎ ((k : Monitor) × (latest ms ≡ some k) × In k ms × (m ≡ more-parts k p))
 unfolding addPart latest
 in-addPart p [] m i = inl i
@@ -84,6 +84,7 @@ Ranged (mon S a) = (1 ≤ S) × (S ≤ 32) × (a < S)
 
 unfoldable pub PartRanged : ℕ → Kind → Part → Type 0
 PartRanged E k (go s e t) = (s < statesOf k) × (e < E) × (t < statesOf k)
+PartRanged E k (stop s) = s < statesOf k
 
 -- the lines ps have at most one f
 unfoldable pub Once : {A : Type 0} → (A → Part) → List Part → Type 0
@@ -135,6 +136,7 @@ module _ (ls : List Line) (m : Monitor) (q : latest (monitors ls) ≡ some m) wh
     within (suc e) (eventsOf ls) (λ l. h .ranged (rw q (inr (inl (omega arith))))),
     within (suc t) (statesOf (m .kind)) (λ l. h .ranged (rw q (inr (inr (omega arith))))),
   )
+  continued (stop s) h = within (suc s) (statesOf (m .kind)) (λ l. h .ranged (rw q (let k : statesOf (m .kind) ≤ s = omega arith in k)))
 
   new-move : (s e t : ℕ) → Sound ls (continues (go s e t)) → (u : ℕ) → In (go s e u) (m .parts) → ⊥
   unfolding Case4 cases continuing OfLatest
@@ -247,6 +249,7 @@ first-line (rig E) s = record {
 first-line (ord es) s = absurd (s .placed (λ q. omega arith))
 first-line (begins (mon S a)) s = absurd (s .placed refl)
 first-line (continues (go a b c)) s = absurd (s .placed (inl refl))
+first-line (continues (stop a)) s = absurd (s .placed (inl refl))
 first-line other s = absurd (s .formed tt)
 
 later-line : (l : Line) (ls : List Line) (k : Line) → Formed (l ∷ ls) → Sound (l ∷ ls) k → Formed ((l ∷ ls) ++ (k ∷ []))

@@ -7,19 +7,14 @@ use Prim.Native.Nat.{ℕ, suc, _≤_, _<_}
 use native.Mathlib.Omega.{arith}
 use lib.ListN.{length}
 use Rattle.promises.specs.Text.{Line, rig, ord, extended, monitorsFrom, monitors, eventsOf, decoded, Twice, cases, Case1, Case2, Case5, Case3, Case16, Case4, Case6, AllSound, LineFault, Fault}
-use Rattle.promises.specs.Meaning.{AllAdmit, CarriedOn, Belongs}
+use Rattle.promises.specs.Meaning.{AllAdmit, AllMayStop, CarriedOn, Belongs}
 use Rattle.promises.specs.Ordering.{Second, Ordering}
+use Rattle.promises.proofs.Reading.{bad-line}
 use Rattle.promises.proofs.Meaning.{order-permutes}
 use Rattle.promises.proofs.Order.{ord-second, order-listed}
 use Rattle.promises.proofs.Answers.{same-count}
 
 -- ---- refusals
-
--- a bad line after sound ones
-bad-line : (t : List ℕ) (front : List Line) (l : Line) (back : List Line) (n : ℕ) → (Case1 t → ⊥) → decoded t ≡ front ++ (l ∷ back) → AllSound [] front → LineFault front l n
-    → Fault t n (suc (length front))
-unfolding Fault
-bad-line t front l back n short q s f = inr (inl (short, (front, l, back, q, s, f, refl)))
 
 module _ (t : List ℕ) (E : ℕ) (es : List ℕ) (z : Second t E es) where
   first-sound : AllSound [] (rig E ∷ [])
@@ -70,7 +65,7 @@ module _ (t u : List ℕ) (E : ℕ) (es : List ℕ) (back : List Line) (p : deco
   same-monitors = rw (p, q)
 
   same-belong : (h : ℕ) (w : List ℕ) → Belongs t h w ↔ Belongs u h w
-  unfolding AllAdmit CarriedOn
+  unfolding AllAdmit AllMayStop CarriedOn
   same-belong h w = (
     λ b. record { long = b .long; admitted = rw same-monitors at (b .admitted); carried-on = λ k. rw same-monitors at (b .carried-on k) },
     λ b. record { long = b .long; admitted = rw same-monitors (b .admitted); carried-on = λ k. rw same-monitors (b .carried-on k) },

@@ -1,9 +1,9 @@
 -- Reading finds what the words say: it refuses with (n, p) exactly where Fault says so, and serves exactly the readable texts.
 -- Why: each test tells its case, line by line; after sound lines the search stands where the first bad line is. Assumes nothing.
 use mathlib.Core.Path.{_≡_, refl, sym, ap, _∙_, subst}
-use mathlib.Core.Logic.{_⊎_, inl, inr, _≢_, _↔_}
+use mathlib.Core.Logic.{_⊎_, inl, inr, _≢_, _↔_, ⊎-elim}
 use mathlib.Core.Bool.{Bool, not, _&&_}
-use mathlib.Core.List.{List, [], _∷_, _++_, append-nil, append-assoc, List·Memᴰ as In, List·Memᴰ·head as here, List·Memᴰ·tail as there}
+use mathlib.Core.List.{List, [], _∷_, _++_, append-nil, append-assoc, List·Memᴰ as In, List·Memᴰ·head as here, List·Memᴰ·tail as there, List·Memᴰ·not-nil}
 use mathlib.Core.Option.{Option, none, some, orElse, Option·none-ne-some}
 use Prim.Native.Nat.{ℕ, zero, suc, _*_, _≤_, _<_}
 use native.Mathlib.Omega.{arith}
@@ -16,8 +16,8 @@ use Rattle.lists.proofs.Members.{getD-in}
 use Rattle.lists.proofs.Distinct.{in-place}
 use Rattle.lists.proofs.Tells.{Tells, tells-true, tells-false, tells-lt, tells-le, tells-eq, tells-never, tells-always, tells-not, tells-or, tells-and, tells-any}
 use Rattle.promises.specs.Answer.{served, refused, Served, unless}
-use Rattle.promises.specs.Text.{Kind, mon, Part, go, Line, rig, ord, begins, continues, other, Monitor, monitors, latest, statesOf, eventsOf, product, decoded, unended, Outside, Cases, beginning, OfLatest, continuing, Twice, cases, Case1, Case2, Case3, Case16, Case4, Case5, Case6, Sound, AllSound, Readable, first, LineFault, Fault}
-use Rattle.promises.specs.Reading.{empty, isSome, leadsTo, moveBy, Tests, outside, testBeginning, ofLatest, testContinuing, repeats, tests, lineCase, readingFrom, reading}
+use Rattle.promises.specs.Text.{Kind, mon, Part, go, stop, Line, rig, ord, begins, continues, other, Monitor, monitors, latest, statesOf, eventsOf, product, decoded, unended, Outside, Cases, beginning, OfLatest, continuing, Twice, cases, Case1, Case2, Case3, Case16, Case4, Case5, Case6, Sound, AllSound, Readable, first, LineFault, Fault}
+use Rattle.promises.specs.Reading.{empty, isSome, leadsTo, moveBy, marks, markedBy, Tests, outside, testBeginning, ofLatest, testContinuing, repeats, tests, lineCase, readingFrom, reading}
 use Rattle.promises.proofs.Lines.{not-empty}
 
 -- ---- each test tells its case
@@ -46,6 +46,7 @@ leads-is s e (go a b c) u = (to, from)
         let y : b ≡ e = cc in
         let z : c ≡ u = cc in
         rw (x, y, z, eq-eqb s s refl, eq-eqb e e refl)
+leads-is s e (stop a) u = (λ q. absurd (Option·none-ne-some u q), λ q. let z : _≡_ {A = ℕ} 0 1 = cc in absurd (omega arith))
 
 -- the lines move where one of them does
 pub moved : (ps : List Part) (s e u : ℕ) → moveBy ps s e ≡ some u → In (go s e u) ps
@@ -72,6 +73,21 @@ tells-moves ps s e = step (moveBy ps s e) refl
     step : (o : Option ℕ) → moveBy ps s e ≡ o → Tells (isSome o) ((u : ℕ) × In (go s e u) ps)
     step none q = record { yes = λ t. contra t refl; no = λ t (u, i). let (v, r) = moves ps s e u i in Option·none-ne-some v (sym q ∙ r) }
     step (some u) q = record { yes = λ t. (u, moved ps s e u q); no = λ t h. contra refl t }
+
+-- a line that marks s is `stop` s
+marks-is : (s : ℕ) (p : Part) → Tells (marks s p) (stop s ≡ p)
+unfolding marks
+marks-is s (go a b c) = record { yes = λ q. contra q refl; no = λ q r. let z : _≡_ {A = ℕ} 0 1 = cc in omega arith }
+marks-is s (stop a) = record { yes = λ q. ap stop (sym (tells-eq a s .yes q)); no = λ q r. tells-eq a s .no q (let z : a ≡ s = cc in z) }
+
+pub tells-marked : (ps : List Part) (s : ℕ) → Tells (markedBy ps s) (In (stop s) ps)
+unfolding markedBy
+tells-marked [] s = record { yes = λ q. contra q refl; no = λ q i. List·Memᴰ·not-nil i }
+tells-marked (p ∷ ps) s = let t = tells-or (marks-is s p) (tells-marked ps s) in record { yes = λ q. ⊎-elim (λ r. here r) (λ i. there i) (t .yes q); no = λ q i. t .no q (where-in i) }
+  where
+    where-in : In (stop s) (p ∷ ps) → (stop s ≡ p) ⊎ In (stop s) ps
+    where-in (here r) = inl r
+    where-in (there i) = inr i
 
 tells-latest : (f : Monitor → Bool) (P : Monitor → Type 0) → ((m : Monitor) → Tells (f m) (P m)) → (m : Option Monitor) → Tells (ofLatest f m) (OfLatest P m)
 unfolding ofLatest OfLatest
@@ -153,6 +169,7 @@ told ls (continues (go s e t)) =
     told-continuing ls _ _ _ _
     (λ m. tells-or (tells-le (statesOf (m .kind)) s) (tells-or (tells-le (eventsOf ls) e) (tells-le (statesOf (m .kind)) t)))
     (λ m. tells-moves (m .parts) s e)
+told ls (continues (stop s)) = told-continuing ls _ _ _ _ (λ m. tells-le (statesOf (m .kind)) s) (λ m. tells-marked (m .parts) s)
 told ls other = record { misformed = tells-always; misplaced = tells-empty ls; out-of-range = tells-never; twice = tells-never; again = tells-never; too-many = tells-never }
 
 -- ---- one line
@@ -235,6 +252,12 @@ searched front (l ∷ back) = look (judged front l) (searched (front ++ (l ∷ [
     look (inl s) (inr (xs, k, ys, n, q, r, f)) = inr (l ∷ xs, k, ys, n, ap (λ b. l ∷ b) q, (s, r), subst (λ fr. LineFault fr k n) (append-assoc front (l ∷ []) xs) f)
 
 -- ---- the text
+
+-- a bad line after sound ones
+pub bad-line : (t : List ℕ) (front : List Line) (l : Line) (back : List Line) (n : ℕ) → (Case1 t → ⊥) → decoded t ≡ front ++ (l ∷ back) → AllSound [] front → LineFault front l n
+    → Fault t n (suc (length front))
+unfolding Fault
+bad-line t front l back n short q s f = inr (inl (short, (front, l, back, q, s, f, refl)))
 
 -- after the last line: is it ended, and is there a monitor?
 ended-reading : (ls : List Line) (tail : List ℕ) → AllSound [] ls

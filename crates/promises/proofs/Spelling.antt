@@ -17,7 +17,7 @@ use Rattle.lists.specs.Decimal.{decimal, value, valueFrom, Digit}
 use Rattle.lists.proofs.Tests.{contra, case, and-left, and-right, or-left, or-rest, split}
 use Rattle.lists.proofs.Tells.{Tells, tells-eq, tells-and}
 use Rattle.lists.proofs.Decimal.{decimal-one, decimal-digit, decimal-some, decimal-lead, decimal-value, value-decimal, decimal-short, decimal-long}
-use Rattle.promises.specs.Text.{splitOn, init, lastOf, lines, unended, fields, digitsValue, number, ahead, numbers, same, mon, go, Line, rig, ord, begins, continues, other, field, endOr, end, one, two, three, oneOrTwo, anyNumber, bytes, form, decode}
+use Rattle.promises.specs.Text.{splitOn, init, lastOf, lines, unended, fields, digitsValue, number, ahead, numbers, same, mon, go, stop, Line, rig, ord, begins, continues, other, field, endOr, end, one, two, three, oneOrTwo, anyNumber, bytes, form, decode}
 use Rattle.promises.specs.Spelling.{spelled, Small, SpelledAs, Spelled, joined, Spelling}
 use Rattle.promises.proofs.Pieces.{preceded, Free, splitOn-some, splitOn-joined, splitOn-free, splitOn-pieces, init-last, in-init, last-in}
 
@@ -241,7 +241,9 @@ form-spelled l v fs e k ne q =
     (λ x. let (a, b, c, g, s, r) = three-is k ne (λ s e t. continues (go s e t)) fs (rw (t, u, x) at q) in subst (λ k. Spelled k l) r (spelled-fields "go" (a ∷ b ∷ c ∷ []) l v fs e x g s))
     (λ x. case (same v (bytes "ord"))
     (λ y. let (ns, g, s, r) = numbers-are k ne (λ es. ord es) fs (rw (t, u, x, y) at q) in subst (λ k. Spelled k l) r (spelled-fields "ord" ns l v fs e y g s))
-    (λ y. absurd (ne (sym (rw (t, u, x, y) at q)))))))
+    (λ y. case (same v (bytes "stop"))
+    (λ z. let (a, g, s, r) = one-is k ne (λ s. continues (stop s)) fs (rw (t, u, x, y, z) at q) in subst (λ k. Spelled k l) r (spelled-fields "stop" (a ∷ []) l v fs e z g s))
+    (λ z. absurd (ne (sym (rw (t, u, x, y, z) at q))))))))
 
 spelled-decodes : (k : Line) (l : List ℕ) → Spelled k l → decode l ≡ k
 unfolding decode Spelled form same
@@ -250,6 +252,7 @@ spelled-decodes (ord es) l (q, s) = unfold anyNumber in rw (q, fields-spelled "o
 spelled-decodes (begins (mon S a)) l (inl (q, s)) = rw (q, fields-spelled "mon" (S ∷ a ∷ []) refl) (two-of-two-reads (λ S. begins (mon S 0)) (λ S a. begins (mon S a)) S a s)
 spelled-decodes (begins (mon S a)) l (inr (z, (q, s))) = rw (z, q, fields-spelled "mon" (S ∷ []) refl) (one-of-two-reads (λ S. begins (mon S 0)) (λ S a. begins (mon S a)) S s)
 spelled-decodes (continues (go a b c)) l (q, s) = rw (q, fields-spelled "go" (a ∷ b ∷ c ∷ []) refl) (three-reads (λ s e t. continues (go s e t)) a b c s)
+spelled-decodes (continues (stop a)) l (q, s) = rw (q, fields-spelled "stop" (a ∷ []) refl) (one-reads (λ s. continues (stop s)) a s)
 spelled-decodes other l never = absurd never
 
 pub spelling : Spelling

@@ -1,9 +1,10 @@
 -- A rig whose states are renumbered has the same scenarios, in the same order.
 -- Why: a monitor moves along the renumbered lines just as it did along its own, so the same sequences belong; and their list in order is one. Assumes nothing.
 use mathlib.Core.Path.{_≡_, refl, sym, ap, ap₂, _∙_, subst}
-use mathlib.Core.Logic.{_↔_}
+use mathlib.Core.Logic.{inl, inr, _↔_, ⊎-elim}
 use mathlib.Core.List.{List, [], _∷_, _++_, map, List·Memᴰ as In, List·Memᴰ·head as here, List·Memᴰ·tail as there, List·Memᴰ·not-nil, Memᴰ·map as map-in}
 use Prim.Native.Nat.{ℕ, _<_}
+use native.Mathlib.Omega.{arith}
 use lib.ListN.{getD}
 use lib.Dec.{eqb}
 use borrow.Author.Tests.{eq-eqb, eqb-true}
@@ -15,15 +16,15 @@ use Rattle.automaton.specs.Counting as counting
 use Rattle.automaton.proofs.Counting.{scenarios-ordered}
 use Rattle.automaton.proofs.Ranking.{unrank-at}
 use Rattle.promises.specs.Answer.{served}
-use Rattle.promises.specs.Text.{onto, splitOn, init, lines, fields, digitsValue, number, ahead, numbers, same, field, endOr, end, one, two, three, oneOrTwo, anyNumber, form, decode, Kind, mon, Part, go, Monitor, addPart, extended, monitorsFrom, monitors, decoded, startOf, orderOf, Readable, Case7, Case8}
-use Rattle.promises.specs.Meaning.{Follows, Says, Admits, AllAdmit, CarriedOn, Belongs, Earlier}
+use Rattle.promises.specs.Text.{onto, splitOn, init, lines, fields, digitsValue, number, ahead, numbers, same, field, endOr, end, one, two, three, oneOrTwo, anyNumber, form, decode, Kind, mon, Part, go, stop, Monitor, addPart, extended, monitorsFrom, monitors, decoded, startOf, orderOf, Readable, Case7, Case8}
+use Rattle.promises.specs.Meaning.{Leads, Says, Ends, Admits, MayStop, AllAdmit, AllMayStop, CarriedOn, Belongs, Earlier}
 use Rattle.promises.specs.Rig.{rigAutomaton, start}
 use Rattle.promises.specs.Calls.{total, count}
 use Rattle.promises.specs.Demand3.{Gives}
 use Rattle.promises.specs.Generator.{generator}
 use Rattle.promises.specs.Examples.{A-from-1, A-exchanged}
 use Rattle.promises.specs.Starts.{renumberedKind, renumberedPart, renumbered, Renumbered, Starts}
-use Rattle.promises.proofs.Meaning.{events-ordered}
+use Rattle.promises.proofs.Meaning.{all, events-ordered}
 use Rattle.promises.proofs.Order.{comes-lex, order}
 use Rattle.promises.proofs.Answers.{belongs-listed, scenarioOf, count-told, same-total, same-count}
 use Rattle.promises.proofs.Demand3.{gives-scenario, gives-only}
@@ -41,51 +42,85 @@ module _ (f : ℕ → ℕ) (injective : (s t : ℕ) → f s ≡ f t → s ≡ t)
           let a : x ≡ s = sym (injective s x cc) in
           let b : y ≡ e = cc in
           (z, subst (λ p. In p ps) (ap₂ (λ x y. go x y z) a b) j, cc)
+      back (stop x) j q =
+          let q′ : go (f s) e v ≡ stop (f x) = unfold renumberedPart in q in
+          let z : _≡_ {A = ℕ} 0 1 = cc in
+          absurd (omega arith)
 
-  follows : (ps : List Part) (s : ℕ) (w : List ℕ) → Follows ps s w ↔ Follows (map (renumberedPart f) ps) (f s) w
-  unfolding Follows renumberedPart
-  follows ps s [] = (λ a. tt, λ a. tt)
-  follows ps s (e ∷ w) = (
-    λ (t, i, a). (f t, map-in (renumberedPart f) i, follows ps t w .0 a),
-    λ (v, i, a). let (t, j, q) = move-back ps s e v i in (t, j, follows ps t w .1 (rw q at a)),
-  )
+  -- so is a mark
+  mark-back : (ps : List Part) (s : ℕ) → In (stop (f s)) (map (renumberedPart f) ps) → In (stop s) ps
+  mark-back ps s i = let (p, j, q) = in-map (renumberedPart f) ps i in back p j q
+    where
+      back : (p : Part) → In p ps → stop (f s) ≡ renumberedPart f p → In (stop s) ps
+      back (go x y z) j q =
+          let q′ : stop (f s) ≡ go (f x) y (f z) = unfold renumberedPart in q in
+          let z : _≡_ {A = ℕ} 0 1 = cc in
+          absurd (omega arith)
+      back (stop x) j q =
+          let q′ : stop (f s) ≡ stop (f x) = unfold renumberedPart in q in
+          subst (λ x. In (stop x) ps) (sym (injective s x cc)) j
+
+  leads-on : (ps : List Part) (s : ℕ) (w : List ℕ) (u : ℕ) → Leads ps s w u → Leads (map (renumberedPart f) ps) (f s) w (f u)
+  unfolding Leads renumberedPart
+  leads-on ps s [] u q = ap f q
+  leads-on ps s (e ∷ w) u (t, i, a) = (f t, map-in (renumberedPart f) i, leads-on ps t w u a)
+
+  leads-back : (ps : List Part) (s : ℕ) (w : List ℕ) (v : ℕ) → Leads (map (renumberedPart f) ps) (f s) w v → (u : ℕ) × Leads ps s w u × (v ≡ f u)
+  unfolding Leads
+  leads-back ps s [] v q = (s, refl, sym q)
+  leads-back ps s (e ∷ w) v (r, i, a) =
+      let (t, j, q) = move-back ps s e r i in
+      let (u, b, p) = leads-back ps t w v (rw q at a) in
+      (u, (t, j, b), p)
 
   -- one clause a kind
-  says : (k : Kind) (ps : List Part) (w : List ℕ) → Says k ps (startOf k) w ↔ Says (renumberedKind f k) (map (renumberedPart f) ps) (startOf (renumberedKind f k)) w
+  says : (w : List ℕ) (k : Kind) (ps : List Part) → Says k ps (startOf k) w ↔ Says (renumberedKind f k) (map (renumberedPart f) ps) (startOf (renumberedKind f k)) w
   unfolding Says startOf renumberedKind
-  says (mon S a) ps w = follows ps a w
+  says w (mon S a) ps = (λ (u, l). (f u, leads-on ps a w u l), λ (v, l). let (u, m, q) = leads-back ps a w v l in (u, m))
+
+  ends : (w : List ℕ) (k : Kind) (ps : List Part) → Ends k ps (startOf k) w ↔ Ends (renumberedKind f k) (map (renumberedPart f) ps) (startOf (renumberedKind f k)) w
+  unfolding Ends startOf renumberedKind renumberedPart
+  ends w (mon S a) ps = (
+    λ (u, l, i). (f u, leads-on ps a w u l, map-in (renumberedPart f) i),
+    λ (v, l, i). let (u, m, q) = leads-back ps a w v l in (u, m, mark-back ps u (rw q at i)),
+  )
 
 -- ---- all monitors
 
-AllOf : List Monitor → List ℕ → Type 0
-AllOf ms w = (m : Monitor) → In m ms → Admits m (startOf (m .kind)) w
-
-all-of : (ms ns : List Monitor) → Renumbered ms ns → (w : List ℕ) → AllOf ms w ↔ AllOf ns w
-unfolding Renumbered AllOf Admits
-all-of [] [] r w = (λ a. a, λ a. a)
-all-of [] (n ∷ ns) r w = absurd r
-all-of (m ∷ ms) [] r w = absurd r
-all-of (m ∷ ms) (n ∷ ns) ((f, injective, q), r) w = rw q (
-  λ a. first-rest (renumbered f m) ns (says f injective (m .kind) (m .parts) w .0 (a m (here refl))) (all-of ms ns r w .0 (λ k i. a k (there i))),
-  λ a. first-rest m ms (says f injective (m .kind) (m .parts) w .1 (a (renumbered f m) (here refl))) (all-of ms ns r w .1 (λ k i. a k (there i))),
-)
-  where
-    first-rest : (m : Monitor) (ms : List Monitor) → Admits m (startOf (m .kind)) w → AllOf ms w → AllOf (m ∷ ms) w
-    first-rest m ms a b k (here q) = rw q a
-    first-rest m ms a b k (there i) = b k i
+-- what holds of a monitor exactly when it holds of it renumbered, holds of all monitors exactly when it holds of all of them renumbered
+all-of : (Q : Monitor → Type 0) → ((f : ℕ → ℕ) → ((s t : ℕ) → f s ≡ f t → s ≡ t) → (m : Monitor) → Q m ↔ Q (renumbered f m))
+    → (ms ns : List Monitor) → Renumbered ms ns → ((m : Monitor) → In m ms → Q m) ↔ ((n : Monitor) → In n ns → Q n)
+unfolding Renumbered
+all-of Q same [] [] r = (λ a. a, λ a. a)
+all-of Q same [] (n ∷ ns) r = absurd r
+all-of Q same (m ∷ ms) [] r = absurd r
+all-of Q same (m ∷ ms) (n ∷ ns) ((f, injective, q), r) =
+    let (to, from) = same f injective m in
+    let (ts, fs) = all-of Q same ms ns r in
+    rw q (λ a. all Q (to (a m (here refl))) (ts (λ k i. a k (there i))), λ a. all Q (from (a (renumbered f m) (here refl))) (fs (λ k i. a k (there i))))
 
 -- ---- the text
 
 module _ (t u : List ℕ) (n : Renumbered (monitors (decoded t)) (monitors (decoded u))) where
   all-admit : (w : List ℕ) → AllAdmit t w ↔ AllAdmit u w
-  unfolding AllAdmit AllOf
-  all-admit w = all-of (monitors (decoded t)) (monitors (decoded u)) n w
+  unfolding AllAdmit Admits
+  all-admit w = all-of (λ m. Admits m (startOf (m .kind)) w) (λ f i m. says f i w (m .kind) (m .parts)) (monitors (decoded t)) (monitors (decoded u)) n
+
+  all-may-stop : (w : List ℕ) → AllMayStop t w ↔ AllMayStop u w
+  unfolding AllMayStop MayStop
+  all-may-stop w = all-of (λ m. MayStop m (startOf (m .kind)) w) (λ f i m. ends f i w (m .kind) (m .parts)) (monitors (decoded t)) (monitors (decoded u)) n
+
+  same-carried : (w : List ℕ) (k : ℕ) → CarriedOn t w k ↔ CarriedOn u w k
+  unfolding CarriedOn
+  same-carried w k = (
+    λ (v, a, c). (v, all-admit (w ++ v) .0 a, ⊎-elim (λ l. inl l) (λ (l, s). inr (l, all-may-stop (w ++ v) .0 s)) c),
+    λ (v, a, c). (v, all-admit (w ++ v) .1 a, ⊎-elim (λ l. inl l) (λ (l, s). inr (l, all-may-stop (w ++ v) .1 s)) c),
+  )
 
   same-belong : (h : ℕ) (w : List ℕ) → Belongs t h w ↔ Belongs u h w
-  unfolding CarriedOn
   same-belong h w = (
-    λ b. record { long = b .long; admitted = all-admit w .0 (b .admitted); carried-on = λ k. let (v, l, a) = b .carried-on k in (v, l, all-admit (w ++ v) .0 a) },
-    λ b. record { long = b .long; admitted = all-admit w .1 (b .admitted); carried-on = λ k. let (v, l, a) = b .carried-on k in (v, l, all-admit (w ++ v) .1 a) },
+    λ b. record { long = b .long; admitted = all-admit w .0 (b .admitted); carried-on = λ k. same-carried w k .0 (b .carried-on k) },
+    λ b. record { long = b .long; admitted = all-admit w .1 (b .admitted); carried-on = λ k. same-carried w k .1 (b .carried-on k) },
   )
 
   module _ (r : Readable t) (s : Readable u) (h : ℕ) where

@@ -40,7 +40,7 @@ use Rattle.promises.proofs.Answers.{served-none, refused-none, scenario
 use Rattle.promises.proofs.Buffers.{refused-serves}
 use Rattle.promises.proofs.Demand3.{demand-3}
 use Rattle.promises.proofs.Starred.{starred}
-use Rattle.promises.proofs.Known.{Known, known, told, count-sized, served-sized, known-A, known-B, known-ordered, whole, traced, some-total, few-total, scenario-0-long, zeros-served, values, full-total, full-row}
+use Rattle.promises.proofs.Known.{Known, known, told, count-sized, served-sized, known-A, known-B, endless-A, known-ordered, whole, traced, some-total, few-total, scenario-0-long, zeros-served, values, full-total, full-row}
 
 -- ---- what Scenarios writes
 
@@ -79,7 +79,7 @@ copies-rejected d = go (whole A 3 5 (lent 8) known-A copiesIndex0 d)
 settled : (C : Calls) → Demand2 C → (is o p : List ℕ) (n : ℕ) → (Case12 3 is o → ⊥) → (Case12 3 is p → ⊥) → n < length is
     → Served (C .scenarios A 3 is (lent 8) o) → Served (C .scenarios A 3 is (lent 8) p)
     → block 3 n (C .written A 3 is (lent 8) o) ≡ block 3 n (C .written A 3 is (lent 8) p)
-settled C d is o p n co cp l so sp = go (traced A 3 5 (lent 8) known-A C d)
+settled C d is o p n co cp l so sp = go (traced A 3 5 (lent 8) known-A endless-A C d)
   where
     go : (Φ : ℕ → Bool) × Traced C A 3 Φ → block 3 n (C .written A 3 is (lent 8) o) ≡ block 3 n (C .written A 3 is (lent 8) p)
     go (Φ, t) =

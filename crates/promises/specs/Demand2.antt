@@ -1,8 +1,10 @@
 -- Demand 2, stated of any four calls: counts, scenarios and indices are nb_traces and trace of source document 000 over its safe states, for the
 -- conjoint monitor of the text; the shuffle is the swapping of source document 001.
+--   Endless t          == some monitor of the text t has no marked state
 --   Traces C t h Φ     == the calls agree with nb_traces and trace, Φ telling the safe states
 --   Demand2 C          == demand 2
--- At a start that is not safe source document 000 has no generator: there 9 is said and nothing is compared. Assumes nothing.
+-- At a start that is not safe source document 000 has no generator: there 9 is said and nothing is compared. The rigs that are not endless 'are held to 01's
+-- definitions over these sets instead' (02 no. 4): those of Calls, which the contracts cite for every rig. Assumes nothing.
 use mathlib.Core.Path.{_≡_}
 use mathlib.Core.Logic.{_↔_}
 use mathlib.Core.Bool.{Bool, true, false}
@@ -15,10 +17,14 @@ use Rattle.automaton.specs.Counting.{most}
 use Rattle.automaton.specs.Source000.{Safe, nb-traces, trace}
 use Rattle.automaton.specs.Source001.{rndPermPrefix}
 use Rattle.promises.specs.Answer.{served, refused, Served, SaysNone}
-use Rattle.promises.specs.Text.{decoded, eventsOf, Readable, Case7, Case8, Case8·scratch, Case12, Case12·draws, Case13}
-use Rattle.promises.specs.Meaning.{Earlier}
+use Rattle.promises.specs.Text.{Monitor, monitors, decoded, statesOf, eventsOf, Readable, Case7, Case8, Case8·scratch, Case12, Case12·draws, Case13}
+use Rattle.promises.specs.Meaning.{MayStop, Earlier}
 use Rattle.promises.specs.Rig.{rigAutomaton, start}
 use Rattle.promises.specs.Demand3.{Calls, ValidDraws, block}
+
+-- 'Rigs in which some monitor has no marked state are still compared with source document 000' (02 no. 4): a state is marked if the monitor may stop in it
+unfoldable pub Endless : List ℕ → Type 0
+Endless t = (m : Monitor) × In m (monitors (decoded t)) × ((s : ℕ) → s < statesOf (m .kind) → MayStop m s [] → ⊥)
 
 module _ (C : Calls) where
   open Calls C using (count, scenarios, written, index, shuffle, shuffled)
@@ -50,11 +56,11 @@ module _ (C : Calls) where
 
   pub record Demand2 : Type 0 where
     -- for any Φ that is the greatest solution of equation (1); there is one
-    pub traces : (t : List ℕ) (h : ℕ) → Readable t → (Case7 h → ⊥) → (Φ : ℕ → Bool) → Safe (rigAutomaton t) Φ → Traces t h Φ
+    pub traces : (t : List ℕ) (h : ℕ) → Readable t → Endless t → (Case7 h → ⊥) → (Φ : ℕ → Bool) → Safe (rigAutomaton t) Φ → Traces t h Φ
     -- its inputs are the events, compared by the text's order: 'and so do .. the trace of the second demand' (02 no. 2)
     pub inputs : (t : List ℕ) → Readable t → (e : ℕ) → In e (rigAutomaton t .events) ↔ (e < eventsOf (decoded t))
     pub compared : (t : List ℕ) → Readable t → Pairwise (Earlier (decoded t)) (rigAutomaton t .events)
-    pub safe-states : (t : List ℕ) → Readable t → (Φ : ℕ → Bool) × Safe (rigAutomaton t) Φ
+    pub safe-states : (t : List ℕ) → Readable t → Endless t → (Φ : ℕ → Bool) × Safe (rigAutomaton t) Φ
     -- rndPermPrefix on the same draws; 01 also allows no draws and n 0, where it puts out nothing
     pub permuted : (n : ℕ) (ds scratch out : List ℕ) → ValidDraws n ds → (Case8·scratch ds scratch → ⊥) → (Case12·draws ds out → ⊥)
         → Served (shuffle n ds scratch out) × (take (length ds) (shuffled n ds scratch out) ≡ rndPermPrefix ds)

@@ -35,6 +35,24 @@ two-starts = bytes "rig\t1\nmon\t2\t1\nmon\t3\t2\n"
 abbrev pub A-ordered : List ℕ
 A-ordered = bytes "rig\t2\nord\t1\t0\nmon\t2\ngo\t0\t0\t0\ngo\t0\t1\t1\ngo\t1\t0\t0\n"
 
+-- ---- shifts that end (02 no. 4)
+
+-- one event, and then the depot is closed
+abbrev pub closes : List ℕ
+closes = bytes "rig\t1\nmon\t2\ngo\t0\t0\t1\nstop\t1\n"
+
+-- the same with a second monitor whose state is not marked: no joint state is stoppable
+abbrev pub one-unmarked : List ℕ
+one-unmarked = bytes "rig\t1\nmon\t2\ngo\t0\t0\t1\nstop\t1\nmon\t2\ngo\t0\t0\t1\n"
+
+-- and with that state marked too
+abbrev pub both-marked : List ℕ
+both-marked = bytes "rig\t1\nmon\t2\ngo\t0\t0\t1\nstop\t1\nmon\t2\nstop\t1\ngo\t0\t0\t1\n"
+
+-- event 0 closes the depot, event 1 goes on without end
+abbrev pub may-close : List ℕ
+may-close = bytes "rig\t2\nmon\t4\ngo\t0\t0\t1\ngo\t0\t1\t2\ngo\t2\t1\t2\nstop\t1\n"
+
 -- ---- the largest rigs
 
 -- 'E from 1 to 16'
@@ -137,6 +155,26 @@ go-again-out-of-range = bytes "rig\t1\nmon\t1\ngo\t0\t0\t0\ngo\t0\t0\t9\n"
 abbrev pub go-again : List ℕ
 go-again = bytes "rig\t1\nmon\t1\ngo\t0\t0\t0\ngo\t0\t0\t0\n"
 
+-- 2, place 3: `stop` with no state
+abbrev pub stop-without-state : List ℕ
+stop-without-state = bytes "rig\t1\nmon\t1\nstop\n"
+
+-- 2, place 3: a state is the last field
+abbrev pub field-after-stop : List ℕ
+field-after-stop = bytes "rig\t1\nmon\t1\nstop\t0\t0\n"
+
+-- 5, place 2: 'a `stop` before any `mon`', though out of range: 'on one line 2, 5, 3, 4, 6'
+abbrev pub stop-before-mon : List ℕ
+stop-before-mon = bytes "rig\t1\nstop\t9\n"
+
+-- 3, place 3: 'a state not below S'
+abbrev pub stop-S : List ℕ
+stop-S = bytes "rig\t1\nmon\t2\nstop\t2\n"
+
+-- 4, place 5: 'A state marked twice', a `go` between
+abbrev pub stop-again : List ℕ
+stop-again = bytes "rig\t1\nmon\t1\nstop\t0\ngo\t0\t0\t0\nstop\t0\n"
+
 -- 5, place 1: 'empty text, place 1'
 abbrev pub nothing : List ℕ
 nothing = []
@@ -167,6 +205,10 @@ pub record Words : Type 0 where
   pub readable-A-from-1 : Readable A-from-1
   pub readable-A-exchanged : Readable A-exchanged
   pub readable-A-ordered : Readable A-ordered
+  pub readable-closes : Readable closes
+  pub readable-one-unmarked : Readable one-unmarked
+  pub readable-both-marked : Readable both-marked
+  pub readable-may-close : Readable may-close
   pub readable-most-events : Readable most-events
   pub readable-most-joint-states : Readable most-joint-states
   -- A's scenario of index 4 belongs; '0 1 1' does not
@@ -178,6 +220,14 @@ pub record Words : Type 0 where
   -- with `ord` 1 0, event 1 is compared as the first; without it, as the second
   pub comes-by-ord : Comes A-ordered (1 ∷ 0 ∷ []) (0 ∷ 1 ∷ [])
   pub comes-lower-first : Comes A (0 ∷ 1 ∷ []) (1 ∷ 0 ∷ [])
+  -- the last event belongs where the depot may close after it, and nothing follows
+  pub belongs-closes : Belongs closes 1 (0 ∷ [])
+  pub none-closed : (w : List ℕ) → Belongs closes 2 w → ⊥
+  pub belongs-closing : Belongs may-close 1 (0 ∷ [])
+  pub not-belongs-closed : Belongs may-close 2 (0 ∷ 1 ∷ []) → ⊥
+  -- it may close if every monitor's state is marked
+  pub belongs-both : Belongs both-marked 1 (0 ∷ [])
+  pub not-belongs-one : Belongs one-unmarked 1 (0 ∷ []) → ⊥
   pub fault-too-long : Fault too-long 1 0
   -- 'At most 65,535 bytes.'
   pub never-too-long : (t : List ℕ) → length t ≡ 65535 → Fault t 1 0 → ⊥
@@ -201,6 +251,11 @@ pub record Words : Type 0 where
   pub fault-ord-alone : Fault ord-alone 5 3
   pub fault-go-again-out-of-range : Fault go-again-out-of-range 3 4
   pub fault-go-again : Fault go-again 4 4
+  pub fault-stop-without-state : Fault stop-without-state 2 3
+  pub fault-field-after-stop : Fault field-after-stop 2 3
+  pub fault-stop-before-mon : Fault stop-before-mon 5 2
+  pub fault-stop-S : Fault stop-S 3 3
+  pub fault-stop-again : Fault stop-again 4 5
   pub fault-nothing : Fault nothing 5 1
   pub fault-rig-alone : Fault rig-alone 5 2
   pub fault-rig-later : Fault rig-later 5 2

@@ -17,4 +17,5 @@ pub mod Examples
 pub mod Starred
 pub mod Starts
 pub mod Ordering
+pub mod Stopping
 pub mod Wrong

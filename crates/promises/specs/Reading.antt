@@ -1,11 +1,13 @@
 -- Reading a text: the first bad line, and the first case on it. What the reader's contract cites; that it agrees with the words of Text is a theorem.
 --   leadsTo s e p      == where the line p moves from s on e, if it does
 --   moveBy ps s e      == where the first of the lines ps that does so moves
+--   marks s p          == the line p marks the state s
+--   markedBy ps s      == one of the lines ps marks s
 --   repeats es         == some number stands twice in es
 --   tests ls l         == the cases 2, 5, 3, 16, 4 and 6 of the line l after the lines ls, as tests
 --   lineCase ls l      == the number of the first case that holds of l, 0 where none does
 --   reading t          == served where t is readable, else refused by a number from 1 to 6, or 16, and its place
--- A new line form is one clause of `tests`; a new Part also one of `leadsTo`. Assumes nothing.
+-- A new line form is one clause of `tests`; a new Part also one of `leadsTo` and one of `marks`. Assumes nothing.
 use mathlib.Core.Bool.{Bool, true, false, not, _&&_, _||_}
 use mathlib.Core.List.{List, [], _∷_, _++_}
 use mathlib.Core.Option.{Option, none, some, orElse}
@@ -14,7 +16,7 @@ use lib.ListN.{length}
 use lib.Dec.{ltb, leb, eqb}
 use Rattle.lists.specs.Lists.{pick, any}
 use Rattle.promises.specs.Answer.{Answer, served, unless}
-use Rattle.promises.specs.Text.{Kind, mon, Part, go, Line, rig, ord, begins, continues, other, Monitor, monitors, latest, statesOf, eventsOf, product, decoded, unended}
+use Rattle.promises.specs.Text.{Kind, mon, Part, go, stop, Line, rig, ord, begins, continues, other, Monitor, monitors, latest, statesOf, eventsOf, product, decoded, unended}
 
 abbrev pub empty : {A : Type 0} → List A → Bool
 empty [] = true
@@ -27,10 +29,20 @@ isSome (some a) = true
 -- '`go`, s, e, t: the latest monitor moves from s to t on event e'
 unfoldable pub leadsTo : ℕ → ℕ → Part → Option ℕ
 leadsTo s e (go a b c) = pick (eqb a s && eqb b e) (some c) none
+leadsTo s e (stop a) = none
 
 unfoldable pub moveBy : List Part → ℕ → ℕ → Option ℕ
 moveBy [] s e = none
 moveBy (p ∷ ps) s e = orElse (leadsTo s e p) (moveBy ps s e)
+
+-- '`stop`, s marks a state of the latest monitor' (02 no. 4)
+unfoldable pub marks : ℕ → Part → Bool
+marks s (go a b c) = false
+marks s (stop a) = eqb a s
+
+unfoldable pub markedBy : List Part → ℕ → Bool
+markedBy [] s = false
+markedBy (p ∷ ps) s = marks s p || markedBy ps s
 
 pub record Tests : Type 0 where
   pub misformed : Bool
@@ -89,6 +101,7 @@ tests ls (continues (go s e t)) =
     testContinuing ls
     (λ m. leb (statesOf (m .kind)) s || (leb (eventsOf ls) e || leb (statesOf (m .kind)) t))
     (λ m. isSome (moveBy (m .parts) s e))
+tests ls (continues (stop s)) = testContinuing ls (λ m. leb (statesOf (m .kind)) s) (λ m. markedBy (m .parts) s)
 tests ls other = record { misformed = true; misplaced = empty ls; out-of-range = false; twice = false; again = false; too-many = false }
 
 -- 'on one line 2, 5, 3, 4, 6'; 16 'tested after 3' (02 no. 2)

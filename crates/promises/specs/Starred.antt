@@ -7,7 +7,7 @@ use lib.ListN.{replicate}
 use Rattle.promises.specs.Answer.{served, refused}
 use Rattle.promises.specs.Rig.{start}
 use Rattle.promises.specs.Calls.{count, scenarios, written, index, shuffle, shuffled}
-use Rattle.promises.specs.Examples.{A, B, A-from-1, A-exchanged, two-starts, A-ordered}
+use Rattle.promises.specs.Examples.{A, B, A-from-1, A-exchanged, two-starts, A-ordered, closes, one-unmarked, both-marked, may-close}
 
 -- n numbers to lend
 abbrev pub lent : ℕ → List ℕ
@@ -44,3 +44,14 @@ pub record Starred : Type 0 where
   pub ordered : count A-ordered 3 (lent 8) ≡ served (5 ∷ 1 ∷ [])
   pub ordered-bytes : written A-ordered 3 (0 ∷ 1 ∷ 4 ∷ []) (lent 8) (lent 9) ≡ 1 ∷ 0 ∷ 1 ∷ 1 ∷ 0 ∷ 0 ∷ 0 ∷ 0 ∷ 0 ∷ []
   pub ordered-index : index A-ordered (0 ∷ 1 ∷ 0 ∷ []) (lent 8) ≡ served (2 ∷ [])
+  -- 02 no. 4. 'so 9 depends on the horizon'
+  pub closes-0 : count closes 0 (lent 8) ≡ served (1 ∷ 1 ∷ [])
+  pub closes-1 : count closes 1 (lent 8) ≡ served (1 ∷ 1 ∷ [])
+  pub closes-2 : count closes 2 (lent 8) ≡ refused 9 0
+  -- 'A joint state is stoppable if every monitor's state is marked.'
+  pub both-1 : count both-marked 1 (lent 8) ≡ served (1 ∷ 2 ∷ [])
+  pub one-1 : count one-unmarked 1 (lent 8) ≡ refused 9 0
+  -- either event, then event 1 alone; 14 has the place of the first event to a state not live, though no scenario goes on after the event before it
+  pub may-close-1 : count may-close 1 (lent 8) ≡ served (2 ∷ 2 ∷ [])
+  pub may-close-2 : count may-close 2 (lent 12) ≡ served (1 ∷ 2 ∷ [])
+  pub may-close-index : index may-close (0 ∷ 1 ∷ []) (lent 12) ≡ refused 14 1

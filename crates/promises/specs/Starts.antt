@@ -9,7 +9,7 @@ use mathlib.Core.Logic.{_↔_}
 use mathlib.Core.List.{List, [], _∷_, map, List·Memᴰ as In}
 use Prim.Native.Nat.{ℕ, _<_}
 use Rattle.promises.specs.Answer.{served}
-use Rattle.promises.specs.Text.{Kind, mon, Part, go, Monitor, monitors, decoded, startOf, orderOf, Readable, Case7, Case8}
+use Rattle.promises.specs.Text.{Kind, mon, Part, go, stop, Monitor, monitors, decoded, startOf, orderOf, Readable, Case7, Case8}
 use Rattle.promises.specs.Meaning.{Belongs}
 use Rattle.promises.specs.Demand3.{Gives}
 use Rattle.promises.specs.Calls.{count}
@@ -21,6 +21,7 @@ renumberedKind f (mon S a) = mon S (f a)
 
 unfoldable pub renumberedPart : (ℕ → ℕ) → Part → Part
 renumberedPart f (go s e t) = go (f s) e (f t)
+renumberedPart f (stop s) = stop (f s)
 
 abbrev pub renumbered : (ℕ → ℕ) → Monitor → Monitor
 renumbered f m = record { kind = renumberedKind f (m .kind); parts = map (renumberedPart f) (m .parts) }

@@ -99,6 +99,7 @@ pub data Kind : Type 0 where
 -- a line of 'the latest monitor'
 pub data Part : Type 0 where
   go : ℕ → ℕ → ℕ → Part  -- `go`, s, e, t
+  stop : ℕ → Part  -- `stop`, s, which 'marks a state' (02 no. 4)
 
 pub data Line : Type 0 where
   rig : ℕ → Line  -- `rig`, E
@@ -159,7 +160,8 @@ form (w ∷ fs) =
     (pick (same w (bytes "mon")) (oneOrTwo (λ S. begins (mon S 0)) (λ S a. begins (mon S a)) fs)
     (pick (same w (bytes "go")) (three (λ s e t. continues (go s e t)) fs)
     (pick (same w (bytes "ord")) (anyNumber (λ es. ord es) fs)
-    other)))
+    (pick (same w (bytes "stop")) (one (λ s. continues (stop s)) fs)
+    other))))
 
 unfoldable pub decode : List ℕ → Line
 decode l = form (fields l)
@@ -243,10 +245,10 @@ orderOf ls = orderFrom [] ls
 
 pub record Cases : Type 1 where
   pub misformed : Type 0  -- 2, 'no such line form; a field that isn't a number as above'; `ord`, 'the wrong number of fields'
-  pub misplaced : Type 0  -- 5, 'first line not `rig`; `rig` later; `go` before `mon`'; `ord` 'elsewhere'
+  pub misplaced : Type 0  -- 5, 'first line not `rig`; `rig` later; `go` before `mon`'; `ord` 'elsewhere'; 'a `stop` before any `mon`'
   pub out-of-range : Type 0  -- 3, 'a number out of its range, or a fifth `mon`'
   pub twice : Type 0  -- 16, 'an event named twice in `ord`'
-  pub again : Type 0  -- 4, 's and e again in one monitor'
+  pub again : Type 0  -- 4, 's and e again in one monitor'; 'A state marked twice'
   pub too-many : Type 0  -- 6, 'P over 1,024'
 
 -- n is not 'from lo to hi'
@@ -304,6 +306,8 @@ cases ls (continues (go s e t)) =
     continuing ls
     (λ m. (statesOf (m .kind) ≤ s) ⊎ ((eventsOf ls ≤ e) ⊎ (statesOf (m .kind) ≤ t)))
     (λ m. (u : ℕ) × In (go s e u) (m .parts))
+-- 'A state marked twice is 4, a state not below S is 3, a `stop` before any `mon` is 5.' (02 no. 4)
+cases ls (continues (stop s)) = continuing ls (λ m. statesOf (m .kind) ≤ s) (λ m. In (stop s) (m .parts))
 cases ls other = record { misformed = Unit {0}; misplaced = ls ≡ []; out-of-range = ⊥; twice = ⊥; again = ⊥; too-many = ⊥ }
 
 unfoldable pub Case2 : List Line → Line → Type 0

@@ -1,0 +1,131 @@
+-- What a `stop` line is, and what it changes.
+-- Why: its cases are those of the line; where a run may stop no further event is needed; a monitor has the further lines that the text has, so without a
+-- `stop` line no state is marked, and then no joint state may stop. Assumes nothing.
+use mathlib.Core.Path.{_≡_, refl, ap, subst}
+use mathlib.Core.Logic.{_⊎_, inl, inr, _≢_, _↔_, ⊎-elim}
+use mathlib.Core.List.{List, [], _∷_, _++_, append-nil, List·Memᴰ as In, List·Memᴰ·head as here, List·Memᴰ·tail as there, List·Memᴰ·append-cases as in-append, List·Memᴰ·not-nil, List·Memᴰ·eq-of-singleton}
+use mathlib.Core.Option.{some, Option·none-ne-some}
+use Prim.Native.Nat.{ℕ, zero, suc, _≤_, _<_}
+use native.Mathlib.Omega.{arith}
+use lib.ListN.{length}
+use Rattle.automaton.specs.Counting.{N}
+use Rattle.automaton.proofs.Counting.{live-count, scenarios-sound, stays-live, carried-plain}
+use Rattle.automaton.proofs.Ranking.{index-belongs}
+use Rattle.promises.specs.Text.{Kind, mon, Part, stop, Line, rig, ord, begins, continues, other, Monitor, extended, monitorsFrom, monitors, latest, statesOf, OfLatest, continuing, cases, Case1, Case2, Case5, Case3, Case16, Case4, AllSound, LineFault, Readable, Fault, decoded}
+use Rattle.promises.specs.Meaning.{Ends, MayStop, AllAdmit, AllMayStop, CarriedOn, Belongs}
+use Rattle.promises.specs.Rig.{rigAutomaton, start}
+use Rattle.promises.specs.Demand2.{Endless}
+use Rattle.promises.specs.Stopping.{Stopping}
+use Rattle.promises.proofs.Lines.{in-addPart}
+use Rattle.promises.proofs.Reading.{bad-line}
+use Rattle.promises.proofs.Meaning.{text-admits, text-carried, text-belongs, endless-never-stops}
+use Rattle.promises.proofs.Answers.{belongs-listed}
+use Rattle.promises.proofs.Examples.{words}
+
+-- ---- refusals
+
+module _ (t : List ℕ) (front : List Line) (s : ℕ) (back : List Line) (short : Case1 t → ⊥) (q : decoded t ≡ front ++ (continues (stop s) ∷ back)) (sound : AllSound [] front) where
+  bad-stop : (n : ℕ) → LineFault front (continues (stop s)) n → Fault t n (suc (length front))
+  bad-stop n f = bad-line t front (continues (stop s)) back n short q sound f
+
+  formed : Case2 front (continues (stop s)) → ⊥
+  unfolding Case2 cases continuing
+  formed h = h
+
+  before-mon : monitors front ≡ [] → Fault t 5 (suc (length front))
+  unfolding LineFault Case5 cases continuing
+  before-mon none = bad-stop 5 (inr (formed, inl (inr none, refl)))
+
+  module _ (m : Monitor) (last : latest (monitors front) ≡ some m) where
+    placed : Case5 front (continues (stop s)) → ⊥
+    unfolding Case5 cases continuing monitors monitorsFrom latest
+    placed (inl none) = Option·none-ne-some m (rw none at last)
+    placed (inr none) = Option·none-ne-some m (rw none at last)
+
+    not-below : statesOf (m .kind) ≤ s → Fault t 3 (suc (length front))
+    unfolding LineFault Case3 cases continuing OfLatest
+    not-below h = bad-stop 3 (inr (formed, inr (placed, inl (rw last h, refl))))
+
+    marked-twice : s < statesOf (m .kind) → In (stop s) (m .parts) → Fault t 4 (suc (length front))
+    unfolding LineFault Case3 Case16 Case4 cases continuing OfLatest
+    marked-twice h i = bad-stop 4 (inr (formed, inr (placed, inr (λ k. below (rw last at k), inr (λ k. k, inl (rw last i, refl))))))
+      where
+        below : statesOf (m .kind) ≤ s → ⊥
+        below k = omega arith
+
+-- ---- what belongs
+
+to-stoppable : (t w : List ℕ) → AllAdmit t w → AllMayStop t w → Belongs t (length w) w
+unfolding CarriedOn
+to-stoppable t w a s = record { long = refl; admitted = a; carried-on = on }
+  where
+    on : (k : ℕ) → CarriedOn t w k
+    on zero = ([], rw append-nil a, inl refl)
+    on (suc k) = ([], rw append-nil a, inr (omega arith, rw append-nil s))
+
+-- a further line of a monitor is a line of the text, or it was there before
+parts-from : (ms : List Monitor) (ls : List Line) (m : Monitor) (p : Part) → In m (monitorsFrom ms ls) → In p (m .parts) → ((k : Monitor) × In k ms × In p (k .parts)) ⊎ In (continues p) ls
+unfolding monitorsFrom extended
+parts-from ms [] m p i j = inl (m, i, j)
+parts-from ms (l ∷ ls) m p i j = ⊎-elim (λ (k, a, b). before l k a b) (λ a. inr (there a)) (parts-from (extended ms l) ls m p i j)
+  where
+    before : (l : Line) (k : Monitor) → In k (extended ms l) → In p (k .parts) → ((k : Monitor) × In k ms × In p (k .parts)) ⊎ In (continues p) (l ∷ ls)
+    before (rig E) k a b = inl (k, a, b)
+    before (ord es) k a b = inl (k, a, b)
+    before (begins kind) k a b = ⊎-elim (λ c. inl (k, c, b)) (λ c. absurd (List·Memᴰ·not-nil (subst (λ k. In p (k .parts)) (List·Memᴰ·eq-of-singleton c) b))) (in-append ms a)
+    before (continues r) k a b = ⊎-elim (λ c. inl (k, c, b)) (λ (o, e, c, d). latest-has o c (in-append (o .parts) (subst (λ k. In p (k .parts)) d b))) (in-addPart r ms k a)
+      where
+        latest-has : (o : Monitor) → In o ms → In p (o .parts) ⊎ In p (r ∷ []) → ((k : Monitor) × In k ms × In p (k .parts)) ⊎ In (continues p) (continues r ∷ ls)
+        latest-has o c (inl b) = inl (o, c, b)
+        latest-has o c (inr b) = inr (here (ap continues (List·Memᴰ·eq-of-singleton b)))
+    before other k a b = inl (k, a, b)
+
+-- a monitor without a `stop` line may stop in no state
+unmarked : (k : Kind) (ps : List Part) → ((s : ℕ) → In (stop s) ps → ⊥) → (s : ℕ) → Ends k ps s [] → ⊥
+unfolding Ends
+unmarked (mon S a) ps nowhere s (u, l, i) = nowhere u i
+
+pub without-stop : (t : List ℕ) → Readable t → ((s : ℕ) → In (continues (stop s)) (decoded t) → ⊥) → Endless t
+unfolding Endless MayStop monitors
+without-stop t r nowhere = first (monitors (decoded t)) (r .monitored) (λ m i. i)
+  where
+    first : (ms : List Monitor) → ms ≢ [] → ((m : Monitor) → In m ms → In m (monitors (decoded t))) → Endless t
+    first [] full sub = absurd (full refl)
+    first (m ∷ ms) full sub =
+        let i = sub m (here refl) in
+        (m, i, λ s l. unmarked (m .kind) (m .parts) (λ s j. ⊎-elim (λ (k, a, b). List·Memᴰ·not-nil a) (nowhere s) (parts-from [] (decoded t) m (stop s) i j)) s)
+
+module _ (t : List ℕ) (r : Readable t) (e : Endless t) where
+  plain : (w : List ℕ) (k : ℕ) → CarriedOn t w k ↔ ((v : List ℕ) × (length v ≡ k) × AllAdmit t (w ++ v))
+  plain w k =
+      let (to, from) = carried-plain (rigAutomaton t) (endless-never-stops t r e) k (start t) w in (
+        λ c. let (v, a, l) = to (text-carried t r w k .0 c) in (v, l, text-admits t r (w ++ v) .1 a),
+        λ (v, l, a). text-carried t r w k .1 (from (v, text-admits t r (w ++ v) .0 a, l)),
+      )
+
+  endless-belongs : (h : ℕ) (w : List ℕ) → Belongs t h w ↔ ((length w ≡ h) × AllAdmit t w × ((k : ℕ) → (v : List ℕ) × (length v ≡ k) × AllAdmit t (w ++ v)))
+  endless-belongs h w = (
+    λ b. (b .long, b .admitted, λ k. plain w k .0 (b .carried-on k)),
+    λ (l, a, c). record { long = l; admitted = a; carried-on = λ k. plain w k .1 (c k) },
+  )
+
+  -- a live start has a scenario of every length
+  endless-none : (h k : ℕ) → ((w : List ℕ) → Belongs t h w → ⊥) → (w : List ℕ) → Belongs t k w → ⊥
+  endless-none h k none w b =
+      let live = stays-live (rigAutomaton t) (start t) w (scenarios-sound (rigAutomaton t) k (start t) w (belongs-listed t k r w .0 b) .1) in
+      let some : 0 < N (rigAutomaton t) h (start t) = live-count (rigAutomaton t) (endless-never-stops t r e) h (start t) live in
+      none _ (text-belongs t r h _ .1 (index-belongs (rigAutomaton t) h (start t) 0 some))
+
+pub stopping : Stopping
+stopping = record {
+  before-mon = before-mon;
+  not-below = not-below;
+  marked-twice = marked-twice;
+  to-stoppable = to-stoppable;
+  without-stop = without-stop;
+  endless-belongs = endless-belongs;
+  endless-none = endless-none;
+  closes-readable = words .readable-closes;
+  closes-at-1 = words .belongs-closes;
+  closed-at-2 = words .none-closed;
+}
