@@ -12,7 +12,7 @@ use lib.Dec.{eqb, leb, ltb}
 use borrow.Author.Tests.{eq-eqb, ne-eqb, le-leb, lt-leb, lt-ltb, le-ltb, ltb-true, ltb-false}
 use Rattle.lists.specs.Lists.{pick, indexOf}
 use Rattle.lists.proofs.Tests.{case}
-use Rattle.promises.specs.Text.{Line, rig, ord, begins, continues, other, mon, go, bytes, splitOn, same, fields, digitsValue, number, field, endOr, end, one, two, three, oneOrTwo, anyNumber, form, decode}
+use Rattle.promises.specs.Text.{Line, rig, ord, begins, continues, other, mon, go, stop, bytes, splitOn, same, fields, digitsValue, number, field, endOr, end, one, two, three, oneOrTwo, anyNumber, form, decode}
 use Rattle.promises.proofs.Pieces.{splitOn-some}
 use Rattle.promises.proofs.Spelling.{same-tells}
 use Rattle.decoding.specs.declared.Field.the-variants.{Last, More, Bad}
@@ -212,13 +212,13 @@ module _ (l : List ℕ) (end : ℕ) (e : end ≡ indexOf l 9) where
   -- a word alone is no form but `ord`
   pub decode-alone : length l ≤ end → same (take end l) (bytes "ord") ≡ false → decode l ≡ other
   unfolding fieldsFrom form one two three oneOrTwo field
-  decode-alone h p = decode-first ∙ rw (le-ltb end (length l) h, p) (go (same (take end l) (bytes "rig")) (same (take end l) (bytes "mon")) (same (take end l) (bytes "go")))
+  decode-alone h p =
+      decode-first ∙ rw (le-ltb end (length l) h, p)
+      (either (same (take end l) (bytes "rig")) (either (same (take end l) (bytes "mon")) (either (same (take end l) (bytes "go")) (either (same (take end l) (bytes "stop")) refl))))
     where
-      go : (a b c : Bool) → pick a other (pick b other (pick c other other)) ≡ other
-      go true b c = refl
-      go false true c = refl
-      go false false true = refl
-      go false false false = refl
+      either : (b : Bool) {k : Line} → k ≡ other → pick b other k ≡ other
+      either true q = refl
+      either false q = q
 
 -- a word is no other
 pub other-word : (w u v : List ℕ) → same w u ≡ true → same u v ≡ false → same w v ≡ false
@@ -235,18 +235,26 @@ module _ (l : List ℕ) (end : ℕ) (e : end ≡ indexOf l 9) where
   listed-none p = rw (← e, p)
 
 module _ (w : List ℕ) (fs : List (List ℕ)) where
+  named : (v : List ℕ) → same w v ≡ true → form (w ∷ fs) ≡ form (v ∷ fs)
+  named v p = ap (λ w. form (w ∷ fs)) (same-tells w v .yes p)
+
   pub form-rig : same w (bytes "rig") ≡ true → form (w ∷ fs) ≡ one (λ E. rig E) fs
-  unfolding form
-  form-rig p = rw p
+  unfolding form same
+  form-rig p = named (bytes "rig") p
 
-  pub form-mon : same w (bytes "rig") ≡ false → same w (bytes "mon") ≡ true → form (w ∷ fs) ≡ oneOrTwo (λ S. begins (mon S 0)) (λ S a. begins (mon S a)) fs
-  unfolding form
-  form-mon p q = rw (p, q)
+  pub form-mon : same w (bytes "mon") ≡ true → form (w ∷ fs) ≡ oneOrTwo (λ S. begins (mon S 0)) (λ S a. begins (mon S a)) fs
+  unfolding form same
+  form-mon p = named (bytes "mon") p
 
-  pub form-go : same w (bytes "rig") ≡ false → same w (bytes "mon") ≡ false → same w (bytes "go") ≡ true → form (w ∷ fs) ≡ three (λ s e t. continues (go s e t)) fs
-  unfolding form
-  form-go p q r = rw (p, q, r)
+  pub form-go : same w (bytes "go") ≡ true → form (w ∷ fs) ≡ three (λ s e t. continues (go s e t)) fs
+  unfolding form same
+  form-go p = named (bytes "go") p
 
-  pub form-other : same w (bytes "rig") ≡ false → same w (bytes "mon") ≡ false → same w (bytes "go") ≡ false → same w (bytes "ord") ≡ false → form (w ∷ fs) ≡ other
+  pub form-stop : same w (bytes "stop") ≡ true → form (w ∷ fs) ≡ one (λ s. continues (stop s)) fs
+  unfolding form same
+  form-stop p = named (bytes "stop") p
+
+  pub form-other : same w (bytes "rig") ≡ false → same w (bytes "mon") ≡ false → same w (bytes "go") ≡ false → same w (bytes "ord") ≡ false → same w (bytes "stop") ≡ false
+      → form (w ∷ fs) ≡ other
   unfolding form
-  form-other p q r o = rw (p, q, r, o)
+  form-other p q r o s = rw (p, q, r, o, s)

@@ -19,7 +19,7 @@ use Prim.Native.Nat.{ℕ, _+_, min}
 use lib.ListN.{length, take, drop}
 use lib.Dec.{ltb}
 use Rattle.lists.specs.Lists.{pick, indexOf}
-use Rattle.promises.specs.Text.{Line, rig, ord, begins, continues, other, mon, go, number, fields, same, bytes}
+use Rattle.promises.specs.Text.{Line, rig, ord, begins, continues, other, mon, go, stop, number, fields, same, bytes}
 use Rattle.promises.specs.Text as text
 use Rattle.decoding.specs.declared.Decimal.{Decimal}
 use Rattle.decoding.specs.declared.Decimal.the-variants.{Value, Wrong}
@@ -29,6 +29,7 @@ use Rattle.decoding.specs.declared.Form.{Form}
 use Rattle.decoding.specs.declared.Form.the-variants.{Rig, Ord, Begins, Continues, Other}
 use Rattle.decoding.specs.declared.Kind.{Kind}
 use Rattle.decoding.specs.declared.Part.{Part}
+use Rattle.decoding.specs.declared.Part.the-variants.{Go, Stop}
 
 abbrev pub valueOf : Decimal → Option ℕ
 valueOf (Value n) = some n
@@ -38,7 +39,8 @@ abbrev pub kindOf : text.Kind → Kind
 kindOf (mon S a) = record { states = S; start = a }
 
 abbrev pub partOf : text.Part → Part
-partOf (go s e t) = record { state = s; event = e; target = t }
+partOf (go s e t) = Go s e t
+partOf (stop s) = Stop s
 
 abbrev pub formOf : Line → Form
 formOf (rig E) = Rig E

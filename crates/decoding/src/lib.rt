@@ -3,7 +3,7 @@ ghost use mathlib.Core.Path.{_≡_};
 ghost use Prim.Native.Nat.{ℕ, _≤_, min};
 ghost use lib.ListN.{length};
 ghost use Rattle.lists.specs.Lists.{indexOf};
-ghost use Rattle.promises.specs.Text.{Line, ord, begins, mon, continues, go, one, oneOrTwo, three, anyNumber, fields};
+ghost use Rattle.promises.specs.Text.{Line, ord, begins, mon, continues, go, stop, one, oneOrTwo, three, anyNumber, fields};
 ghost use Rattle.promises.specs.Text as text;
 ghost use Rattle.decoding.specs.Forms.{valueOf, fieldOf, orOther, fieldsFrom, leading, listedIn, over, formOf};
 
@@ -19,11 +19,10 @@ pub struct Kind {
     pub start: usize,
 }
 
-// A line of the latest monitor, with its numbers: `go`, s, e, t. (A struct for the same reason.)
-pub struct Part {
-    pub state: usize,
-    pub event: usize,
-    pub target: usize,
+// A line of the latest monitor, with its numbers: `go`, s, e, t; `stop`, s.
+pub enum Part {
+    Go(usize, usize, usize),
+    Stop(usize),
 }
 
 // A line's form. `Ord` has how many events are listed; the events themselves are left in a lent list.
@@ -174,11 +173,17 @@ fn go_form(rest: &[u8]) -> Form
     let Field::Last(t) = read_field(third) else {
         return Form::Other;
     };
-    Form::Continues(Part {
-        state: s,
-        event: e,
-        target: t,
-    })
+    Form::Continues(Part::Go(s, e, t))
+}
+
+// `stop`, s
+fn stop_form(rest: &[u8]) -> Form
+    ensures { λ r. ⌜ r ≡ formOf (one (λ s. continues (stop s)) (fields (now (rest .entry)))) ⌝ }
+{
+    match only_number(rest) {
+        Decimal::Value(s) => Form::Continues(Part::Stop(s)),
+        Decimal::Wrong => Form::Other,
+    }
 }
 
 // A number as a byte: 255 where it is larger, which is no event.
@@ -231,6 +236,9 @@ pub fn decode(line: &[u8], order: &mut [u8]) -> Form
         }
         if same(word, b"go") {
             return go_form(rest);
+        }
+        if same(word, b"stop") {
+            return stop_form(rest);
         }
     }
     if same(word, b"ord") {

@@ -1,6 +1,6 @@
 -- What the reader's state says of the lines that it has read, none of them bad: every test that the reader makes is the paper's, and a line more keeps it so.
 --   OfKind k c s          == c is the number of states and s the start of the kind k, both in range
---   Holds r ls z mv ct st os == the sizes z, the tables mv, ct and st and the list os are those of the lines ls, read into the record r
+--   Holds r ls z mv sp ct st os == the sizes z, the tables mv, sp, ct and st and the list os are those of the lines ls, read into the record r
 -- Assumes nothing.
 use mathlib.Core.Path.{_≡_, refl, sym, ap, ap₂, _∙_}
 use mathlib.Core.Logic.{_⊎_, ⊎-elim}
@@ -17,20 +17,20 @@ use borrow.Author.Tests.{eq-eqb, ne-eqb, eqb-true, eqb-false, ltb-false, leb-fal
 use Rattle.lists.specs.Lists.{pick, any}
 use Rattle.lists.proofs.Tables.{length-range, take-range}
 use Rattle.lists.proofs.Tests.{contra, case, or-left, or-rest, ℕ-trichotomy}
-use Rattle.promises.specs.Text.{Kind, mon, Part, go, Line, rig, ord, begins, continues, other, Monitor, addPart, extended, monitorsFrom, monitors, statesOf, startOf, latest, product, eventsOf, reordered, orderFrom, orderOf}
-use Rattle.promises.specs.Reading.{empty, isSome, moveBy, outside, testBeginning, ofLatest, testContinuing, tests, lineCase}
+use Rattle.promises.specs.Text.{Kind, mon, Part, go, stop, Line, rig, ord, begins, continues, other, Monitor, addPart, extended, monitorsFrom, monitors, statesOf, startOf, latest, product, eventsOf, reordered, orderFrom, orderOf}
+use Rattle.promises.specs.Reading.{empty, isSome, moveBy, markedBy, outside, testBeginning, ofLatest, testContinuing, tests, lineCase}
 use Rattle.promises.proofs.Lines.{monitors-more, order-more, length-addPart, product-addPart, product-append}
 use Rattle.rig.specs.declared.Rig.{Rig}
-use Rattle.rig.specs.Record.{moveIndex, moveAt, lowerFirst}
+use Rattle.rig.specs.Record.{moveIndex, moveAt, stopIndex, stopAt, lowerFirst}
 use Rattle.decoding.specs.Forms.{over, formOf}
 use Rattle.decoding.proofs.Listed.{length-over, Leaves}
 use Rattle.reader.specs.declared.Sizes.{Sizes}
 use Rattle.reader.specs.Reading.{withPart, withLine, recordFrom}
 use Rattle.reader.specs.Record.{nobody}
-use Rattle.reader.specs.Taking.{Allowed, rigCase, rigSizes, ordCase, monCase, monSizes, monCounts, monStarts, goCase, goMoves, caseOf, sizesAfter, movesAfter, countsAfter, startsAfter}
+use Rattle.reader.specs.Taking.{Allowed, rigCase, rigSizes, ordCase, monCase, monSizes, monCounts, monStarts, goCase, goMoves, stopCase, stopStops, caseOf, sizesAfter, movesAfter, stopsAfter, countsAfter, startsAfter}
 use Rattle.reader.proofs.Monitors.{monitorAt, events-snoc, empty-nil, empty-snoc, empty-length, addPart-at, addPart-beside, latest-at, new-before, new-at, new-after}
 use Rattle.reader.proofs.Listed.{over-events, front-any, ord-case}
-use Rattle.reader.proofs.Tables.{Table, seen, table-blank, table-beside, table-go}
+use Rattle.reader.proofs.Tables.{Table, Marks, seen, seen-mark, table-blank, table-beside, table-go, table-stop, marks-blank, marks-beside, marks-go, marks-stop}
 
 abbrev pub statesAt : List Monitor → ℕ → ℕ
 statesAt ms k = statesOf (monitorAt ms k .kind)
@@ -41,23 +41,29 @@ pub record OfKind (k : Kind) (c s : ℕ) : Type 0 where
   pub few-states : statesOf k ≤ 32
   pub start-below : startOf k < statesOf k
 
--- the monitors ms, as counts, starts and tables: what holds of the first n of them and of their parts of the move table
-pub record Tabled (ms : List Monitor) (n E : ℕ) (mv ct st : List ℕ) : Type 0 where
-  pub tables : (k : ℕ) → k < 4 → Table mv k (monitorAt ms k .parts) E (statesAt ms k)
+-- the monitor m, as part k of the tables mv and sp
+pub record OfMonitor (mv sp : List ℕ) (k E : ℕ) (m : Monitor) : Type 0 where
+  pub table : Table mv k (m .parts) E (statesOf (m .kind))
+  pub marks : Marks sp k (m .parts) (statesOf (m .kind))
+
+-- the monitors ms, as counts, starts and tables: what holds of the first n of them and of their parts of the tables
+pub record Tabled (ms : List Monitor) (n E : ℕ) (mv sp ct st : List ℕ) : Type 0 where
+  pub tables : (k : ℕ) → k < 4 → OfMonitor mv sp k E (monitorAt ms k)
   pub kinds : (k : ℕ) → k < n → OfKind (monitorAt ms k .kind) (getD ct k 0) (getD st k 0)
 
-pub record Holds (r : Rig) (ls : List Line) (z : Sizes) (mv ct st os : List ℕ) : Type 0 where
+pub record Holds (r : Rig) (ls : List Line) (z : Sizes) (mv sp ct st os : List ℕ) : Type 0 where
   pub events-are : eventsOf ls ≡ z .events
   pub begun : empty ls ≡ eqb (z .events) 0
   pub monitors-are : length (monitors ls) ≡ z .monitors
   pub joint-is : product (monitors ls) ≡ z .joint
   pub latest-is : (k : ℕ) → suc k ≡ z .monitors → statesAt (monitors ls) k ≡ z .latest
-  pub tabled : Tabled (monitors ls) (z .monitors) (z .events) mv ct st
+  pub tabled : Tabled (monitors ls) (z .monitors) (z .events) mv sp ct st
   pub ordered : take (z .events) os ≡ orderOf ls
   pub unordered : z .events ≡ 0 → os ≡ lowerFirst
-  pub recorded : recordFrom r ls ≡ record { moves = mv; counts = ct; starts = st; order = os; monitors = z .monitors; events = z .events }
+  pub recorded : recordFrom r ls ≡ record { moves = mv; stops = sp; counts = ct; starts = st; order = os; monitors = z .monitors; events = z .events }
   pub room : Allowed z
   pub long : length mv ≡ 2048
+  pub wide-stops : length sp ≡ 128
   pub wide : length ct ≡ 4
   pub wide-starts : length st ≡ 4
   pub wide-order : length os ≡ 16
@@ -69,17 +75,17 @@ recordFrom-snoc r (k ∷ ls) l = recordFrom-snoc (withLine r k) ls l
 
 -- ---- no line yet
 
-pub holds-none : (mv ct st : List ℕ) → ((i : ℕ) → i < 2048 → getD mv i 0 ≡ 255) → length mv ≡ 2048 → length ct ≡ 4 → length st ≡ 4
-    → Holds (record { moves = mv; counts = ct; starts = st; order = lowerFirst; monitors = 0; events = 0 }) [] (record { events = 0; monitors = 0; latest = 0; joint = 1 }) mv ct st lowerFirst
+pub holds-none : (mv sp ct st : List ℕ) → ((i : ℕ) → i < 2048 → getD mv i 0 ≡ 255) → ((i : ℕ) → i < 128 → getD sp i 0 ≡ 0) → length mv ≡ 2048 → length sp ≡ 128 → length ct ≡ 4 → length st ≡ 4
+    → Holds (record { moves = mv; stops = sp; counts = ct; starts = st; order = lowerFirst; monitors = 0; events = 0 }) [] (record { events = 0; monitors = 0; latest = 0; joint = 1 }) mv sp ct st lowerFirst
 unfolding eventsOf orderOf orderFrom monitors monitorsFrom product recordFrom
-holds-none mv ct st blank long wide wide-starts = record {
+holds-none mv sp ct st blank unmarked long wide-stops wide wide-starts = record {
   events-are = refl;
   begun = refl;
   monitors-are = refl;
   joint-is = refl;
   latest-is = λ k q. absurd (omega arith);
   tabled = record {
-    tables = λ k h. table-blank mv k 0 _ (λ s e hs he. blank (moveIndex k s e) (omega arith));
+    tables = λ k h. record { table = table-blank mv k 0 _ (λ s e hs he. blank (moveIndex k s e) (omega arith)); marks = marks-blank sp k _ (λ s hs. unmarked (stopIndex k s) (omega arith)) };
     kinds = λ k h. absurd (omega arith);
   };
   ordered = refl;
@@ -87,6 +93,7 @@ holds-none mv ct st blank long wide wide-starts = record {
   recorded = refl;
   room = record { few-events = omega arith; few-monitors = omega arith; few-latest = omega arith; few-joint = omega arith };
   long = long;
+  wide-stops = wide-stops;
   wide = wide;
   wide-starts = wide-starts;
   wide-order = length-range 16;
@@ -108,9 +115,9 @@ pick-zero false n m h q = (refl, q)
 -- ---- the tables with one line more
 
 -- the first line: no monitor has a move yet
-more-events : (ms : List Monitor) (n E F : ℕ) (mv ct st : List ℕ) → E ≡ 0 → Tabled ms n E mv ct st → Tabled ms n F mv ct st
-more-events ms n E F mv ct st q T = record {
-  tables = λ k h. let U = T .tables k h in record { entry = U .entry; within = λ s e u m. let w = U .within s e u m in absurd (omega arith) };
+more-events : (ms : List Monitor) (n E F : ℕ) (mv sp ct st : List ℕ) → E ≡ 0 → Tabled ms n E mv sp ct st → Tabled ms n F mv sp ct st
+more-events ms n E F mv sp ct st q T = record {
+  tables = λ k h. let U = T .tables k h .table in record { table = record { entry = U .entry; within = λ s e u m. let w = U .within s e u m in absurd (omega arith) }; marks = T .tables k h .marks };
   kinds = T .kinds;
 }
 
@@ -118,10 +125,10 @@ more-events ms n E F mv ct st q T = record {
 abbrev fresh : Kind → Monitor
 fresh k = record { kind = k; parts = [] }
 
-module _ (ms : List Monitor) (n E : ℕ) (k : Kind) (mv ct st : List ℕ) (ln : length ms ≡ n) (wide : length ct ≡ 4) (wide-starts : length st ≡ 4) (few : n < 4) (high : statesOf k ≤ 32) (below : startOf k < statesOf k)
-    (T : Tabled ms n E mv ct st) where
-  one-more : Tabled (ms ++ (fresh k ∷ [])) (n + 1) E mv (set ct n (statesOf k)) (set st n (startOf k))
-  unfolding moveBy
+module _ (ms : List Monitor) (n E : ℕ) (k : Kind) (mv sp ct st : List ℕ) (ln : length ms ≡ n) (wide : length ct ≡ 4) (wide-starts : length st ≡ 4) (few : n < 4) (high : statesOf k ≤ 32) (below : startOf k < statesOf k)
+    (T : Tabled ms n E mv sp ct st) where
+  one-more : Tabled (ms ++ (fresh k ∷ [])) (n + 1) E mv sp (set ct n (statesOf k)) (set st n (startOf k))
+  unfolding moveBy markedBy
   one-more = record {
     tables = λ i h. ⊎-elim (before i h) (⊎-elim (at i h) (after i h)) (ℕ-trichotomy i (length ms));
     kinds = λ i h. ⊎-elim (new i) (old i) (eq-or-lt-of-le (within i h));
@@ -141,34 +148,41 @@ module _ (ms : List Monitor) (n E : ℕ) (k : Kind) (mv ct st : List ℕ) (ln : 
       old : (i : ℕ) → i < n → OfKind (monitorAt (ms ++ (fresh k ∷ [])) i .kind) (getD (set ct n (statesOf k)) i 0) (getD (set st n (startOf k)) i 0)
       old i l = rw (new-before ms (fresh k) i (omega arith), getD-set-other ct n i (statesOf k) 0 (λ q. omega arith), getD-set-other st n i (startOf k) 0 (λ q. omega arith)) (T .kinds i l)
 
-      before : (i : ℕ) → i < 4 → i < length ms → Table mv i (monitorAt (ms ++ (fresh k ∷ [])) i .parts) E (statesAt (ms ++ (fresh k ∷ [])) i)
+      before : (i : ℕ) → i < 4 → i < length ms → OfMonitor mv sp i E (monitorAt (ms ++ (fresh k ∷ [])) i)
       before i h l = rw (new-before ms (fresh k) i l) (T .tables i h)
 
-      at : (i : ℕ) → i < 4 → i ≡ length ms → Table mv i (monitorAt (ms ++ (fresh k ∷ [])) i .parts) E (statesAt (ms ++ (fresh k ∷ [])) i)
-      at i h q = rw (new-at ms (fresh k) i q) (table-blank mv i E (statesOf k) (λ x y hx hy. T .tables i h .entry x y hx hy ∙ ap (λ m. Option·getD (moveBy (m .parts) x y) 255) (List·getD-eq-default ms nobody {n = i} (omega arith))))
+      -- there was no monitor, so no line
+      at : (i : ℕ) → i < 4 → i ≡ length ms → OfMonitor mv sp i E (monitorAt (ms ++ (fresh k ∷ [])) i)
+      at i h q =
+          let none : monitorAt ms i ≡ nobody = List·getD-eq-default ms nobody {n = i} (omega arith) in
+          rw (new-at ms (fresh k) i q) (record {
+            table = table-blank mv i E (statesOf k) (λ x y hx hy. T .tables i h .table .entry x y hx hy ∙ ap (λ m. Option·getD (moveBy (m .parts) x y) 255) none);
+            marks = marks-blank sp i (statesOf k) (λ x hx. T .tables i h .marks .entry x hx ∙ ap (λ m. pick (markedBy (m .parts) x) 1 0) none);
+          })
 
-      after : (i : ℕ) → i < 4 → length ms < i → Table mv i (monitorAt (ms ++ (fresh k ∷ [])) i .parts) E (statesAt (ms ++ (fresh k ∷ [])) i)
+      after : (i : ℕ) → i < 4 → length ms < i → OfMonitor mv sp i E (monitorAt (ms ++ (fresh k ∷ [])) i)
       after i h l = rw (new-after ms (fresh k) i l) (T .tables i h)
 
 kind-addPart : (p : Part) (ms : List Monitor) (i : ℕ) → monitorAt (addPart p ms) i .kind ≡ monitorAt ms i .kind
 kind-addPart p ms i = case (eqb (suc i) (length ms)) (λ q. ap (λ m. m .kind) (addPart-at p ms i (eqb-true (suc i) (length ms) q))) (λ q. ap (λ m. m .kind) (addPart-beside p ms i (eqb-false (suc i) (length ms) q)))
 
--- a move more, of the monitor m, which is the last
-module _ (ms : List Monitor) (n E m s e t : ℕ) (mv ct st : List ℕ) (last : suc m ≡ length ms) (long : length mv ≡ 2048) (fewE : E ≤ 16) (fewS : statesAt ms m ≤ 32)
-    (hm : m < 4) (hs : s < statesAt ms m) (he : e < E) (ht : t < statesAt ms m) (free : moveAt mv m s e ≡ 255) (T : Tabled ms n E mv ct st) where
-  one-move : Tabled (addPart (go s e t) ms) n E (set mv (moveIndex m s e) t) ct st
-  one-move = record {
-    tables = λ k h. case (eqb k m) (λ q. at k h (eqb-true k m q)) (λ q. beside k h (eqb-false k m q));
-    kinds = λ k h. rw (kind-addPart (go s e t) ms k) (T .kinds k h);
+-- a line p more of the monitor m, which is the last: what it makes of that monitor's part of the tables, and that it leaves the others' parts
+module _ (p : Part) (ms : List Monitor) (n E m : ℕ) (mv sp mv′ sp′ ct st : List ℕ) (last : suc m ≡ length ms) (hm : m < 4)
+    (at : OfMonitor mv sp m E (monitorAt ms m) → OfMonitor mv′ sp′ m E (record { kind = monitorAt ms m .kind; parts = monitorAt ms m .parts ++ (p ∷ []) }))
+    (beside : (k : ℕ) → (k ≡ m → ⊥) → (x : Monitor) → OfMonitor mv sp k E x → OfMonitor mv′ sp′ k E x) where
+  one-part : Tabled ms n E mv sp ct st → Tabled (addPart p ms) n E mv′ sp′ ct st
+  one-part T = record {
+    tables = λ k h. case (eqb k m) (λ q. here k (eqb-true k m q)) (λ q. there k h (eqb-false k m q));
+    kinds = λ k h. rw (kind-addPart p ms k) (T .kinds k h);
   }
     where
-      at : (k : ℕ) → k < 4 → k ≡ m → Table (set mv (moveIndex m s e) t) k (monitorAt (addPart (go s e t) ms) k .parts) E (statesAt (addPart (go s e t) ms) k)
-      at k h q = rw (q, addPart-at (go s e t) ms m last) (table-go mv m s e t (monitorAt ms m .parts) E (statesAt ms m) (T .tables m hm) hm long fewS fewE hs he ht free)
+      here : (k : ℕ) → k ≡ m → OfMonitor mv′ sp′ k E (monitorAt (addPart p ms) k)
+      here k q = rw (q, addPart-at p ms m last) (at (T .tables m hm))
 
-      beside : (k : ℕ) → k < 4 → (k ≡ m → ⊥) → Table (set mv (moveIndex m s e) t) k (monitorAt (addPart (go s e t) ms) k .parts) E (statesAt (addPart (go s e t) ms) k)
-      beside k h ne = rw (addPart-beside (go s e t) ms k (λ q. ne (omega arith))) (table-beside mv k m s e t (monitorAt ms k .parts) E (statesAt ms k) ne (omega arith) (omega arith) (T .tables k h))
+      there : (k : ℕ) → k < 4 → (k ≡ m → ⊥) → OfMonitor mv′ sp′ k E (monitorAt (addPart p ms) k)
+      there k h ne = rw (addPart-beside p ms k (λ q. ne (omega arith))) (beside k ne (monitorAt ms k) (T .tables k h))
 
-module _ (r : Rig) (ls : List Line) (z : Sizes) (mv ct st os : List ℕ) (H : Holds r ls z mv ct st os) where
+module _ (r : Rig) (ls : List Line) (z : Sizes) (mv sp ct st os : List ℕ) (H : Holds r ls z mv sp ct st os) where
   -- ---- the reader's tests are the paper's
 
   rig-case : (e : ℕ) → rigCase z e ≡ lineCase ls (rig e)
@@ -211,27 +225,43 @@ module _ (r : Rig) (ls : List Line) (z : Sizes) (mv ct st os : List ℕ) (H : Ho
         let a = leb-false (z .latest) s (or-left (leb (z .latest) s) _ p) in
         let b = leb-false (z .events) e (or-left (leb (z .events) e) _ (or-rest (leb (z .latest) s) _ p)) in
         let room = H .room in
-        ap (ofLatest (λ m. isSome (moveBy (m .parts) s e))) latest-is-last ∙ seen mv (z .monitors - 1) _ _ _ (H .tabled .tables (z .monitors - 1) (omega (arith, room .few-monitors))) (rw last-states (room .few-latest)) s e (omega (arith, room .few-latest)) (omega (arith, room .few-events))
+        ap (ofLatest (λ m. isSome (moveBy (m .parts) s e))) latest-is-last ∙ seen mv (z .monitors - 1) _ _ _ (H .tabled .tables (z .monitors - 1) (omega (arith, room .few-monitors)) .table) (rw last-states (room .few-latest)) s e (omega (arith, room .few-latest)) (omega (arith, room .few-events))
+
+    state-out-of-range : (s : ℕ) → ofLatest (λ m. leb (statesOf (m .kind)) s) (latest (monitors ls)) ≡ leb (z .latest) s
+    unfolding ofLatest
+    state-out-of-range s = rw (latest-is-last, last-states)
+
+    marked-again : (s : ℕ) → leb (z .latest) s ≡ false → ofLatest (λ m. markedBy (m .parts) s) (latest (monitors ls)) ≡ not (eqb (stopAt sp (z .monitors - 1) s) 0)
+    unfolding ofLatest
+    marked-again s p =
+        let a = leb-false (z .latest) s p in
+        let room = H .room in
+        ap (ofLatest (λ m. markedBy (m .parts) s)) latest-is-last ∙ seen-mark sp (z .monitors - 1) _ _ (H .tabled .tables (z .monitors - 1) (omega (arith, room .few-monitors)) .marks) s (omega (arith, room .few-latest))
 
   go-case : (s e t : ℕ) → goCase mv z s e t ≡ lineCase ls (continues (go s e t))
   unfolding goCase lineCase tests testContinuing
   go-case s e t = sym (same-picks _ _ _ _ _ _ misplaced (λ p. out-of-range p s e t) (λ p. again p s e t))
 
+  stop-case : (s : ℕ) → stopCase sp z s ≡ lineCase ls (continues (stop s))
+  unfolding stopCase lineCase tests testContinuing
+  stop-case s = sym (same-picks _ _ _ _ _ _ misplaced (λ p. state-out-of-range p s) (λ p. marked-again p s))
+
   -- `left` is what decoding the line leaves of the list os
-  pub case-is : (l : Line) (line : ℕ) (left : List ℕ) → suc (length ls) ≡ line → Leaves l os left → caseOf mv left z line (formOf l) ≡ lineCase ls l
+  pub case-is : (l : Line) (line : ℕ) (left : List ℕ) → suc (length ls) ≡ line → Leaves l os left → caseOf mv sp left z line (formOf l) ≡ lineCase ls l
   unfolding lineCase tests
   case-is (rig e) line left n q = rig-case e
   case-is (ord es) line left n q = rw q (ord-case ls z line es os (H .events-are) (H .room .few-events) n (H .wide-order))
   case-is (begins (mon s a)) line left n q = mon-case s a
   case-is (continues (go s e t)) line left n q = go-case s e t
+  case-is (continues (stop s)) line left n q = stop-case s
   case-is other line left n q = refl
 
   -- ---- one line more
 
-  recorded-more : (l : Line) → recordFrom r (ls ++ (l ∷ [])) ≡ withLine (record { moves = mv; counts = ct; starts = st; order = os; monitors = z .monitors; events = z .events }) l
+  recorded-more : (l : Line) → recordFrom r (ls ++ (l ∷ [])) ≡ withLine (record { moves = mv; stops = sp; counts = ct; starts = st; order = os; monitors = z .monitors; events = z .events }) l
   recorded-more l = recordFrom-snoc r ls l ∙ ap (λ q. withLine q l) (H .recorded)
 
-  holds-rig : (e : ℕ) → rigCase z e ≡ 0 → Holds r (ls ++ (rig e ∷ [])) (rigSizes z e) mv ct st os
+  holds-rig : (e : ℕ) → rigCase z e ≡ 0 → Holds r (ls ++ (rig e ∷ [])) (rigSizes z e) mv sp ct st os
   unfolding rigCase withLine extended eventsOf reordered
   holds-rig e q =
       let (p, q₁) = pick-zero (not (eqb (z .events) 0)) 5 _ (omega arith) q in
@@ -247,12 +277,13 @@ module _ (r : Rig) (ls : List Line) (z : Sizes) (mv ct st os : List ℕ) (H : Ho
         monitors-are = rw ms (H .monitors-are);
         joint-is = rw ms (H .joint-is);
         latest-is = rw ms (H .latest-is);
-        tabled = rw ms (more-events (monitors ls) (z .monitors) (z .events) e mv ct st (eqb-true (z .events) 0 first) (H .tabled));
+        tabled = rw ms (more-events (monitors ls) (z .monitors) (z .events) e mv sp ct st (eqb-true (z .events) 0 first) (H .tabled));
         ordered = ap (take e) (H .unordered (eqb-true (z .events) 0 first)) ∙ take-range e 16 high ∙ sym (order-more ls (rig e));
         unordered = λ n. absurd (omega arith);
         recorded = recorded-more (rig e);
         room = record { few-events = high; few-monitors = H .room .few-monitors; few-latest = H .room .few-latest; few-joint = H .room .few-joint };
         long = H .long;
+        wide-stops = H .wide-stops;
         wide = H .wide;
         wide-starts = H .wide-starts;
         wide-order = H .wide-order;
@@ -260,7 +291,7 @@ module _ (r : Rig) (ls : List Line) (z : Sizes) (mv ct st os : List ℕ) (H : Ho
 
   -- a line that begins a monitor of the kind k
   holds-begins : (k : Kind) → eqb (z .events) 0 ≡ false → z .monitors < 4 → statesOf k ≤ 32 → startOf k < statesOf k → z .joint * statesOf k ≤ 1024
-      → Holds r (ls ++ (begins k ∷ [])) (record { events = z .events; monitors = z .monitors + 1; latest = statesOf k; joint = z .joint * statesOf k }) mv (set ct (z .monitors) (statesOf k)) (set st (z .monitors) (startOf k)) os
+      → Holds r (ls ++ (begins k ∷ [])) (record { events = z .events; monitors = z .monitors + 1; latest = statesOf k; joint = z .joint * statesOf k }) mv sp (set ct (z .monitors) (statesOf k)) (set st (z .monitors) (startOf k)) os
   unfolding withLine extended reordered
   holds-begins k p few high below small =
       let ms : monitors (ls ++ (begins k ∷ [])) ≡ monitors ls ++ (fresh k ∷ []) = monitors-more ls (begins k) in
@@ -270,18 +301,19 @@ module _ (r : Rig) (ls : List Line) (z : Sizes) (mv ct st os : List ℕ) (H : Ho
         monitors-are = rw (ms, length-append, H .monitors-are);
         joint-is = rw (ms, product-append, H .joint-is);
         latest-is = λ i l. rw (ms, new-at (monitors ls) (fresh k) i (omega (arith, H .monitors-are)));
-        tabled = rw ms (one-more (monitors ls) (z .monitors) (z .events) k mv ct st (H .monitors-are) (H .wide) (H .wide-starts) few high below (H .tabled));
+        tabled = rw ms (one-more (monitors ls) (z .monitors) (z .events) k mv sp ct st (H .monitors-are) (H .wide) (H .wide-starts) few high below (H .tabled));
         ordered = H .ordered ∙ sym (order-more ls (begins k));
         unordered = H .unordered;
         recorded = recorded-more (begins k);
         room = record { few-events = H .room .few-events; few-monitors = omega arith; few-latest = high; few-joint = small };
         long = H .long;
+        wide-stops = H .wide-stops;
         wide = length-set ct (z .monitors) (statesOf k) ∙ H .wide;
         wide-starts = length-set st (z .monitors) (startOf k) ∙ H .wide-starts;
         wide-order = H .wide-order;
       }
 
-  holds-mon : (s a : ℕ) → monCase z s a ≡ 0 → Holds r (ls ++ (begins (mon s a) ∷ [])) (monSizes z s) mv (monCounts ct z s) (monStarts st z a) os
+  holds-mon : (s a : ℕ) → monCase z s a ≡ 0 → Holds r (ls ++ (begins (mon s a) ∷ [])) (monSizes z s) mv sp (monCounts ct z s) (monStarts st z a) os
   unfolding monCase statesOf startOf
   holds-mon s a q =
       let (p, q₁) = pick-zero (eqb (z .events) 0) 5 _ (omega arith) q in
@@ -294,8 +326,36 @@ module _ (r : Rig) (ls : List Line) (z : Sizes) (mv ct st os : List ℕ) (H : Ho
       (leb-false s a (or-rest (outside 1 32 s) _ range))
       (ltb-false 1024 (z .joint * s) j)
 
-  holds-go : (s e t : ℕ) → goCase mv z s e t ≡ 0 → Holds r (ls ++ (continues (go s e t) ∷ [])) z (goMoves mv z s e t) ct st os
-  unfolding goCase withPart withLine extended reordered
+  -- a line p of the latest monitor, with what it makes of the tables
+  holds-continues : (p : Part) (mv′ sp′ : List ℕ) → eqb (z .monitors) 0 ≡ false → length mv′ ≡ 2048 → length sp′ ≡ 128
+      → withPart (record { moves = mv; stops = sp; counts = ct; starts = st; order = os; monitors = z .monitors; events = z .events }) p
+      ≡ record { moves = mv′; stops = sp′; counts = ct; starts = st; order = os; monitors = z .monitors; events = z .events }
+      → Tabled (addPart p (monitors ls)) (z .monitors) (z .events) mv′ sp′ ct st
+      → Holds r (ls ++ (continues p ∷ [])) z mv′ sp′ ct st os
+  unfolding withLine extended reordered
+  holds-continues p mv′ sp′ some-monitor long wide-stops made tabled =
+      let begun : empty ls ≡ false = case (empty ls) (λ w. contra (eq-eqb (z .monitors) 0 (none-yet w)) some-monitor) (λ w. w) in
+      let ms : monitors (ls ++ (continues p ∷ [])) ≡ addPart p (monitors ls) = monitors-more ls (continues p) in
+      record {
+        events-are = events-snoc ls (continues p) begun ∙ H .events-are;
+        begun = empty-snoc ls (continues p) ∙ sym begun ∙ H .begun;
+        monitors-are = rw (ms, length-addPart) (H .monitors-are);
+        joint-is = rw (ms, product-addPart) (H .joint-is);
+        latest-is = λ k l. rw ms (ap statesOf (kind-addPart p (monitors ls) k) ∙ H .latest-is k l);
+        tabled = rw ms tabled;
+        ordered = H .ordered ∙ sym (order-more ls (continues p));
+        unordered = H .unordered;
+        recorded = recorded-more (continues p) ∙ made;
+        room = H .room;
+        long = long;
+        wide-stops = wide-stops;
+        wide = H .wide;
+        wide-starts = H .wide-starts;
+        wide-order = H .wide-order;
+      }
+
+  holds-go : (s e t : ℕ) → goCase mv z s e t ≡ 0 → Holds r (ls ++ (continues (go s e t) ∷ [])) z (goMoves mv z s e t) sp ct st os
+  unfolding goCase withPart
   holds-go s e t q =
       let (p, q₁) = pick-zero (eqb (z .monitors) 0) 5 _ (omega arith) q in
       let (o, q₂) = pick-zero (leb (z .latest) s || (leb (z .events) e || leb (z .latest) t)) 3 _ (omega arith) q₁ in
@@ -305,26 +365,40 @@ module _ (r : Rig) (ls : List Line) (z : Sizes) (mv ct st os : List ℕ) (H : Ho
       let he : e < z .events = leb-false (z .events) e (or-left (leb (z .events) e) _ rest) in
       let ht : t < z .latest = leb-false (z .latest) t (or-rest (leb (z .events) e) _ rest) in
       let free : moveAt mv (z .monitors - 1) s e ≡ 255 = eqb-true _ 255 (not-false _ a) in
-      let begun : empty ls ≡ false = case (empty ls) (λ w. contra (eq-eqb (z .monitors) 0 (none-yet w)) p) (λ w. w) in
-      let ms : monitors (ls ++ (continues (go s e t) ∷ [])) ≡ addPart (go s e t) (monitors ls) = monitors-more ls (continues (go s e t)) in
-      record {
-        events-are = events-snoc ls (continues (go s e t)) begun ∙ H .events-are;
-        begun = empty-snoc ls (continues (go s e t)) ∙ sym begun ∙ H .begun;
-        monitors-are = rw (ms, length-addPart) (H .monitors-are);
-        joint-is = rw (ms, product-addPart) (H .joint-is);
-        latest-is = λ k l. rw ms (ap statesOf (kind-addPart (go s e t) (monitors ls) k) ∙ H .latest-is k l);
-        tabled = rw ms (one-move (monitors ls) (z .monitors) (z .events) (z .monitors - 1) s e t mv ct st (last p) (H .long) (H .room .few-events) (rw (last-states p) (H .room .few-latest)) (omega (arith, H .room .few-monitors)) (rw (last-states p) hs) he (rw (last-states p) ht) free (H .tabled));
-        ordered = H .ordered ∙ sym (order-more ls (continues (go s e t)));
-        unordered = H .unordered;
-        recorded = recorded-more (continues (go s e t));
-        room = H .room;
-        long = length-set mv (moveIndex (z .monitors - 1) s e) t ∙ H .long;
-        wide = H .wide;
-        wide-starts = H .wide-starts;
-        wide-order = H .wide-order;
-      }
+      let few : z .latest ≤ 32 = H .room .few-latest in
+      let fewE : z .events ≤ 16 = H .room .few-events in
+      let hm : z .monitors - 1 < 4 = omega (arith, H .room .few-monitors) in
+      let S = statesAt (monitors ls) (z .monitors - 1) in
+      let ps = monitorAt (monitors ls) (z .monitors - 1) .parts in
+      holds-continues (go s e t) (goMoves mv z s e t) sp p (length-set mv (moveIndex (z .monitors - 1) s e) t ∙ H .long) (H .wide-stops) refl
+      (one-part (go s e t) (monitors ls) (z .monitors) (z .events) (z .monitors - 1) mv sp (goMoves mv z s e t) sp ct st (last p) hm
+      (λ T. record {
+        table = table-go mv (z .monitors - 1) s e t ps (z .events) S (T .table) hm (H .long) (rw (last-states p) few) fewE (rw (last-states p) hs) he (rw (last-states p) ht) free;
+        marks = marks-go sp (z .monitors - 1) s e t ps S (T .marks);
+      })
+      (λ k ne x T. record { table = table-beside mv k (z .monitors - 1) s e t (x .parts) (z .events) (statesOf (x .kind)) ne (omega arith) (omega arith) (T .table); marks = T .marks })
+      (H .tabled))
 
-  holds-ord : (es : List ℕ) (line : ℕ) → suc (length ls) ≡ line → ordCase (over es os) z line (length es) ≡ 0 → Holds r (ls ++ (ord es ∷ [])) z mv ct st (over es os)
+  holds-stop : (s : ℕ) → stopCase sp z s ≡ 0 → Holds r (ls ++ (continues (stop s) ∷ [])) z mv (stopStops sp z s) ct st os
+  unfolding stopCase withPart
+  holds-stop s q =
+      let (p, q₁) = pick-zero (eqb (z .monitors) 0) 5 _ (omega arith) q in
+      let (o, q₂) = pick-zero (leb (z .latest) s) 3 _ (omega arith) q₁ in
+      let hs : s < z .latest = leb-false (z .latest) s o in
+      let few : z .latest ≤ 32 = H .room .few-latest in
+      let hm : z .monitors - 1 < 4 = omega (arith, H .room .few-monitors) in
+      let S = statesAt (monitors ls) (z .monitors - 1) in
+      let ps = monitorAt (monitors ls) (z .monitors - 1) .parts in
+      holds-continues (stop s) mv (stopStops sp z s) p (H .long) (length-set sp (stopIndex (z .monitors - 1) s) 1 ∙ H .wide-stops) refl
+      (one-part (stop s) (monitors ls) (z .monitors) (z .events) (z .monitors - 1) mv sp mv (stopStops sp z s) ct st (last p) hm
+      (λ T. record {
+        table = table-stop mv (z .monitors - 1) s ps (z .events) S (T .table);
+        marks = marks-stop sp (z .monitors - 1) s ps S (T .marks) hm (H .wide-stops) (rw (last-states p) few) (rw (last-states p) hs);
+      })
+      (λ k ne x T. record { table = T .table; marks = marks-beside sp k (z .monitors - 1) s (x .parts) (statesOf (x .kind)) ne (omega arith) (T .marks) })
+      (H .tabled))
+
+  holds-ord : (es : List ℕ) (line : ℕ) → suc (length ls) ≡ line → ordCase (over es os) z line (length es) ≡ 0 → Holds r (ls ++ (ord es ∷ [])) z mv sp ct st (over es os)
   unfolding ordCase withLine extended reordered
   holds-ord es line n q =
       let (p, q₁) = pick-zero (not (eqb line 2)) 5 _ (omega arith) q in
@@ -348,15 +422,17 @@ module _ (r : Rig) (ls : List Line) (z : Sizes) (mv ct st os : List ℕ) (H : Ho
         recorded = recorded-more (ord es) ∙ rw left;
         room = H .room;
         long = H .long;
+        wide-stops = H .wide-stops;
         wide = H .wide;
         wide-starts = H .wide-starts;
         wide-order = length-over es os ∙ H .wide-order;
       }
 
-  pub holds-more : (l : Line) (line : ℕ) (left : List ℕ) → suc (length ls) ≡ line → Leaves l os left → caseOf mv left z line (formOf l) ≡ 0
-      → Holds r (ls ++ (l ∷ [])) (sizesAfter z (formOf l)) (movesAfter mv z (formOf l)) (countsAfter ct z (formOf l)) (startsAfter st z (formOf l)) left
+  pub holds-more : (l : Line) (line : ℕ) (left : List ℕ) → suc (length ls) ≡ line → Leaves l os left → caseOf mv sp left z line (formOf l) ≡ 0
+      → Holds r (ls ++ (l ∷ [])) (sizesAfter z (formOf l)) (movesAfter mv z (formOf l)) (stopsAfter sp z (formOf l)) (countsAfter ct z (formOf l)) (startsAfter st z (formOf l)) left
   holds-more (rig e) line left n k q = rw k (holds-rig e q)
   holds-more (ord es) line left n k q = rw k (holds-ord es line n (rw k at q))
   holds-more (begins (mon s a)) line left n k q = rw k (holds-mon s a q)
   holds-more (continues (go s e t)) line left n k q = rw k (holds-go s e t q)
+  holds-more (continues (stop s)) line left n k q = rw k (holds-stop s q)
   holds-more other line left n k q = absurd (omega arith)

@@ -1,6 +1,6 @@
 -- The monitors of some lines with one line more. Assumes nothing.
 use mathlib.Core.Path.{_≡_, refl, sym, ap, _∙_}
-use mathlib.Core.Bool.{true, false}
+use mathlib.Core.Bool.{true, false, _||_, or-false, or-assoc}
 use mathlib.Core.List.{List, [], _∷_, _++_}
 use mathlib.Core.Option.{Option, none, some, orElse}
 use Prim.Native.Nat.{ℕ, zero, suc, _+_, _<_}
@@ -11,7 +11,7 @@ use lib.Dec.{eqb}
 use borrow.Author.Tests.{ne-eqb}
 use Rattle.lists.proofs.Tests.{contra}
 use Rattle.promises.specs.Text.{Part, Line, Monitor, addPart, latest, eventsOf}
-use Rattle.promises.specs.Reading.{empty, leadsTo, moveBy}
+use Rattle.promises.specs.Reading.{empty, leadsTo, moveBy, marks, markedBy}
 use Rattle.promises.proofs.Lines.{eventsOf-more}
 use Rattle.reader.specs.Record.{nobody}
 
@@ -92,3 +92,8 @@ moveBy-snoc (q ∷ ps) p s e = step (leadsTo s e q) (moveBy-snoc ps p s e)
     step : (o : Option ℕ) → moveBy (ps ++ (p ∷ [])) s e ≡ orElse (moveBy ps s e) (leadsTo s e p) → orElse o (moveBy (ps ++ (p ∷ [])) s e) ≡ orElse (orElse o (moveBy ps s e)) (leadsTo s e p)
     step none ih = ih
     step (some u) ih = refl
+
+pub markedBy-snoc : (ps : List Part) (p : Part) (s : ℕ) → markedBy (ps ++ (p ∷ [])) s ≡ (markedBy ps s || marks s p)
+unfolding markedBy
+markedBy-snoc [] p s = or-false (marks s p)
+markedBy-snoc (q ∷ ps) p s = ap (λ b. marks s q || b) (markedBy-snoc ps p s) ∙ sym (or-assoc (marks s q) (markedBy ps s) (marks s p))

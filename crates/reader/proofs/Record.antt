@@ -10,31 +10,31 @@ use Prim.Native.Nat.{ℕ, suc, _≤_, _<_}
 use native.Mathlib.Omega.{arith}
 use lib.ListN.{length, getD, length-map, length-replicate, getD-replicate, replicate}
 use lib.Seq.{ext-getD}
-use lib.Dec.{ltb}
-use borrow.Author.Tests.{eqb-false, lt-ltb, le-ltb, ltb-true}
+use lib.Dec.{ltb, eqb}
+use borrow.Author.Tests.{eqb-false, lt-ltb, le-ltb, ltb-true, ltb-false}
 use Rattle.lists.specs.Lists.{pick, tabulate}
 use Rattle.lists.proofs.Tests.{case}
+use Rattle.lists.proofs.Tells.{tells-true}
 use Rattle.lists.proofs.Tables.{length-tabulate, getD-tabulate}
 use Rattle.lists.proofs.Members.{getD-map-lt, getD-in}
 use Rattle.automaton.specs.Joint.{At, joint, jointState, sizes}
-use Rattle.promises.specs.Text.{Kind, mon, Part, go, Line, rig, ord, begins, continues, other, Monitor, monitorsFrom, monitors, decoded, statesOf, startOf, eventsOf, orderOf, jointStates, AllSound, Readable}
-use Rattle.promises.specs.Reading.{empty, moveBy, lineCase}
-use Rattle.promises.specs.Rig.{nextOf, rigAutomaton, linesAutomaton, linesStart, start}
+use Rattle.promises.specs.Text.{Kind, mon, Part, go, stop, Line, rig, ord, begins, continues, other, Monitor, monitorsFrom, monitors, decoded, statesOf, startOf, eventsOf, orderOf, jointStates, AllSound, Readable}
+use Rattle.promises.specs.Reading.{empty, moveBy, markedBy, lineCase}
+use Rattle.promises.specs.Rig.{nextOf, markedOf, rigAutomaton, linesAutomaton, linesStart, start}
 use Rattle.promises.specs.Rig as lines
 use Rattle.promises.proofs.Lines.{PartRanged, readable-formed}
 use Rattle.promises.proofs.Meaning.{move-is, sizes-standing, order-permutes}
-use Rattle.promises.proofs.Reading.{moved, sound-case, readable-said}
+use Rattle.promises.proofs.Reading.{moved, tells-marked, sound-case, readable-said}
 use Rattle.rig.specs.declared.Rig.{Rig}
-use Rattle.rig.specs.Record.{moveAt, countOf, startAt, orderIn, moveOf, monitorAt, standing, recordAutomaton, recordStart, WellFormed, lowerFirst, emptyRig}
+use Rattle.rig.specs.Record.{moveAt, countOf, startAt, orderIn, moveOf, stopOf, monitorAt, standing, recordAutomaton, recordStart, WellFormed, lowerFirst, emptyRig}
 use Rattle.decoding.specs.Forms.{over, formOf}
 use Rattle.decoding.proofs.Listed.{Leaves}
 use Rattle.reader.specs.declared.Sizes.{Sizes}
 use Rattle.reader.specs.Reading.{recordFrom, whereServed, recordOf}
 use Rattle.reader.specs.Record.{nobody, monitorIn, ReadFrom}
-use Rattle.reader.specs.Taking.{caseOf, sizesAfter, movesAfter, countsAfter, startsAfter}
+use Rattle.reader.specs.Taking.{caseOf, sizesAfter, movesAfter, stopsAfter, countsAfter, startsAfter}
 use Rattle.reader.proofs.Monitors.{empty-nil}
-use Rattle.reader.proofs.Tables.{Table}
-use Rattle.reader.proofs.Held.{Tabled, Holds, holds-none, case-is, holds-more}
+use Rattle.reader.proofs.Held.{OfMonitor, Tabled, Holds, holds-none, case-is, holds-more}
 
 -- ---- every line read
 
@@ -42,10 +42,11 @@ use Rattle.reader.proofs.Held.{Tabled, Holds, holds-none, case-is, hold
 pub record Held (r : Rig) (ls : List Line) : Type 0 where
   pub sizes-are : Sizes
   pub moves-are : List ℕ
+  pub marks-are : List ℕ
   pub counts-are : List ℕ
   pub starts-are : List ℕ
   pub order-is : List ℕ
-  pub holds : Holds r ls sizes-are moves-are counts-are starts-are order-is
+  pub holds : Holds r ls sizes-are moves-are marks-are counts-are starts-are order-is
 
 -- a list that decoding may leave
 some-left : (l : Line) (os : List ℕ) → (left : List ℕ) × Leaves l os left
@@ -59,18 +60,20 @@ held-more : (r : Rig) (ls : List Line) (l : Line) → Held r ls → lineCase ls 
 held-more r ls l H q =
     let z = H .sizes-are in
     let mv = H .moves-are in
+    let sp = H .marks-are in
     let ct = H .counts-are in
     let st = H .starts-are in
     let os = H .order-is in
     let (left, k) = some-left l os in
-    let c : caseOf mv left z (suc (length ls)) (formOf l) ≡ 0 = case-is r ls z mv ct st os (H .holds) l (suc (length ls)) left refl k ∙ q in
+    let c : caseOf mv sp left z (suc (length ls)) (formOf l) ≡ 0 = case-is r ls z mv sp ct st os (H .holds) l (suc (length ls)) left refl k ∙ q in
     record {
       sizes-are = sizesAfter z (formOf l);
       moves-are = movesAfter mv z (formOf l);
+      marks-are = stopsAfter sp z (formOf l);
       counts-are = countsAfter ct z (formOf l);
       starts-are = startsAfter st z (formOf l);
       order-is = left;
-      holds = holds-more r ls z mv ct st os (H .holds) l (suc (length ls)) left refl k c;
+      holds = holds-more r ls z mv sp ct st os (H .holds) l (suc (length ls)) left refl k c;
     }
 
 held-all : (r : Rig) (front back : List Line) → Held r front → AllSound front back → Held r (front ++ back)
@@ -83,10 +86,11 @@ held-none : Held emptyRig []
 held-none = record {
   sizes-are = record { events = 0; monitors = 0; latest = 0; joint = 1 };
   moves-are = replicate 2048 255;
+  marks-are = replicate 128 0;
   counts-are = replicate 4 0;
   starts-are = replicate 4 0;
   order-is = lowerFirst;
-  holds = holds-none (replicate 2048 255) (replicate 4 0) (replicate 4 0) (λ i h. getD-replicate 2048 i 255 0 h) (length-replicate {A = ℕ} 2048 255) (length-replicate {A = ℕ} 4 0) (length-replicate {A = ℕ} 4 0);
+  holds = holds-none (replicate 2048 255) (replicate 128 0) (replicate 4 0) (replicate 4 0) (λ i h. getD-replicate 2048 i 255 0 h) (λ i h. getD-replicate 128 i 0 0 h) (length-replicate {A = ℕ} 2048 255) (length-replicate {A = ℕ} 128 0) (length-replicate {A = ℕ} 4 0) (length-replicate {A = ℕ} 4 0);
 }
 
 held-readable : (t : List ℕ) → Readable t → Held emptyRig (decoded t)
@@ -98,6 +102,11 @@ held-readable t R = held-all emptyRig [] (decoded t) held-none (R .sound)
 next-is : (k : Kind) (ps : List Part) (s e : ℕ) → nextOf k ps s e ≡ Option·getD (moveBy ps s e) (statesOf k)
 unfolding nextOf statesOf
 next-is (mon S a) ps s e = refl
+
+-- and its `stop` lines mark its states
+marked-is : (k : Kind) (ps : List Part) (s : ℕ) → markedOf k ps s ≡ markedBy ps s
+unfolding markedOf
+marked-is (mon S a) ps s = refl
 
 -- an entry in range is where the monitor moves; any other stands for no move
 entry-moves : (v S E s e : ℕ) → s < S → e < E → v < S → pick ((ltb s S && ltb e E) && ltb v S) v S ≡ v
@@ -112,7 +121,7 @@ entry-still v S E s e h = go (ltb s S) (ltb e E) refl refl
     go false b p q = refl
 
 -- monitor k of the record is the monitor m of the lines
-module _ (r : Rig) (m : Monitor) (k : ℕ) (T : Table (r .moves) k (m .parts) (r .events) (statesOf (m .kind)))
+module _ (r : Rig) (m : Monitor) (k : ℕ) (T : OfMonitor (r .moves) (r .stops) k (r .events) m)
     (c : countOf r k ≡ statesOf (m .kind)) (few : statesOf (m .kind) ≤ 32) (fewE : r .events ≤ 16) where
   moves-as : (s e : ℕ) → moveOf r k s e ≡ Option·getD (moveBy (m .parts) s e) (statesOf (m .kind))
   unfolding moveOf
@@ -121,19 +130,33 @@ module _ (r : Rig) (m : Monitor) (k : ℕ) (T : Table (r .moves) k (m .parts) (r
       step : (o : Option ℕ) → moveBy (m .parts) s e ≡ o
           → pick ((ltb s (statesOf (m .kind)) && ltb e (r .events)) && ltb (moveAt (r .moves) k s e) (statesOf (m .kind))) (moveAt (r .moves) k s e) (statesOf (m .kind)) ≡ Option·getD (moveBy (m .parts) s e) (statesOf (m .kind))
       step none q =
-          entry-still (moveAt (r .moves) k s e) (statesOf (m .kind)) (r .events) s e (λ a b. large (T .entry s e (omega arith) (omega arith) ∙ ap (λ o. Option·getD o 255) q))
+          entry-still (moveAt (r .moves) k s e) (statesOf (m .kind)) (r .events) s e (λ a b. large (T .table .entry s e (omega arith) (omega arith) ∙ ap (λ o. Option·getD o 255) q))
           ∙ ap (λ o. Option·getD o (statesOf (m .kind))) (sym q)
         where
           large : moveAt (r .moves) k s e ≡ 255 → statesOf (m .kind) ≤ moveAt (r .moves) k s e
           large p = omega arith
       step (some u) q =
-          let w = T .within s e u q in
-          let v : moveAt (r .moves) k s e ≡ u = T .entry s e (omega arith) (omega arith) ∙ ap (λ o. Option·getD o 255) q in
+          let w = T .table .within s e u q in
+          let v : moveAt (r .moves) k s e ≡ u = T .table .entry s e (omega arith) (omega arith) ∙ ap (λ o. Option·getD o 255) q in
           entry-moves (moveAt (r .moves) k s e) (statesOf (m .kind)) (r .events) s e (w .0) (w .1) (rw v (w .2)) ∙ v ∙ ap (λ o. Option·getD o (statesOf (m .kind))) (sym q)
+
+  stops-as : (s : ℕ) → stopOf r k s ≡ markedBy (m .parts) s
+  unfolding stopOf
+  stops-as s = rw c (case (ltb s (statesOf (m .kind))) (λ p. rw (p, T .marks .entry s (omega (arith, ltb-true s _ p))) (flag (markedBy (m .parts) s))) (λ p. rw p (sym (none (ltb-false s _ p)))))
+    where
+      flag : (b : Bool) → eqb (pick b 1 0) 1 ≡ b
+      flag true = refl
+      flag false = refl
+
+      none : statesOf (m .kind) ≤ s → markedBy (m .parts) s ≡ false
+      none h = case (markedBy (m .parts) s) (λ p. absurd (omega (arith, T .marks .within s p))) (λ p. p)
 
   pub monitor-is : monitorAt r k ≡ lines.monitorOf (orderIn r) m
   unfolding monitorAt lines.monitorOf
-  monitor-is = ap₂ (λ n f. record { states = n; events = orderIn r; next = f; stop = λ s. false }) c (fun-ext (λ s. fun-ext (λ e. moves-as s e ∙ sym (next-is (m .kind) (m .parts) s e))))
+  monitor-is =
+      let next : moveOf r k ≡ nextOf (m .kind) (m .parts) = fun-ext (λ s. fun-ext (λ e. moves-as s e ∙ sym (next-is (m .kind) (m .parts) s e))) in
+      let stop : stopOf r k ≡ markedOf (m .kind) (m .parts) = fun-ext (λ s. stops-as s ∙ sym (marked-is (m .kind) (m .parts) s)) in
+      rw (c, next, stop)
 
 -- ---- all monitors
 
@@ -142,7 +165,7 @@ pub record Recorded (ls : List Line) (r : Rig) : Type 0 where
   pub events-are : r .events ≡ eventsOf ls
   pub order-is : orderIn r ≡ orderOf ls
   pub monitors-are : r .monitors ≡ length (monitors ls)
-  pub tabled : Tabled (monitors ls) (r .monitors) (r .events) (r .moves) (r .counts) (r .starts)
+  pub tabled : Tabled (monitors ls) (r .monitors) (r .events) (r .moves) (r .stops) (r .counts) (r .starts)
   pub few-events : r .events ≤ 16
   pub few-monitors : r .monitors ≤ 4
 
@@ -183,7 +206,7 @@ module _ (t : List ℕ) (R : Readable t) where
   held : Held emptyRig (decoded t)
   held = held-readable t R
 
-  recordOf-is : recordOf t ≡ record { moves = held .moves-are; counts = held .counts-are; starts = held .starts-are; order = held .order-is; monitors = held .sizes-are .monitors; events = held .sizes-are .events }
+  recordOf-is : recordOf t ≡ record { moves = held .moves-are; stops = held .marks-are; counts = held .counts-are; starts = held .starts-are; order = held .order-is; monitors = held .sizes-are .monitors; events = held .sizes-are .events }
   unfolding recordOf
   recordOf-is = ap (λ a. whereServed a (recordFrom emptyRig (decoded t)) emptyRig) (readable-said t R) ∙ held .holds .recorded
 
@@ -261,6 +284,14 @@ module _ (t : List ℕ) (R : Readable t) where
           let w = kept .parts-ranged (go s e u) i in
           (is ∙ ap (λ o. Option·getD o (statesOf (monitorIn t m .kind))) (move-is (eventsOf (decoded t)) (monitorIn t m) kept s e u i), rw (recorded .tabled .kinds m h .count-is) (w .2))
 
+  -- 'a state is marked exactly when there is that line'
+  stops-of : (m s : ℕ) → m < recordOf t .monitors → (stopOf (recordOf t) m s ≡ true) ↔ In (stop s) (monitorIn t m .parts)
+  stops-of m s h =
+      let is : stopOf (recordOf t) m s ≡ markedBy (monitorIn t m .parts) s =
+      stops-as (recordOf t) (monitorIn t m) m (recorded .tabled .tables m (omega (arith, recorded .few-monitors))) (recorded .tabled .kinds m h .count-is) (recorded .tabled .kinds m h .few-states) (recorded .few-events) s in
+      let told = tells-marked (monitorIn t m .parts) s in
+      (λ q. told .yes (sym is ∙ q), λ i. is ∙ tells-true told i)
+
   pub read-from : ReadFrom t (recordOf t)
   unfolding rigAutomaton start
   read-from = record {
@@ -271,6 +302,7 @@ module _ (t : List ℕ) (R : Readable t) where
     counts-are = λ m h. recorded .tabled .kinds m h .count-is;
     starts-are = λ m h. recorded .tabled .kinds m h .start-is;
     moves-are = moves-of;
+    stops-are = stops-of;
     automaton-is = automaton-of (decoded t) (recordOf t) recorded;
     start-is = start-of (decoded t) (recordOf t) recorded;
     joint-states-are = joint-of;

@@ -10,10 +10,10 @@ use mathlib.Core.List.{List, [], _∷_, _++_}
 use Prim.Native.Nat.{ℕ, _+_, _-_}
 use lib.ListN.{length, drop, set}
 use Rattle.promises.specs.Answer.{Answer, served, refused}
-use Rattle.promises.specs.Text.{Part, go, Line, rig, ord, begins, continues, other, statesOf, startOf, decoded}
+use Rattle.promises.specs.Text.{Part, go, stop, Line, rig, ord, begins, continues, other, statesOf, startOf, decoded}
 use Rattle.promises.specs.Reading.{reading}
 use Rattle.rig.specs.declared.Rig.{Rig}
-use Rattle.rig.specs.Record.{moveIndex, emptyRig}
+use Rattle.rig.specs.Record.{moveIndex, stopIndex, emptyRig}
 use Rattle.reader.specs.declared.Verdict.{Verdict}
 use Rattle.reader.specs.declared.Verdict.the-variants.{Readable, Refused}
 
@@ -22,16 +22,18 @@ abbrev pub answerOf : Verdict → Answer
 answerOf Readable = served []
 answerOf (Refused number place) = refused number place
 
--- '`go`, s, e, t: the latest monitor moves from s to t on event e'
+-- '`go`, s, e, t: the latest monitor moves from s to t on event e'; '`stop`, s marks a state of the latest monitor' (02 no. 4)
 unfoldable pub withPart : Rig → Part → Rig
-withPart r (go s e t) = record { moves = set (r .moves) (moveIndex (r .monitors - 1) s e) t; counts = r .counts; starts = r .starts; order = r .order; monitors = r .monitors; events = r .events }
+withPart r (go s e t) = record { moves = set (r .moves) (moveIndex (r .monitors - 1) s e) t; stops = r .stops; counts = r .counts; starts = r .starts; order = r .order; monitors = r .monitors; events = r .events }
+withPart r (stop s) = record { moves = r .moves; stops = set (r .stops) (stopIndex (r .monitors - 1) s) 1; counts = r .counts; starts = r .starts; order = r .order; monitors = r .monitors; events = r .events }
 
 -- '`rig`, E'; `ord` 'lists all E events, first to last' (02 no. 2); '`mon`, S: a new monitor'; 'The rig record keeps one start for each monitor' (02 no. 1)
 unfoldable pub withLine : Rig → Line → Rig
-withLine r (rig E) = record { moves = r .moves; counts = r .counts; starts = r .starts; order = r .order; monitors = r .monitors; events = E }
-withLine r (ord es) = record { moves = r .moves; counts = r .counts; starts = r .starts; order = es ++ drop (length es) (r .order); monitors = r .monitors; events = r .events }
+withLine r (rig E) = record { moves = r .moves; stops = r .stops; counts = r .counts; starts = r .starts; order = r .order; monitors = r .monitors; events = E }
+withLine r (ord es) = record { moves = r .moves; stops = r .stops; counts = r .counts; starts = r .starts; order = es ++ drop (length es) (r .order); monitors = r .monitors; events = r .events }
 withLine r (begins k) = record {
   moves = r .moves;
+  stops = r .stops;
   counts = set (r .counts) (r .monitors) (statesOf k);
   starts = set (r .starts) (r .monitors) (startOf k);
   order = r .order;

@@ -3,11 +3,11 @@
 --   onlyIf n a b       == a where the number n is 0, else b
 --   taken n z          == Next z where the number n is 0, else Bad n
 --   refusal n p        == the answer to a text that is refused
---   rigCase, ordCase, monCase, goCase == the number of the first case that holds of such a line, 0 where none does
---   rigSizes, monSizes, monCounts, monStarts, goMoves == what such a line changes, where no case holds of it
+--   rigCase, ordCase, monCase, goCase, stopCase == the number of the first case that holds of such a line, 0 where none does
+--   rigSizes, monSizes, monCounts, monStarts, goMoves, stopStops == what such a line changes, where no case holds of it
 --   kindCase, kindSizes, kindCounts, kindStarts == the same for any line that begins a monitor
---   partCase, partMoves == the same for any line of the latest monitor
---   caseOf, sizesAfter, movesAfter, countsAfter, startsAfter == the same for any line; os is the list that its decoding leaves, l its number
+--   partCase, partMoves, partStops == the same for any line of the latest monitor
+--   caseOf, sizesAfter, movesAfter, stopsAfter, countsAfter, startsAfter == the same for any line; os is the list that its decoding leaves, l its number
 -- A new line form is one section and its clauses of those for its group. Assumes nothing.
 use mathlib.Core.Bool.{not, _||_}
 use mathlib.Core.List.{List}
@@ -16,11 +16,12 @@ use lib.ListN.{take, set}
 use lib.Dec.{ltb, leb, eqb}
 use Rattle.lists.specs.Lists.{pick, any}
 use Rattle.promises.specs.Reading.{outside, repeats}
-use Rattle.rig.specs.Record.{moveIndex, moveAt, emptyRig}
+use Rattle.rig.specs.Record.{moveIndex, moveAt, stopIndex, stopAt, emptyRig}
 use Rattle.decoding.specs.declared.Form.{Form}
 use Rattle.decoding.specs.declared.Form.the-variants.{Rig, Ord, Begins, Continues, Other}
 use Rattle.decoding.specs.declared.Kind.{Kind}
 use Rattle.decoding.specs.declared.Part.{Part}
+use Rattle.decoding.specs.declared.Part.the-variants.{Go, Stop}
 use Rattle.reader.specs.declared.Reading.{Reading}
 use Rattle.reader.specs.declared.Sizes.{Sizes}
 use Rattle.reader.specs.declared.Taken.{Taken}
@@ -86,6 +87,14 @@ goCase mv z s e t =
 abbrev pub goMoves : List ℕ → Sizes → ℕ → ℕ → ℕ → List ℕ
 goMoves mv z s e t = set mv (moveIndex (z .monitors - 1) s e) t
 
+-- ---- `stop`, s
+
+unfoldable pub stopCase : List ℕ → Sizes → ℕ → ℕ
+stopCase sp z s = pick (eqb (z .monitors) 0) 5 (pick (leb (z .latest) s) 3 (pick (not (eqb (stopAt sp (z .monitors - 1) s) 0)) 4 0))
+
+abbrev pub stopStops : List ℕ → Sizes → ℕ → List ℕ
+stopStops sp z s = set sp (stopIndex (z .monitors - 1) s) 1
+
 -- ---- any line
 
 abbrev pub kindCase : Sizes → Kind → ℕ
@@ -100,18 +109,24 @@ kindCounts ct z k = monCounts ct z (k .states)
 abbrev pub kindStarts : List ℕ → Sizes → Kind → List ℕ
 kindStarts st z k = monStarts st z (k .start)
 
-abbrev pub partCase : List ℕ → Sizes → Part → ℕ
-partCase mv z p = goCase mv z (p .state) (p .event) (p .target)
+abbrev pub partCase : List ℕ → List ℕ → Sizes → Part → ℕ
+partCase mv sp z (Go s e t) = goCase mv z s e t
+partCase mv sp z (Stop s) = stopCase sp z s
 
 abbrev pub partMoves : List ℕ → Sizes → Part → List ℕ
-partMoves mv z p = goMoves mv z (p .state) (p .event) (p .target)
+partMoves mv z (Go s e t) = goMoves mv z s e t
+partMoves mv z (Stop s) = mv
 
-abbrev pub caseOf : List ℕ → List ℕ → Sizes → ℕ → Form → ℕ
-caseOf mv os z l (Rig e) = rigCase z e
-caseOf mv os z l (Ord n) = ordCase os z l n
-caseOf mv os z l (Begins k) = kindCase z k
-caseOf mv os z l (Continues p) = partCase mv z p
-caseOf mv os z l Other = 2
+abbrev pub partStops : List ℕ → Sizes → Part → List ℕ
+partStops sp z (Go s e t) = sp
+partStops sp z (Stop s) = stopStops sp z s
+
+abbrev pub caseOf : List ℕ → List ℕ → List ℕ → Sizes → ℕ → Form → ℕ
+caseOf mv sp os z l (Rig e) = rigCase z e
+caseOf mv sp os z l (Ord n) = ordCase os z l n
+caseOf mv sp os z l (Begins k) = kindCase z k
+caseOf mv sp os z l (Continues p) = partCase mv sp z p
+caseOf mv sp os z l Other = 2
 
 abbrev pub sizesAfter : Sizes → Form → Sizes
 sizesAfter z (Rig e) = rigSizes z e
@@ -126,6 +141,13 @@ movesAfter mv z (Ord n) = mv
 movesAfter mv z (Begins k) = mv
 movesAfter mv z (Continues p) = partMoves mv z p
 movesAfter mv z Other = mv
+
+abbrev pub stopsAfter : List ℕ → Sizes → Form → List ℕ
+stopsAfter sp z (Rig e) = sp
+stopsAfter sp z (Ord n) = sp
+stopsAfter sp z (Begins k) = sp
+stopsAfter sp z (Continues p) = partStops sp z p
+stopsAfter sp z Other = sp
 
 abbrev pub countsAfter : List ℕ → Sizes → Form → List ℕ
 countsAfter ct z (Rig e) = ct

@@ -1,12 +1,13 @@
 // Reading a rig's text: its record, or the first of the refusals 1 to 6 and 16. One pass over the text, line by line; the tables are filled in place.
 use decoding::Form;
+use decoding::Part;
 use rig::Rig;
 ghost use mathlib.Core.Path.{_≡_};
 ghost use Prim.Native.Nat.{_<_};
 ghost use lib.ListN.{length};
 ghost use Rattle.promises.specs.Reading as promised;
 ghost use Rattle.reader.specs.Reading.{answerOf, recordOf};
-ghost use Rattle.reader.specs.Taking.{Allowed, taken, rigCase, rigSizes, ordCase, monCase, monSizes, monCounts, monStarts, goCase, goMoves, caseOf, sizesAfter, movesAfter, countsAfter, startsAfter, onlyIf};
+ghost use Rattle.reader.specs.Taking.{Allowed, taken, rigCase, rigSizes, ordCase, monCase, monSizes, monCounts, monStarts, goCase, goMoves, stopCase, stopStops, caseOf, sizesAfter, movesAfter, stopsAfter, countsAfter, startsAfter, onlyIf};
 ghost use Rattle.reader.specs.Taking as taking;
 
 // What reading answers: the text is readable, or a number and a place.
@@ -163,9 +164,30 @@ fn take_go(moves: &mut [u8], z: Sizes, s: usize, e: usize, t: usize) -> Taken
     Taken::Next(z)
 }
 
+// `stop`, s: 'marks a state of the latest monitor'. A state that is marked already is seen in the list.
+fn take_stop(stops: &mut [u8], z: Sizes, s: usize) -> Taken
+    requires { ⌜ (length (now stops) ≡ 128) × Allowed z ⌝ }
+    ensures { λ r. ⌜ r ≡ taken (stopCase (now (stops .entry)) z s) z ⌝ }
+    ensures { λ _. ⌜ now (stops .exit) ≡ onlyIf (stopCase (now (stops .entry)) z s) (stopStops (now (stops .entry)) z s) (now (stops .entry)) ⌝ }
+{
+    if z.monitors == 0 {
+        return Taken::Bad(5); // `stop` before any `mon`
+    }
+    if z.latest <= s {
+        return Taken::Bad(3); // s is no state
+    }
+    let at = (z.monitors - 1) * 32 + s;
+    if stops[at] != 0 {
+        return Taken::Bad(4); // marked twice
+    }
+    stops[at] = 1;
+    Taken::Next(z)
+}
+
 // One line more, of this number.
 fn take_line(
     moves: &mut [u8],
+    stops: &mut [u8],
     counts: &mut [u8],
     starts: &mut [u8],
     order: &[u8],
@@ -173,17 +195,21 @@ fn take_line(
     line: u64,
     form: Form,
 ) -> Taken
-    requires { ⌜ (length (now moves) ≡ 2048) × (length (now counts) ≡ 4) × (length (now starts) ≡ 4) × (length (now order) ≡ 16) × Allowed z ⌝ }
-    ensures { λ r. ⌜ r ≡ taken (caseOf (now (moves .entry)) (now (order .entry)) z line form) (sizesAfter z form) ⌝ }
-    ensures { λ _. ⌜ now (moves .exit) ≡ onlyIf (caseOf (now (moves .entry)) (now (order .entry)) z line form) (movesAfter (now (moves .entry)) z form) (now (moves .entry)) ⌝ }
-    ensures { λ _. ⌜ now (counts .exit) ≡ onlyIf (caseOf (now (moves .entry)) (now (order .entry)) z line form) (countsAfter (now (counts .entry)) z form) (now (counts .entry)) ⌝ }
-    ensures { λ _. ⌜ now (starts .exit) ≡ onlyIf (caseOf (now (moves .entry)) (now (order .entry)) z line form) (startsAfter (now (starts .entry)) z form) (now (starts .entry)) ⌝ }
+    requires { ⌜ (length (now moves) ≡ 2048) × (length (now stops) ≡ 128) × (length (now counts) ≡ 4) × (length (now starts) ≡ 4) × (length (now order) ≡ 16) × Allowed z ⌝ }
+    ensures { λ r. ⌜ r ≡ taken (caseOf (now (moves .entry)) (now (stops .entry)) (now (order .entry)) z line form) (sizesAfter z form) ⌝ }
+    ensures { λ _. ⌜ now (moves .exit) ≡ onlyIf (caseOf (now (moves .entry)) (now (stops .entry)) (now (order .entry)) z line form) (movesAfter (now (moves .entry)) z form) (now (moves .entry)) ⌝ }
+    ensures { λ _. ⌜ now (stops .exit) ≡ onlyIf (caseOf (now (moves .entry)) (now (stops .entry)) (now (order .entry)) z line form) (stopsAfter (now (stops .entry)) z form) (now (stops .entry)) ⌝ }
+    ensures { λ _. ⌜ now (counts .exit) ≡ onlyIf (caseOf (now (moves .entry)) (now (stops .entry)) (now (order .entry)) z line form) (countsAfter (now (counts .entry)) z form) (now (counts .entry)) ⌝ }
+    ensures { λ _. ⌜ now (starts .exit) ≡ onlyIf (caseOf (now (moves .entry)) (now (stops .entry)) (now (order .entry)) z line form) (startsAfter (now (starts .entry)) z form) (now (starts .entry)) ⌝ }
 {
     match form {
         Form::Rig(e) => take_rig(z, e),
         Form::Ord(n) => take_ord(order, z, line, n),
         Form::Begins(k) => take_mon(counts, starts, z, k.states, k.start),
-        Form::Continues(p) => take_go(moves, z, p.state, p.event, p.target),
+        Form::Continues(p) => match p {
+            Part::Go(s, e, t) => take_go(moves, z, s, e, t),
+            Part::Stop(s) => take_stop(stops, z, s),
+        },
         Form::Other => Taken::Bad(2),
     }
 }
@@ -197,6 +223,7 @@ pub fn read(text: &[u8]) -> Reading
         return refused(1, 0);
     }
     let mut moves = [255u8; 2048];
+    let mut stops = [0u8; 128];
     let mut counts = [0u8; 4];
     let mut starts = [0u8; 4];
     let mut order = rig::lower_first();
@@ -217,6 +244,7 @@ pub fn read(text: &[u8]) -> Reading
         let form = decoding::decode(&rest[..end], &mut order);
         match take_line(
             &mut moves,
+            &mut stops,
             &mut counts,
             &mut starts,
             &order,
@@ -241,6 +269,7 @@ pub fn read(text: &[u8]) -> Reading
         verdict: Verdict::Readable,
         rig: Rig {
             moves,
+            stops,
             counts,
             starts,
             order,

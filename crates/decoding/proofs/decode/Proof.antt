@@ -12,7 +12,7 @@ use Rattle.promises.specs.Text.{rig, other, bytes}
 use Rattle.promises.specs.Text as text
 use Rattle.decoding.specs.Forms.{valueOf, orOther, over, listedIn}
 use Rattle.decoding.proofs.Parts.{indexOf-le}
-use Rattle.decoding.proofs.Numbers.{decode-more, decode-ord, decode-alone, form-rig, form-mon, form-go, form-other, other-word, listed-ord, listed-none}
+use Rattle.decoding.proofs.Numbers.{decode-more, decode-ord, decode-alone, form-rig, form-mon, form-go, form-stop, form-other, other-word, listed-ord, listed-none}
 use borrow.Author.Needs.{needs}
 use Rattle.decoding.proofs.decode.Statement.{statement}
 use Rattle.decoding.proofs.decode.Tie as tie
@@ -92,7 +92,7 @@ returns-3 c =
     let u = c .before .before .before .before .before .before .before .before .before .before .until in
     let q =
     decode-more l (u .result) (u .ensures) (c .before .before .before .before .before .before .before .before .if1 .taken)
-    ∙ form-mon (take (u .result) l) _ (sym (c .before .before .before .before .before .same .ensures) ∙ c .before .before .before .before .if2 .left) (sym (c .before .before .same2 .ensures) ∙ c .before .if3 .taken) in
+    ∙ form-mon (take (u .result) l) _ (sym (c .before .before .same2 .ensures) ∙ c .before .if3 .taken) in
     (rw q (c .mon-form .ensures), not-listed l (u .result) (u .ensures) (bytes "mon") (sym (c .before .before .same2 .ensures) ∙ c .before .if3 .taken) (unfold text.same in refl) _)
 
 slice-aggregate-same-3 : tie.Need-slice-aggregate-same-3
@@ -110,7 +110,7 @@ returns-4 c =
     let u = c .before .before .before .before .before .before .before .before .before .before .before .before .before .until in
     let q =
     decode-more l (u .result) (u .ensures) (c .before .before .before .before .before .before .before .before .before .before .before .if1 .taken)
-    ∙ form-go (take (u .result) l) _ (sym (c .before .before .before .before .before .before .before .before .same .ensures) ∙ c .before .before .before .before .before .before .before .if2 .left) (sym (c .before .before .before .before .before .same2 .ensures) ∙ c .before .before .before .before .if3 .left) (sym (c .before .before .same3 .ensures) ∙ c .before .if4 .taken) in
+    ∙ form-go (take (u .result) l) _ (sym (c .before .before .same3 .ensures) ∙ c .before .if4 .taken) in
     (rw q (c .go-form .ensures), not-listed l (u .result) (u .ensures) (bytes "go") (sym (c .before .before .same3 .ensures) ∙ c .before .if4 .taken) (unfold text.same in refl) _)
 
 slice-aggregate-same-4 : tie.Need-slice-aggregate-same-4
@@ -119,29 +119,47 @@ slice-aggregate-same-4 c = search needs
 same-requires-4 : tie.Need-same-requires-4
 same-requires-4 c κs = search needs
 
+stop-form-requires : tie.Need-stop-form-requires
+stop-form-requires c κs = search needs
+
+returns-5 : tie.Need-returns-5
+returns-5 c =
+    let l = c .before .before .before .before .before .before .before .before .before .before .before .before .before .before .before .before .before .before .before .args .line .now in
+    let u = c .before .before .before .before .before .before .before .before .before .before .before .before .before .before .before .before .until in
+    let q =
+    decode-more l (u .result) (u .ensures) (c .before .before .before .before .before .before .before .before .before .before .before .before .before .before .if1 .taken)
+    ∙ form-stop (take (u .result) l) _ (sym (c .before .before .same4 .ensures) ∙ c .before .if5 .taken) in
+    (rw q (c .stop-form .ensures), not-listed l (u .result) (u .ensures) (bytes "stop") (sym (c .before .before .same4 .ensures) ∙ c .before .if5 .taken) (unfold text.same in refl) _)
+
+slice-aggregate-same-5 : tie.Need-slice-aggregate-same-5
+slice-aggregate-same-5 c = search needs
+
+same-requires-5 : tie.Need-same-requires-5
+same-requires-5 c κs = search needs
+
 ord-form-requires : tie.Need-ord-form-requires
 ord-form-requires c κs = search needs
 
 same-length : tie.Need-same-length
 same-length c = search needs
 
-returns-5 : tie.Need-returns-5
-returns-5 c =
+returns-6 : tie.Need-returns-6
+returns-6 c =
     let l = c .before .before .before .before .before .before .before .before .before .before .before .before .args .line .now in
     let u = c .before .before .before .before .before .before .before .before .before .until in
-    let p = sym (c .before .before .before .before .before .same4 .ensures) ∙ c .before .before .before .before .if5 .taken in
+    let p = sym (c .before .before .before .before .before .same5 .ensures) ∙ c .before .before .before .before .if6 .taken in
     let f = c .before .before .ord-form .ensures in
     (rw (decode-ord l (u .result) (u .ensures) p) (f .0), rw (listed-ord l (u .result) (u .ensures) p) (f .1))
 
-returns-6 : tie.Need-returns-6
-returns-6 c =
+returns-7 : tie.Need-returns-7
+returns-7 c =
     let l = c .before .before .before .before .before .before .before .before .args .line .now in
     let u = c .before .before .before .before .before .until in
-    let not-ord = sym (c .before .same4 .ensures) ∙ c .if5 .left in
+    let not-ord = sym (c .before .same5 .ensures) ∙ c .if6 .left in
     let q : text.decode l ≡ other = ⊎-elim
-    (λ (x, rest, a, is-rig, not-rig, b, is-mon, not-mon, d, is-go, not-go).
+    (λ (x, rest, a, is-rig, not-rig, b, is-mon, not-mon, d, is-go, not-go, e, is-stop, not-stop).
     decode-more l (u .result) (u .ensures) (x .taken)
-    ∙ form-other (take (u .result) l) _ (sym (is-rig .ensures) ∙ not-rig .left) (sym (is-mon .ensures) ∙ not-mon .left) (sym (is-go .ensures) ∙ not-go .left) not-ord)
+    ∙ form-other (take (u .result) l) _ (sym (is-rig .ensures) ∙ not-rig .left) (sym (is-mon .ensures) ∙ not-mon .left) (sym (is-go .ensures) ∙ not-go .left) not-ord (sym (is-stop .ensures) ∙ not-stop .left))
     (λ x. decode-alone l (u .result) (u .ensures) (x .left) not-ord)
     (c .before .before .before .if1 .came) in
     (rw q, rw (listed-none l (u .result) (u .ensures) not-ord) (unfold over in refl))
@@ -173,7 +191,11 @@ decode-spec =
     returns-4
     slice-aggregate-same-4
     same-requires-4
+    stop-form-requires
+    returns-5
+    slice-aggregate-same-5
+    same-requires-5
     ord-form-requires
     same-length
-    returns-5
-    returns-6)
+    returns-6
+    returns-7)
