@@ -99,48 +99,48 @@ refused-requires-3 c κs = search needs
 
 returns-3 : tie.Need-returns-3 Inv-loop μ-loop
 returns-3 c =
-    let t = c .before .before .before .before .before .before .before .before .before .before .before .before .before .before .before .before .before .before .before .before .before .before .before .before .args .text .now in
-    let lp = c .before .before .before .before .before .before .before .before .before .before .before .before .before .before .before .before .before .before .before .before .loop in
-    let u = c .before .before .before .before .before .before .before .before .before .before .before .before .before .before .before .before .before .until in
-    let d = c .before .before .before .before .before .before .before .before .before .before .before .before .before .decode in
-    let tk = c .before .before .before .before .before .before .before .take-line in
+    let t = c .before .before .before .before .before .before .before .before .before .before .before .before .before .before .before .before .before .before .before .before .before .before .before .before .before .before .args .text .now in
+    let lp = c .before .before .before .before .before .before .before .before .before .before .before .before .before .before .before .before .before .before .before .before .before .before .loop in
+    let u = c .before .before .before .before .before .before .before .before .before .before .before .before .before .before .before .before .before .before .before .until in
+    let d = c .before .before .before .before .before .before .before .before .before .before .before .before .before .before .before .decode in
+    let tk = c .before .before .before .before .before .before .before .before .take-line in
     let n = c .before .before .number .given in
     answers-refusal t (c .refused3 .result) (n .0 .0) (lp .line) (c .refused3 .ensures)
-    (reading-whole t (c .before .before .before .before .before .before .before .before .before .before .before .before .before .before .before .before .before .before .before .before .before .before .if1 .left) (refused (n .0 .0) (lp .line)) (stops-bad emptyRig t (lp .sizes) (lp .line) (lp .at) (lp .moves) (lp .stops) (lp .counts) (lp .starts) (lp .order) (lp .inv) (u .result) (u .ensures) (c .before .before .before .before .before .before .before .before .before .before .before .before .before .before .before .before .if2 .left) (d .result) (d .ensures .0) (d .last .1 .0) (d .ensures .1) (n .0 .0) (sym (n .1) ∙ tk .ensures .0)))
+    (reading-whole t (c .before .before .before .before .before .before .before .before .before .before .before .before .before .before .before .before .before .before .before .before .before .before .before .before .if1 .left) (refused (n .0 .0) (lp .line)) (stops-bad emptyRig t (lp .sizes) (lp .line) (lp .at) (lp .moves) (lp .stops) (lp .counts) (lp .starts) (lp .order) (lp .inv) (u .result) (u .ensures) (c .before .before .before .before .before .before .before .before .before .before .before .before .before .before .before .before .before .before .if2 .left) (d .result) (d .ensures .0) (d .last .1 .0) (d .ensures .1) (n .0 .0) (sym (n .1) ∙ tk .ensures .0)))
 
 add-line : tie.Need-add-line Inv-loop μ-loop
 add-line c = search needs
 
 add-at : tie.Need-add-at Inv-loop μ-loop
 add-at c =
-    let t = c .before .before .before .before .before .before .before .before .before .before .before .before .before .before .before .before .before .before .before .before .before .before .before .args .text .now in
-    let lp = c .before .before .before .before .before .before .before .before .before .before .before .before .before .before .before .before .before .before .before .loop in
-    let u = c .before .before .before .before .before .before .before .before .before .before .before .before .before .before .before .before .until in
+    let t = c .before .before .before .before .before .before .before .before .before .before .before .before .before .before .before .before .before .before .before .before .before .before .before .before .before .args .text .now in
+    let lp = c .before .before .before .before .before .before .before .before .before .before .before .before .before .before .before .before .before .before .before .before .before .loop in
+    let u = c .before .before .before .before .before .before .before .before .before .before .before .before .before .before .before .before .before .before .until in
     let rest = take (length t - lp .at) (drop (lp .at) t) in
     let h : u .result ≤ length rest = rw (u .ensures) (indexOf-le rest 10) in
-    omega (arith, c .before .before .before .before .before .before .before .before .before .before .before .before .before .before .before .before .before .before .before .before .before .if1 .left, length-take (length t - lp .at) (drop (lp .at) t), length-drop (lp .at) t)
+    omega (arith, c .before .before .before .before .before .before .before .before .before .before .before .before .before .before .before .before .before .before .before .before .before .before .before .if1 .left, length-take (length t - lp .at) (drop (lp .at) t), length-drop (lp .at) t)
 
 add-at-2 : tie.Need-add-at-2 Inv-loop μ-loop
 add-at-2 c =
-    let t = c .before .before .before .before .before .before .before .before .before .before .before .before .before .before .before .before .before .before .before .before .before .before .before .args .text .now in
-    let lp = c .before .before .before .before .before .before .before .before .before .before .before .before .before .before .before .before .before .before .before .loop in
-    let u = c .before .before .before .before .before .before .before .before .before .before .before .before .before .before .before .before .until in
+    let t = c .before .before .before .before .before .before .before .before .before .before .before .before .before .before .before .before .before .before .before .before .before .before .before .before .before .args .text .now in
+    let lp = c .before .before .before .before .before .before .before .before .before .before .before .before .before .before .before .before .before .before .before .before .before .loop in
+    let u = c .before .before .before .before .before .before .before .before .before .before .before .before .before .before .before .before .before .before .until in
     let rest = take (length t - lp .at) (drop (lp .at) t) in
     let h : u .result ≤ length rest = rw (u .ensures) (indexOf-le rest 10) in
-    omega (arith, c .before .before .before .before .before .before .before .before .before .before .before .before .before .before .before .before .before .before .before .before .before .if1 .left, length-take (length t - lp .at) (drop (lp .at) t), length-drop (lp .at) t)
+    omega (arith, c .before .before .before .before .before .before .before .before .before .before .before .before .before .before .before .before .before .before .before .before .before .before .before .if1 .left, length-take (length t - lp .at) (drop (lp .at) t), length-drop (lp .at) t)
 
 loop-less : tie.Need-loop-less Inv-loop μ-loop
 loop-less c = search needs
 
 loop-again : tie.Need-loop-again Inv-loop μ-loop
 loop-again c =
-    let t = c .before .before .before .before .before .before .before .before .before .before .before .before .before .before .before .before .before .before .before .before .before .before .before .args .text .now in
-    let lp = c .before .before .before .before .before .before .before .before .before .before .before .before .before .before .before .before .before .before .before .loop in
-    let u = c .before .before .before .before .before .before .before .before .before .before .before .before .before .before .before .before .until in
-    let d = c .before .before .before .before .before .before .before .before .before .before .before .before .decode in
-    let tk = c .before .before .before .before .before .before .take-line in
+    let t = c .before .before .before .before .before .before .before .before .before .before .before .before .before .before .before .before .before .before .before .before .before .before .before .before .before .args .text .now in
+    let lp = c .before .before .before .before .before .before .before .before .before .before .before .before .before .before .before .before .before .before .before .before .before .loop in
+    let u = c .before .before .before .before .before .before .before .before .before .before .before .before .before .before .before .before .before .before .until in
+    let d = c .before .before .before .before .before .before .before .before .before .before .before .before .before .before .decode in
+    let tk = c .before .before .before .before .before .before .before .take-line in
     let y = c .before .z .given in
-    goes-on emptyRig t (lp .sizes) (lp .line) (lp .at) (lp .moves) (lp .stops) (lp .counts) (lp .starts) (lp .order) (lp .inv) (u .result) (u .ensures) (c .before .before .before .before .before .before .before .before .before .before .before .before .before .before .before .if2 .left) (d .result) (d .ensures .0) (d .last .1 .0) (d .ensures .1) (y .0 .0) (tk .last .0) (tk .last .1 .0) (tk .last .1 .1 .0) (tk .last .1 .1 .1 .0) (sym (y .1) ∙ tk .ensures .0) (tk .ensures .1 .0) (tk .ensures .1 .1 .0) (tk .ensures .1 .1 .1 .0) (tk .ensures .1 .1 .1 .1)
+    goes-on emptyRig t (lp .sizes) (lp .line) (lp .at) (lp .moves) (lp .stops) (lp .counts) (lp .starts) (lp .order) (lp .inv) (u .result) (u .ensures) (c .before .before .before .before .before .before .before .before .before .before .before .before .before .before .before .before .before .if2 .left) (d .result) (d .ensures .0) (d .last .1 .0) (d .ensures .1) (y .0 .0) (tk .last .0) (tk .last .1 .0) (tk .last .1 .1 .0) (tk .last .1 .1 .1 .0) (sym (y .1) ∙ tk .ensures .0) (tk .ensures .1 .0) (tk .ensures .1 .1 .0) (tk .ensures .1 .1 .1 .0) (tk .ensures .1 .1 .1 .1)
 
 refused-requires-4 : tie.Need-refused-requires-4 Inv-loop μ-loop
 refused-requires-4 c κs = search needs

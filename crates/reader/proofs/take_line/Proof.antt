@@ -1,6 +1,8 @@
 -- Each form has its own function, whose contract is its clause of the definitions.
 -- Assumes nothing.
-use Rattle.reader.specs.Taking.{rigCase, ordCase, monCase, goCase}
+use mathlib.Core.Path.{ap, _∙_}
+use Rattle.decoding.specs.declared.Form.the-variants.{Continues}
+use Rattle.reader.specs.Taking.{rigCase, ordCase, monCase, goCase, stopCase}
 use Rattle.reader.proofs.Taking.{kept}
 use borrow.Author.Needs.{needs}
 use Rattle.reader.proofs.take_line.Statement.{statement}
@@ -27,27 +29,36 @@ take-mon-requires c κs = search needs
 enum-known-form-4 : tie.Need-enum-known-form-4
 enum-known-form-4 c = search needs
 
+enum-known-p : tie.Need-enum-known-p
+enum-known-p c = search needs
+
 take-go-requires : tie.Need-take-go-requires
 take-go-requires c κs = search needs
+
+enum-known-p-2 : tie.Need-enum-known-p-2
+enum-known-p-2 c = search needs
+
+take-stop-requires : tie.Need-take-stop-requires
+take-stop-requires c κs = search needs
 
 enum-told : tie.Need-enum-told
 enum-told c = search needs
 
 returns : tie.Need-returns
 returns c =
-    let st = c .before .before .before .before .before .before .before .before .args in
+    let st = c .before .before .before .before .before .before .before .before .before .args in
     let f = c .before .before .form .given in
     let q = f .1 in
     let n = rigCase (st .z) (f .0 .0) in
-    (rw q (c .take-rig .ensures), (rw q (kept n (st .moves .now)), (rw q (kept n (st .counts .now)), rw q (kept n (st .starts .now)))))
+    (rw q (c .take-rig .ensures), (rw q (kept n (st .moves .now)), (rw q (kept n (st .stops .now)), (rw q (kept n (st .counts .now)), rw q (kept n (st .starts .now))))))
 
 returns-2 : tie.Need-returns-2
 returns-2 c =
-    let st = c .before .before .before .before .before .before .before .before .args in
+    let st = c .before .before .before .before .before .before .before .before .before .args in
     let f = c .before .before .form2 .given in
     let q = f .1 in
     let n = ordCase (st .order .now) (st .z) (st .line) (f .0 .0) in
-    (rw q (c .take-ord .ensures), (rw q (kept n (st .moves .now)), (rw q (kept n (st .counts .now)), rw q (kept n (st .starts .now)))))
+    (rw q (c .take-ord .ensures), (rw q (kept n (st .moves .now)), (rw q (kept n (st .stops .now)), (rw q (kept n (st .counts .now)), rw q (kept n (st .starts .now))))))
 
 same-length : tie.Need-same-length
 same-length c = search needs
@@ -57,26 +68,39 @@ same-length-2 c = search needs
 
 returns-3 : tie.Need-returns-3
 returns-3 c =
-    let st = c .before .before .before .before .before .before .before .before .before .before .before .before .before .before .args in
+    let st = c .before .before .before .before .before .before .before .before .before .before .before .before .before .before .before .args in
     let f = c .before .before .before .before .before .before .before .before .form3 .given in
     let q = f .1 in
     let t = c .before .before .before .before .take-mon .ensures in
-    (rw q (t .0), (rw q (kept (monCase (st .z) (f .0 .0 .states) (f .0 .0 .start)) (st .moves .now)), (rw q (t .1 .0), rw q (t .1 .1))))
+    let n = monCase (st .z) (f .0 .0 .states) (f .0 .0 .start) in
+    (rw q (t .0), (rw q (kept n (st .moves .now)), (rw q (kept n (st .stops .now)), (rw q (t .1 .0), rw q (t .1 .1)))))
 
 same-length-3 : tie.Need-same-length-3
 same-length-3 c = search needs
 
 returns-4 : tie.Need-returns-4
 returns-4 c =
-    let st = c .before .before .before .before .before .before .before .before .before .before .before .args in
-    let f = c .before .before .before .before .before .form4 .given in
-    let q = f .1 in
+    let st = c .before .before .before .before .before .before .before .before .before .before .before .before .before .before .before .args in
+    let p = c .before .before .before .before .before .p .given in
+    let q = c .before .before .before .before .before .before .before .before .form4 .given .1 ∙ ap Continues (p .1) in
     let t = c .before .before .take-go .ensures in
-    let n = goCase (st .moves .now) (st .z) (f .0 .0 .state) (f .0 .0 .event) (f .0 .0 .target) in
-    (rw q (t .0), (rw q (t .1), (rw q (kept n (st .counts .now)), rw q (kept n (st .starts .now)))))
+    let n = goCase (st .moves .now) (st .z) (p .0 .0) (p .0 .1 .0) (p .0 .1 .1 .0) in
+    (rw q (t .0), (rw q (t .1), (rw q (kept n (st .stops .now)), (rw q (kept n (st .counts .now)), rw q (kept n (st .starts .now))))))
+
+same-length-4 : tie.Need-same-length-4
+same-length-4 c = search needs
 
 returns-5 : tie.Need-returns-5
-returns-5 c = let q = c .enum-told .given .1 in (rw q, (rw q, (rw q, rw q)))
+returns-5 c =
+    let st = c .before .before .before .before .before .before .before .before .before .before .before .before .before .before .before .args in
+    let p = c .before .before .before .before .before .p2 .given in
+    let q = c .before .before .before .before .before .before .before .before .form4 .given .1 ∙ ap Continues (p .1) in
+    let t = c .before .before .take-stop .ensures in
+    let n = stopCase (st .stops .now) (st .z) (p .0 .0) in
+    (rw q (t .0), (rw q (kept n (st .moves .now)), (rw q (t .1), (rw q (kept n (st .counts .now)), rw q (kept n (st .starts .now))))))
+
+returns-6 : tie.Need-returns-6
+returns-6 c = let q = c .enum-told .given .1 in (rw q, (rw q, (rw q, (rw q, rw q))))
 
 pub take-line-spec : {M : Type 1} → statement M
 take-line-spec =
@@ -89,7 +113,10 @@ take-line-spec =
     enum-known-form-3
     take-mon-requires
     enum-known-form-4
+    enum-known-p
     take-go-requires
+    enum-known-p-2
+    take-stop-requires
     enum-told
     returns
     returns-2
@@ -98,4 +125,6 @@ take-line-spec =
     returns-3
     same-length-3
     returns-4
-    returns-5)
+    same-length-4
+    returns-5
+    returns-6)
