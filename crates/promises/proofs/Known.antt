@@ -13,7 +13,7 @@ use Rattle.lists.specs.Lists.{range}
 use Rattle.lists.proofs.Tests.{case}
 use Rattle.lists.proofs.Members.{getD-in}
 use Rattle.lists.proofs.Distinct.{in-place}
-use Rattle.automaton.specs.Automaton.{Automaton}
+use Rattle.automaton.specs.Automaton.{Automaton, stopping}
 use Rattle.automaton.specs.Joint.{both, join, idle, joint, sizes, jointState}
 use Rattle.automaton.specs.Pruning.{keep, prunedSet, size, passesFrom, passes, live}
 use Rattle.automaton.specs.Counting.{N, most, cell}
@@ -27,7 +27,7 @@ use Rattle.promises.specs.Calls.{rows, fills, sized, total, counted, cou
 use Rattle.promises.specs.Demand3.{Calls, Whole, Demand}
 use Rattle.promises.specs.Demand2.{Endless, Traced, Demand2}
 use Rattle.promises.specs.Refusals.{Sized}
-use Rattle.promises.specs.Examples.{A, B, A-ordered, one-state, full-cell}
+use Rattle.promises.specs.Examples.{A, B, A-ordered, closes, one-state, full-cell}
 use Rattle.promises.specs.Starred.{lent}
 use Rattle.promises.specs.Wrong.{byNumber, admitted, without, passWithin, passesWithinFrom, passesWithin}
 use Rattle.promises.proofs.Answers.{listed-length, scenarioOf, scenario-long, scenarios-served, Told, count-told}
@@ -64,6 +64,9 @@ known-A = known A 3 (lent 8) 5 1 (starred .a-3)
 
 pub known-ordered : Known A-ordered 3 5 (lent 8)
 known-ordered = known A-ordered 3 (lent 8) 5 1 (starred .ordered)
+
+pub known-closes : Known closes 1 1 (lent 8)
+known-closes = known closes 1 (lent 8) 1 1 (starred .closes-1)
 
 pub known-B : Known B 1 1 (lent 8)
 known-B = known B 1 (lent 8) 1 3 (starred .b-1)
@@ -130,6 +133,9 @@ pub record Values : Type 0 where
   pub numbers-0 : unrank (byNumber A-ordered) 3 (start A-ordered) 0 ≡ 0 ∷ 0 ∷ 0 ∷ []
   pub numbers-4 : unrank (byNumber A-ordered) 3 (start A-ordered) 4 ≡ 1 ∷ 0 ∷ 1 ∷ []
   pub order-is : orderOf (decoded A-ordered) ≡ 1 ∷ 0 ∷ []
+  -- `closes` without its mark has no live state; with it, its start is live
+  pub unmarked-none : N (stopping (λ x. false) (rigAutomaton closes)) 1 (start closes) ≡ 0
+  pub closes-live : live (rigAutomaton closes) (start closes) ≡ true
   pub one-state-none : count one-state 0 (lent 1) ≡ refused 9 0
   pub B-admitted : admitted (rigAutomaton B) 1 (start B) ≡ 2
   pub B-within : passesWithin (rigAutomaton B) ≡ 2
@@ -152,6 +158,8 @@ values = record {
   numbers-0 = refl;
   numbers-4 = refl;
   order-is = refl;
+  unmarked-none = refl;
+  closes-live = refl;
   one-state-none = refl;
   B-admitted = refl;
   B-within = refl;

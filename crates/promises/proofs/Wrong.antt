@@ -31,16 +31,17 @@ use Rattle.promises.specs.Demand3.{Calls, ValidDraws, block, Cells, Room
 use Rattle.promises.specs.Demand2.{Traced, Demand2}
 use Rattle.promises.specs.Refusals.{Sized}
 use Rattle.promises.specs.Generator.{generator}
-use Rattle.promises.specs.Examples.{A, B, A-ordered, one-state, full-cell}
+use Rattle.promises.specs.Examples.{A, B, A-ordered, closes, one-state, full-cell}
 use Rattle.promises.specs.Starred.{lent}
-use Rattle.promises.specs.Wrong.{copiesIndex0, untouchedOutput, fillsFirstOnly, byNumber, comparesNumbers, refusesAll, admitted, noneBeforePruning, eightOfCells, eightOfScratch, twelveOfBytes, twelveOfNumbers, tenOfAnyCell, countsAdmitted, passesAs, lastPassMissing, passesWithin, prunesWithin, forgetsSwaps, PassesTold, Rejected}
+use Rattle.promises.specs.Wrong.{copiesIndex0, untouchedOutput, fillsFirstOnly, byNumber, comparesNumbers, refusesAll, dropsEndings, noneByStart, admitted, noneBeforePruning, eightOfCells, eightOfScratch, twelveOfBytes, twelveOfNumbers, tenOfAnyCell, countsAdmitted, passesAs, lastPassMissing, passesWithin, prunesWithin, forgetsSwaps, PassesTold, Rejected}
 use Rattle.promises.proofs.Meaning.{rig-states, rig-start}
 use Rattle.promises.proofs.Checks.{check-failed, sized-on, counted-on}
 use Rattle.promises.proofs.Answers.{served-none, refused-none, scenarioOf, block-written, shuffle-served, count-told}
 use Rattle.promises.proofs.Buffers.{refused-serves}
 use Rattle.promises.proofs.Demand3.{demand-3}
+use Rattle.promises.proofs.Examples.{words}
 use Rattle.promises.proofs.Starred.{starred}
-use Rattle.promises.proofs.Known.{Known, known, told, count-sized, served-sized, known-A, known-B, endless-A, known-ordered, whole, traced, some-total, few-total, scenario-0-long, zeros-served, values, full-total, full-row}
+use Rattle.promises.proofs.Known.{Known, known, told, count-sized, served-sized, known-A, known-B, known-closes, endless-A, known-ordered, whole, traced, some-total, few-total, scenario-0-long, zeros-served, values, full-total, full-row}
 
 -- ---- what Scenarios writes
 
@@ -169,6 +170,29 @@ none-rejected d = says (d .none one-state 0 (s .readable) (s .horizon) .by-count
     says n =
         let m = rw (sized-on one-state 0 (lent 1) _ (s .readable) (s .horizon) (s .room), one-admitted) at n in
         case (leb most (total one-state 0)) (λ q. refused-none 10 0 (omega arith) (rw q at m)) (λ q. served-none _ (rw q at m))
+
+endings-rejected : Demand dropsEndings → ⊥
+unfolding dropsEndings Cells
+endings-rejected d = go (whole closes 1 1 (lent 8) known-closes dropsEndings d)
+  where
+    go : (L : List (List ℕ)) × (length L ≡ 1) × Whole dropsEndings closes 1 L → ⊥
+    go (L, e, w) =
+        let (k, q) = w .counted (lent 8) (known-closes .fits .room) in
+        let r : refused 9 0 ≡ served (length L ∷ k ∷ []) = rw (sized-on closes 1 (lent 8) _ (known-closes .fits .readable) (known-closes .fits .horizon) (known-closes .fits .room), values .unmarked-none) at q in
+        let z : _≡_ {A = ℕ} 0 1 = cc in
+        omega arith
+
+start-rejected : Demand noneByStart → ⊥
+unfolding noneByStart Cells fills
+start-rejected d = says (d .none closes 2 (s .readable) (s .horizon) .by-count (lent 8) (s .room) .1 (words .none-closed))
+  where
+    s : Sized closes 2 (lent 8)
+    s = count-sized closes 2 (lent 8) (rw (starred .closes-2))
+
+    says : SaysNone (noneByStart .count closes 2 (lent 8)) → ⊥
+    says n =
+        let m = rw (sized-on closes 2 (lent 8) _ (s .readable) (s .horizon) (s .room), values .closes-live) at n in
+        case (leb most (total closes 2)) (λ q. refused-none 10 0 (omega arith) (rw q at m)) (λ q. served-none _ (rw q at m))
 
 module _ (more : ℕ) where
   cells-rejected : Demand (eightOfCells more) → ⊥
@@ -331,6 +355,8 @@ rejected = record {
   compares-numbers = compares-rejected;
   refuses-all = all-rejected;
   none-before-pruning = none-rejected;
+  drops-endings = endings-rejected;
+  none-by-start = start-rejected;
   eight-of-cells = cells-rejected;
   eight-of-scratch = scratch-rejected;
   twelve-of-bytes = bytes-rejected;

@@ -1,8 +1,10 @@
--- The wrong generators that paper 01 names, and one for paper 02, each the generator with one answer or output changed, and the demand that rejects each.
+-- The wrong generators that paper 01 names, and three for paper 02, each the generator with one answer or output changed, and the demand that rejects each.
 --   countAs f, scenariosAs f, writtenAs f, shuffleAs f, shuffledAs f == the generator, but one call answers or leaves what f says
 --   copiesIndex0, untouchedOutput, fillsFirstOnly == Scenarios writes something else
 --   byNumber t, comparesNumbers                   == the automaton of t with its events lower first; Scenarios writes what the indices give then, `ord` or not
 --   refusesAll n p                                == every call refuses, with n and p
+--   dropsEndings                                  == Count tells what belongs where no state may stop, marked or not
+--   noneByStart                                   == 9 is said by the start: where it is not live
 --   noneBeforePruning                             == 9 is said by what is admitted, nothing pruned
 --   eightOfCells, eightOfScratch m                == 8 is said of buffers long enough, up to m beyond what is asked
 --   twelveOfBytes, twelveOfNumbers m              == 12 is
@@ -15,21 +17,21 @@
 --   Rejected                                      == each wrong generator is rejected
 -- Assumes nothing.
 use mathlib.Core.Path.{_≡_}
-use mathlib.Core.Bool.{Bool}
+use mathlib.Core.Bool.{Bool, false, not}
 use mathlib.Core.List.{List, [], _∷_}
 use Prim.Native.Nat.{ℕ, zero, suc, _+_, _*_, _-_}
 use lib.ListN.{length, take}
 use lib.Dec.{ltb, leb, eqb}
 use Rattle.lists.specs.Lists.{pick, any, sum, count, concatMap, range}
-use Rattle.automaton.specs.Automaton.{Automaton, inOrder}
-use Rattle.automaton.specs.Pruning.{keep, passes, LastPass}
-use Rattle.automaton.specs.Counting.{most}
+use Rattle.automaton.specs.Automaton.{Automaton, inOrder, stopping}
+use Rattle.automaton.specs.Pruning.{keep, passes, live, LastPass}
+use Rattle.automaton.specs.Counting.{N, most}
 use Rattle.automaton.specs.Ranking.{unrank}
 use Rattle.promises.specs.Answer.{Answer, served, refused, unless}
 use Rattle.promises.specs.Text.{eventsOf, decoded, jointStates}
 use Rattle.promises.specs.Rig.{rigAutomaton, start}
 use Rattle.promises.specs.Calls as calls
-use Rattle.promises.specs.Calls.{rows, sized, counted, total, outputAfter}
+use Rattle.promises.specs.Calls.{rows, sized, countRows, counted, total, outputAfter}
 use Rattle.promises.specs.Demand3.{Calls, Demand}
 use Rattle.promises.specs.Demand2.{Demand2}
 use Rattle.promises.specs.Refusals.{Sized}
@@ -136,6 +138,21 @@ noneBeforePruning = countAs (λ t h cells.
     (unless 10 0 (leb most (total t h))
     (served (total t h ∷ passes (rigAutomaton t) ∷ [])))))
 
+-- '01 has every run go on without end, which drops these scenarios' (02 no. 4)
+unfoldable pub dropsEndings : Calls
+dropsEndings = countAs (λ t h cells.
+    sized t h cells
+    (countRows (N (stopping (λ x. false) (rigAutomaton t)) h (start t))
+    (served (N (stopping (λ x. false) (rigAutomaton t)) h (start t) ∷ passes (stopping (λ x. false) (rigAutomaton t)) ∷ []))))
+
+-- 'A live state may then have no scenario of some length, so 9 depends on the horizon.' (02 no. 4)
+unfoldable pub noneByStart : Calls
+noneByStart = countAs (λ t h cells.
+    sized t h cells
+    (unless 9 0 (not (live (rigAutomaton t) (start t)))
+    (unless 10 0 (leb most (total t h))
+    (served (total t h ∷ passes (rigAutomaton t) ∷ [])))))
+
 -- 'refusal 8 or 12 said of buffers long enough': `more` elements, and one, are asked for beyond what 01 asks
 module _ (more : ℕ) where
   unfoldable pub eightOfCells : Calls
@@ -223,6 +240,9 @@ pub record Rejected : Type 0 where
   pub refuses-all : (n p : ℕ) → Demand (refusesAll n p) → ⊥
   -- ''none' said before pruning (3)'
   pub none-before-pruning : Demand noneBeforePruning → ⊥
+  -- 'drops these scenarios'; '9 depends on the horizon' (02 no. 4)
+  pub drops-endings : Demand dropsEndings → ⊥
+  pub none-by-start : Demand noneByStart → ⊥
   -- 'refusal 8 or 12 said of buffers long enough (3)'
   pub eight-of-cells : (more : ℕ) → Demand (eightOfCells more) → ⊥
   pub eight-of-scratch : (more : ℕ) → Demand (eightOfScratch more) → ⊥
