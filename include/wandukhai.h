@@ -15,25 +15,32 @@
  *   mon S          a new monitor with states 0 to S-1, S from 1 to 32, starting in 0; one to four monitors
  *   mon S start    the same, starting in the state given, which is below S
  *   go s e t       the latest monitor moves from s to t on event e
+ *   stop s         marks state s of the latest monitor; `go` and `stop` lines may be mixed
  * P is the product of all S, at most 1,024. The horizon h is 0 to 1,000. N is the number of scenarios of h events.
+ *
+ * A joint state is stoppable if every monitor's state is marked. It is live if, for every k, k events can follow, or fewer, none included,
+ * that lead to a stoppable state. A scenario has exactly h events and passes live states only. In a rig without stoppable states it can be
+ * carried on for ever; in one with them, there may be scenarios of one horizon and none of the next.
  *
  * Returned: 0 where the call is served, else the number of refusal, with a place (0 where none is named):
  *    1  text over 65,535 bytes
  *    2  no such line form, a field that is no number, or the last line unended;  place: line, from 1
  *       on line 2, an `ord` with other than E events
- *    3  a number out of its range, a start not below S, or a fifth `mon`         place: line
- *    4  s and e again in one monitor                                             place: line
- *    5  first line not `rig`, `rig` later, `ord` not on line 2, `go` before      place: line; at the end, lines + 1
- *       `mon`, or no `mon`
+ *    3  a number out of its range, a start or a marked state not below S, or     place: line
+ *       a fifth `mon`
+ *    4  s and e again in one monitor, or a state marked twice                    place: line
+ *    5  first line not `rig`, `rig` later, `ord` not on line 2, `go` or `stop`   place: line; at the end, lines + 1
+ *       before `mon`, or no `mon`
  *    6  P over 1,024                                                             place: `mon` line
  *    7  h over 1,000
  *    8  cells_len below (h + 1) * P; scratch_len below 2 * draws_len
- *    9  N is 0: no scenario
+ *    9  N is 0: no scenario of this horizon
  *   10  N is 18,446,744,073,709,551,615 or more
  *   11  index not below N                                                        place: position in the list, from 0
  *   12  out_len below indices_len * h, or below draws_len
  *   13  event byte E or more                                                     place: position in the sequence, from 0
- *   14  the sequence is no scenario                                              place: the first event that leads astray, from 0
+ *   14  the sequence is no scenario                                              place: the first event that is not admitted or leads to a
+ *                                                                                state not live, from 0
  *   15  draw i not from i to n-1                                                 place: position, from 0
  *   16  an event named twice in `ord`                                            place: line
  * Checks go in the order 1, 2 to 6 and 16 line by line (on one line 2, 5, 3, 16, 4, 6), 7, 8, 12, 13, 9, 10, 11, 14, 15.

@@ -17,8 +17,8 @@ static uint8_t events[INDICES * HORIZON];
 static const uint64_t indices[INDICES] = {0, HORIZON / 2, HORIZON};
 static uint64_t n;
 
-/* Two monitors of 32 states that admit every event in every state. In the first only events 14 and 15 lead on for ever, 14 once: N is h + 1;
- * or, where `many`, all of them do: N is 16 ^ h. */
+/* Two monitors of 32 states that admit every event in every state, but none in the last of the first; all the others are marked. In the first
+ * only events 14 and 15 lead on for ever, 14 once: N is h + 1; or, where `many`, all of them do: N is 16 ^ h. */
 static void write_rig(int many)
 {
     char *end = text + sprintf(text, "rig\t%d\n", EVENTS);
@@ -30,10 +30,14 @@ static void write_rig(int many)
             to = many || e == 15 ? s : s == 0 && e == 14 ? 1 : S - 1;
             end += sprintf(end, "go\t%d\t%d\t%d\n", s, e, to);
         }
+    for (s = 0; s < S - 1; s++)
+        end += sprintf(end, "stop\t%d\n", s);
     end += sprintf(end, "mon\t%d\n", S);
     for (s = 0; s < S; s++)
         for (e = 0; e < EVENTS; e++)
             end += sprintf(end, "go\t%d\t%d\t%d\n", s, e, (s + 1) % S);
+    for (s = 0; s < S; s++)
+        end += sprintf(end, "stop\t%d\n", s);
 }
 
 static void count(void)

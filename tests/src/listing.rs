@@ -1,6 +1,7 @@
 //! What the program `scenarios` prints for an input, every byte, from the independent implementation. No index is turned into a scenario:
 //! the lines come from walking the live states, the first event of the order first.
 use crate::model::{self, Pruned};
+use std::collections::HashSet;
 
 /// 'It owns 8,192 cells.'
 const CELLS: usize = 8192;
@@ -59,17 +60,34 @@ fn asked(input: &[u8]) -> Option<(u64, &[u8])> {
     }
 }
 
-/// Walks on from x by `left` events, the first of the order first, and notes each sequence that it comes to the end of, until there are enough.
-fn walk(pruned: &Pruned, x: usize, left: usize, events: &mut Vec<u8>, found: &mut Vec<Vec<u8>>) {
-    if left == 0 {
-        found.push(events.clone());
-        return;
-    }
-    for &e in &pruned.order {
-        if let (true, Some(y)) = (found.len() < LINES, pruned.step(x, e)) {
-            events.push(e as u8);
-            walk(pruned, y, left - 1, events, found);
-            events.pop();
+#[derive(Default)]
+struct Walk {
+    events: Vec<u8>,
+    found: Vec<Vec<u8>>,
+    /// The states, each with a number of events left, from which nothing was found: runs stop before.
+    vain: HashSet<(usize, usize)>,
+}
+
+impl Walk {
+    /// Walks on from x by `left` events, the first of the order first, and notes each sequence that it comes to the end of, until there are enough.
+    fn on(&mut self, pruned: &Pruned, x: usize, left: usize) {
+        if left == 0 {
+            self.found.push(self.events.clone());
+            return;
+        }
+        let before = self.found.len();
+        for &e in &pruned.order {
+            match pruned.step(x, e) {
+                Some(y) if self.found.len() < LINES && !self.vain.contains(&(y, left - 1)) => {
+                    self.events.push(e as u8);
+                    self.on(pruned, y, left - 1);
+                    self.events.pop();
+                }
+                _ => (),
+            }
+        }
+        if self.found.len() == before {
+            self.vain.insert((x, left));
         }
     }
 }
@@ -89,10 +107,10 @@ pub fn listing(input: &[u8]) -> Listing {
     }
     let mut printed = line(&[b"count".to_vec(), decimal(n), decimal(passes)]);
     let pruned = model::prune(&model::read(text).expect("a readable text"));
-    let mut found = vec![];
-    walk(&pruned, pruned.start, horizon as usize, &mut vec![], &mut found);
-    assert_eq!(found.len() as u64, n.min(LINES as u64), "the independent count of the sequences that are walked");
-    for (i, events) in found.iter().enumerate() {
+    let mut walk = Walk::default();
+    walk.on(&pruned, pruned.start, horizon as usize);
+    assert_eq!(walk.found.len() as u64, n.min(LINES as u64), "the independent count of the sequences that are walked");
+    for (i, events) in walk.found.iter().enumerate() {
         printed.extend(scenario_line(i as u64, events));
     }
     let outcome = match n {

@@ -6,8 +6,8 @@ use outside::guarded::{bytes, noise_bytes, noise_words, words, Guarded};
 use outside::listing::scenario_line;
 use outside::model;
 use outside::random::Random;
-use outside::texts::{self, damage, from_state_0, lower_first, other_order, other_start, text, Shape};
-use std::collections::BTreeMap;
+use outside::texts::{self, damage, endless, from_state_0, lower_first, other_marks, other_order, other_start, text, Shape};
+use std::collections::{BTreeMap, HashSet};
 
 #[derive(Default)]
 struct Tally {
@@ -19,6 +19,17 @@ struct Tally {
     begun: u64,
     /// How many random rigs were served whose events are not compared lower first.
     ordered: u64,
+    /// By number of refusal: how many random texts were refused for a `stop` line.
+    stops: BTreeMap<u64, u64>,
+    /// How many random rigs were served that have a stoppable state, and how many of these also a live state without any scenario of the horizon.
+    stoppable: u64,
+    vain: u64,
+    /// How many random rigs have no scenario of the horizon although their start is live.
+    over: u64,
+    /// How many small rigs were served at one horizon and have no scenario of the next.
+    ending: u64,
+    /// How many sequences of small rigs are refused 14 at an event before which no scenario goes on already.
+    late: u64,
     /// How many lines had too short an output, so that nothing is written.
     short: u64,
 }
@@ -111,7 +122,7 @@ fn shuffle(tally: &mut Tally, rng: &mut Random, n: u64, draws: &[u64], scratch: 
 
 /// The worked examples of the paper and of its table of refusals, with the answers written there.
 fn worked(tally: &mut Tally, rng: &mut Random) {
-    use texts::{A, A_FROM_1, A_ORDERED, B, F, ONE};
+    use texts::{A, A_FROM_1, A_ORDERED, B, B_STOPS, EITHER, F, LAST, ONE};
     let at = |t: &str, h: u64, cells: usize, number: u64, words: [u64; 2]| (t.as_bytes().to_vec(), h, cells, number, words);
     let two = "rig\t1\nmon\t32\nmon\t32\n".to_string();
     let mut counts = vec![
@@ -173,6 +184,46 @@ fn worked(tally: &mut Tally, rng: &mut Random) {
         at(&format!("rig\t1\nmon\t1\nord{}\n", "\t0".repeat(30_000)), 0, 2, 5, [3, 0]),
         at(&format!("rig\t16\nord{}\n", "\t0".repeat(30_000)), 0, 2, 2, [2, 0]),
         at("rig\t17\nord\t1\t1\n", 0, 2, 3, [1, 0]),
+        // `stop`: served at one horizon and 'none' at the next; marks that do nothing; all its cases, in their order
+        at(LAST, 0, 2, 0, [1, 1]),
+        at(LAST, 1, 4, 0, [1, 1]),
+        at(LAST, 2, 6, 9, [0, 0]),
+        at("rig\t1\nmon\t1\nstop\t0\n", 0, 1, 0, [1, 1]),
+        at("rig\t1\nmon\t1\nstop\t0\n", 1, 2, 9, [0, 0]),
+        at("rig\t2\nmon\t2\nstop\t0\n", 0, 2, 0, [1, 2]),
+        at("rig\t1\nmon\t2\nstop\t1\n", 0, 2, 9, [0, 0]),
+        at(EITHER, 1, 8, 0, [2, 2]),
+        at(EITHER, 2, 12, 0, [1, 2]),
+        at(B_STOPS, 1, 8, 0, [2, 1]),
+        at(B_STOPS, 2, 12, 0, [2, 1]),
+        at(&B_STOPS.replacen("stop\t1\n", "", 1), 1, 8, 0, [1, 3]),
+        at(&B_STOPS.replacen("stop\t1\n", "stop\t0\n", 1), 1, 8, 0, [1, 2]),
+        at(&format!("{F}stop\t0\n"), 64, 65, 10, [0, 0]),
+        at("rig\t1\nmon\t32\nstop\t31\n", 0, 32, 9, [0, 0]),
+        at("rig\t1\nmon\t2\nstop\t1\nstop\t0\nmon\t2\nstop\t1\nstop\t0\n", 0, 4, 0, [1, 1]),
+        at("rig\t1\nmon\t2\nstop\n", 0, 2, 2, [3, 0]),
+        at("rig\t1\nmon\t2\nstop\t\n", 0, 2, 2, [3, 0]),
+        at("rig\t1\nmon\t2\nstop\t0\t1\n", 0, 2, 2, [3, 0]),
+        at("rig\t1\nmon\t2\nstop\t9\t9\t9\n", 0, 2, 2, [3, 0]),
+        at("rig\t1\nmon\t2\nstop\tx\n", 0, 2, 2, [3, 0]),
+        at("rig\t1\nmon\t2\nstop\t00\n", 0, 2, 2, [3, 0]),
+        at("rig\t1\nmon\t2\nstop\t100000\n", 0, 2, 2, [3, 0]),
+        at("rig\t1\nmon\t2\nstop\t0", 0, 2, 2, [3, 0]),
+        at("rig\t1\nstop\t\n", 0, 2, 2, [2, 0]),
+        at("stop\n", 0, 2, 2, [1, 0]),
+        at("stop\t0\n", 0, 2, 5, [1, 0]),
+        at("rig\t1\nstop\t0\n", 0, 2, 5, [2, 0]),
+        at("rig\t1\nstop\t99999\n", 0, 2, 5, [2, 0]),
+        at("rig\t2\nord\t1\t0\nstop\t0\n", 0, 2, 5, [3, 0]),
+        at("rig\t1\nmon\t2\nstop\t2\n", 0, 2, 3, [3, 0]),
+        at("rig\t1\nmon\t32\nstop\t32\n", 0, 2, 3, [3, 0]),
+        at("rig\t1\nmon\t2\nstop\t256\n", 0, 2, 3, [3, 0]),
+        at("rig\t1\nmon\t2\nstop\t65536\n", 0, 2, 3, [3, 0]),
+        at("rig\t1\nmon\t3\nmon\t2\nstop\t2\n", 0, 2, 3, [4, 0]),
+        at("rig\t1\nmon\t2\nstop\t2\nstop\t2\n", 0, 2, 3, [3, 0]),
+        at(&format!("{LAST}stop\t1\n"), 0, 2, 4, [5, 0]),
+        at("rig\t1\nmon\t2\nstop\t1\ngo\t0\t0\t1\nstop\t0\nstop\t1\n", 0, 2, 4, [6, 0]),
+        at(&format!("{LAST}go\t0\t0\t1\n"), 0, 2, 4, [5, 0]),
     ];
     let path: String = (0..31).map(|s| format!("go\t{s}\t0\t{}\n", s + 1)).collect();
     counts.push(at(&format!("rig\t1\nmon\t32\n{path}"), 0, 32, 9, [0, 0]));
@@ -185,11 +236,13 @@ fn worked(tally: &mut Tally, rng: &mut Random) {
     assert_eq!((want.number, want.out), (0, vec![1, 0, 1, 0, 1, 0, 0, 1, 0]));
     let want = scenarios(tally, rng, A_ORDERED.as_bytes(), 3, &[0, 1, 2, 3, 4], 8, 15);
     assert_eq!((want.number, want.out), (0, vec![1, 0, 1, 1, 0, 0, 0, 1, 0, 0, 0, 1, 0, 0, 0]));
+    let want = scenarios(tally, rng, B_STOPS.as_bytes(), 2, &[1, 0], 12, 4);
+    assert_eq!((want.number, want.out), (0, vec![0, 1, 0, 0]));
     for (list, out, number, place) in [(vec![0, 1], 5, 12, 0), (vec![5], 3, 11, 0), (vec![4, 9, 5], 9, 11, 1), (vec![], 0, 0, 0)] {
         let want = scenarios(tally, rng, a, 3, &list, 8, out);
         assert_eq!((want.number, want.words[0]), (number, place), "the independent scenarios of a worked example");
     }
-    let sequences: [(&[u8], &[u8], u64, u64); 7] = [
+    let sequences: [(&[u8], &[u8], u64, u64); 16] = [
         (a, &[1, 0, 1], 0, 4),
         (A_ORDERED.as_bytes(), &[0, 1, 0], 0, 2),
         (b, &[1], 14, 0),
@@ -197,10 +250,25 @@ fn worked(tally: &mut Tally, rng: &mut Random) {
         (a, &[0, 1, 1], 14, 2),
         (f, &[2; 64], 13, 0),
         (f, &[0; 64], 10, 0),
+        (B_STOPS.as_bytes(), &[0, 1], 0, 1),
+        (B_STOPS.as_bytes(), &[1, 0], 14, 1),
+        (LAST.as_bytes(), &[0], 0, 0),
+        (LAST.as_bytes(), &[0, 0], 9, 0),
+        // the first event that isn't admitted, though no scenario begins with those before it
+        (EITHER.as_bytes(), &[0], 0, 0),
+        (EITHER.as_bytes(), &[0, 1], 14, 1),
+        (EITHER.as_bytes(), &[0, 0, 0], 14, 1),
+        (EITHER.as_bytes(), &[1, 1, 0], 14, 2),
+        (EITHER.as_bytes(), &[1, 1, 1], 0, 0),
     ];
     for (t, w, number, word) in sequences {
         let want = index(tally, rng, t, w, 300);
         assert_eq!((want.number, want.words[0]), (number, word), "the independent index of a worked example");
+    }
+    for (at, byte) in (0..LAST.len()).flat_map(|at| (0..=255).map(move |byte| (at, byte))) {
+        let mut t = LAST.as_bytes().to_vec();
+        t[at] = byte;
+        count(tally, rng, &t, 1, 4);
     }
     assert_eq!(shuffle(tally, rng, 5, &[4, 4, 4], 6, 3), [4, 0, 1]);
     assert_eq!(shuffle(tally, rng, 0, &[], 0, 0), []);
@@ -228,6 +296,12 @@ fn horizon(rng: &mut Random) -> u64 {
     }
 }
 
+/// The word of the line at this place, from 1, if there is such a line and it is ended.
+fn word(t: &[u8], place: u64) -> Option<&[u8]> {
+    let line = t.split_inclusive(|&b| b == 10).nth((place as usize).checked_sub(1)?)?;
+    line.strip_suffix(b"\n")?.split(|&b| b == 9).next()
+}
+
 /// The three calls on one text, readable or not.
 fn calls_on(tally: &mut Tally, rng: &mut Random, t: &[u8]) {
     let h = horizon(rng);
@@ -237,9 +311,18 @@ fn calls_on(tally: &mut Tally, rng: &mut Random, t: &[u8]) {
     let need = (h.min(1000) as usize + 1) * states;
     let cells = about(rng, need);
     let counted = count(tally, rng, t, h, cells);
-    if let (0, Ok(rig)) = (counted.number, &rig) {
-        tally.begun += rig.monitors.iter().any(|m| m.start > 0) as u64;
-        tally.ordered += !rig.order.is_sorted() as u64;
+    match (&rig, counted.number) {
+        (Ok(rig), 0) => {
+            let stoppable = rig.monitors.iter().all(|m| !m.marked.is_empty());
+            let (live, scenarios) = (&counted.cells[..states], &counted.cells[h as usize * states..]);
+            tally.begun += rig.monitors.iter().any(|m| m.start > 0) as u64;
+            tally.ordered += !rig.order.is_sorted() as u64;
+            tally.stoppable += stoppable as u64;
+            tally.vain += live.iter().zip(scenarios).any(|(&live, &n)| live == 1 && n == 0) as u64;
+        }
+        (Ok(rig), 9) => tally.over += counted.cells[rig.start()],
+        (Err((number, place)), _) if word(t, *place) == Some(b"stop") => *tally.stops.entry(*number).or_default() += 1,
+        _ => (),
     }
     let n = if counted.number == 0 { counted.words[0] } else { 1 + rng.below(5) };
     let mut list: Vec<u64> = (0..rng.below(6)).map(|_| rng.below(n)).collect();
@@ -270,12 +353,13 @@ fn calls_on(tally: &mut Tally, rng: &mut Random, t: &[u8]) {
     index(tally, rng, t, &sequence, cells);
 }
 
-/// Demand 3 on one small rig: count, order, scenarios, indices and full shuffles against every sequence of h events.
-fn demand(tally: &mut Tally, rng: &mut Random, t: &[u8], h: usize) {
+/// Demand 3 on one small rig: count, order, scenarios, indices and full shuffles against every sequence of h events. Gives back whether any belongs.
+fn demand(tally: &mut Tally, rng: &mut Random, t: &[u8], h: usize) -> bool {
     let rig = model::read(t).expect("a readable text");
     let runs = Runs::of(&rig);
     let all = sequences(&rig, &runs, h);
     let belong: Vec<&Vec<u8>> = all.iter().filter(|(_, bad)| bad.is_none()).map(|(w, _)| w).collect();
+    let beginnings: HashSet<&[u8]> = belong.iter().flat_map(|w| (0..=h).map(|k| &w[..k])).collect();
     let n = belong.len() as u64;
     let room = (h + 1) * rig.joint_states();
     let input = || format!("h {h}, {}", shown(t));
@@ -295,7 +379,10 @@ fn demand(tally: &mut Tally, rng: &mut Random, t: &[u8], h: usize) {
     for (w, bad) in &all {
         let (number, word) = match (n, bad) {
             (0, _) => (9, 0),
-            (_, Some(k)) => (14, *k),
+            (_, Some(k)) => {
+                tally.late += !beginnings.contains(&w[..*k as usize]) as u64;
+                (14, *k)
+            }
             (_, None) => {
                 i += 1;
                 (0, i - 1)
@@ -319,6 +406,7 @@ fn demand(tally: &mut Tally, rng: &mut Random, t: &[u8], h: usize) {
             told_differs(told, 0, [0, 0]).or(told_differs(listed, 0, [0, 0])).or((!once).then(|| "not each scenario exactly once".into()));
         tally.note("demand 3: shuffle", 0, wrong, input);
     }
+    n > 0
 }
 
 /// A readable rig and the same one with its states renumbered, so that every monitor starts in 0: the library tells the same count and passes,
@@ -365,6 +453,39 @@ fn reordered(tally: &mut Tally, rng: &mut Random, t: &[u8], h: u64) {
     tally.note("reordered: scenarios", 0, wrong, input);
     let at = rng.below(list.len() as u64) as usize;
     tally.note("reordered: index", 0, told_differs(calls::index(t, &ours[at], &mut cells), 0, [at as u64, 0]), input);
+}
+
+/// A readable rig with its `stop` lines and without them. Where some monitor has none, the library tells the same, fills the same cells and writes
+/// the same scenarios; where all have some, no count is lower and no scenario is lost.
+fn unmarked(tally: &mut Tally, t: &[u8], h: u64) {
+    let rig = model::read(t).expect("a readable text");
+    let plain = endless(t);
+    if plain == t {
+        return;
+    }
+    let mut cells = vec![1u64; (h as usize + 1) * rig.joint_states()];
+    let mut plain_cells = cells.clone();
+    let (told, same) = (calls::count(t, h, &mut cells), calls::count(&plain, h, &mut plain_cells));
+    let all = rig.monitors.iter().all(|m| !m.marked.is_empty());
+    let input = || format!("h {h}, {} and {}", shown(t), shown(&plain));
+    let wrong = if all {
+        cells.iter().zip(&plain_cells).any(|(n, plain)| n < plain).then(|| "a lower count".into())
+    } else {
+        told_differs(told, same.number, same.words).or((cells != plain_cells).then(|| "other cells".into()))
+    };
+    tally.note(if all { "all marked: count" } else { "some marked: count" }, same.number, wrong, input);
+    if same.number != 0 || told.number != 0 || told.words[0] > 300 {
+        return;
+    }
+    let mut listed = |t: &[u8], n: u64| -> Vec<Vec<u8>> {
+        let mut out = vec![1u8; n as usize * h as usize];
+        calls::scenarios(t, h, &(0..n).collect::<Vec<u64>>(), &mut cells, &mut out);
+        (0..n as usize).map(|k| out[k * h as usize..(k + 1) * h as usize].to_vec()).collect()
+    };
+    let (ours, theirs) = (listed(t, told.words[0]), listed(&plain, same.words[0]));
+    let wrong = if all { theirs.iter().any(|w| !ours.contains(w)) } else { ours != theirs };
+    let name = if all { "all marked: listed" } else { "some marked: listed" };
+    tally.note(name, 0, wrong.then(|| format!("{ours:?} and {theirs:?}")), input);
 }
 
 /// Draws for a shuffle of n numbers, most of them valid.
@@ -471,10 +592,18 @@ fn limits(tally: &mut Tally, rng: &mut Random) {
 
 /// The largest rigs, the longest horizon, the longest texts.
 fn large(tally: &mut Tally, rng: &mut Random) {
-    for (monitors, density) in
-        [(vec![32, 32], 100), (vec![32, 32], 20), (vec![4, 8, 4, 8], 60), (vec![2, 2, 16, 16], 90), (vec![32, 16, 2], 50)]
-    {
-        let t = text(&Shape { events: 16, monitors, density }, rng);
+    for (monitors, density, marks) in [
+        (vec![32, 32], 100, 0),
+        (vec![32, 32], 100, 100),
+        (vec![32, 32], 20, 0),
+        (vec![32, 32], 20, 30),
+        (vec![4, 8, 4, 8], 60, 0),
+        (vec![4, 8, 4, 8], 30, 70),
+        (vec![2, 2, 16, 16], 90, 0),
+        (vec![32, 16, 2], 50, 0),
+        (vec![32, 16, 2], 5, 50),
+    ] {
+        let t = text(&Shape { events: 16, monitors, density, marks }, rng);
         let h = rng.below(40);
         count(tally, rng, &t, h, (h as usize + 1) * 1024 + 5);
         let counted = count(tally, rng, &t, 12, 13 * 1024);
@@ -483,16 +612,20 @@ fn large(tally: &mut Tally, rng: &mut Random) {
         let listed = scenarios(tally, rng, &t, 12, &list, 13 * 1024, 50 * 12);
         index(tally, rng, &t, &listed.out[..12], 13 * 1024);
     }
-    let t = text(&Shape { events: 3, monitors: vec![4, 3, 2], density: 70 }, rng);
-    count(tally, rng, &t, 1000, 1001 * 24);
+    for marks in [0, 50] {
+        let t = text(&Shape { events: 3, monitors: vec![4, 3, 2], density: 70, marks }, rng);
+        count(tally, rng, &t, 1000, 1001 * 24);
+    }
     let path: String = (0..31).map(|s| format!("go\t{s}\t0\t{}\n", s + 1)).collect();
     let still: String = (0..32).map(|s| format!("go\t{s}\t0\t{s}\n")).collect();
     for t in [
         format!("rig\t1\nmon\t32\n{path}"),
         format!("rig\t1\nmon\t32\n{path}go\t31\t0\t31\n"),
         format!("rig\t1\nmon\t32\n{still}mon\t32\n{path}"),
+        format!("rig\t1\nmon\t32\n{path}stop\t31\n"),
+        format!("rig\t1\nmon\t32\n{still}stop\t0\nmon\t32\n{path}stop\t31\n"),
     ] {
-        for h in [0, 1, 31, 1000] {
+        for h in [0, 1, 31, 32, 1000] {
             let cells = (h as usize + 1) * 1024;
             count(tally, rng, t.as_bytes(), h, cells);
             index(tally, rng, t.as_bytes(), &vec![0; h as usize], cells);
@@ -562,13 +695,14 @@ fn main() {
         match rng.below(16) {
             0 | 1 => t = other_start(&t, rng),
             2 => t = other_order(&t, rng),
+            3 | 4 => t = other_marks(&t, rng),
             _ => (),
         }
         calls_on(&mut tally, rng, &t);
     }
     for _ in 0..1_500 {
         let monitors = (0..rng.from_to(1, 5)).map(|_| *rng.pick(&[1, 2, 3, 8, 16, 31, 32, 33])).collect();
-        let t = text(&Shape { events: rng.from_to(1, 3), monitors, density: 60 }, rng);
+        let t = text(&Shape { events: rng.from_to(1, 3), monitors, density: 60, marks: *rng.pick(&[0, 50]) }, rng);
         calls_on(&mut tally, rng, &t);
     }
     for _ in 0..120_000 {
@@ -585,11 +719,19 @@ fn main() {
         let h = rng.below(if shape.events == 3 { 6 } else { 8 }) as usize;
         demand(&mut tally, rng, &t, h);
     }
+    for _ in 0..2_000 {
+        let monitors = vec![rng.from_to(2, 8), rng.from_to(1, 2)];
+        let t = text(&Shape { events: rng.from_to(2, 3), monitors, density: 50, marks: 60 }, rng);
+        let served: Vec<bool> = (0..5).map(|h| demand(&mut tally, rng, &t, h)).collect();
+        assert!(served.is_sorted_by(|a, b| a >= b), "a sequence that belongs begins with a shorter one that does");
+        tally.ending += (served[0] && !served[4]) as u64;
+    }
     for _ in 0..20_000 {
         let t = text(&Shape::small(rng, 4, 40), rng);
         let h = rng.below(20);
         renumbered(&mut tally, rng, &t, h);
         reordered(&mut tally, rng, &t, h);
+        unmarked(&mut tally, &t, h);
     }
     all_shuffles(&mut tally, rng);
     shuffles(&mut tally, rng, 200_000);
@@ -602,6 +744,10 @@ fn main() {
         ("index", &[0, 1, 2, 3, 4, 5, 6, 7, 8, 9, 10, 13, 14, 16]),
         ("shuffle", &[0, 8, 12, 15]),
         ("line", &[0]),
+        ("some marked: count", &[0, 9]),
+        ("some marked: listed", &[0]),
+        ("all marked: count", &[0, 9]),
+        ("all marked: listed", &[0]),
     ] {
         for &number in numbers {
             assert!(tally.answers.contains_key(&(call, number)), "no {call} call is expected to answer {number}");
@@ -609,12 +755,27 @@ fn main() {
     }
     assert!(tally.begun > 1_000, "few rigs begin in another state than 0");
     assert!(tally.ordered > 1_000, "few rigs have another order of events than lower first");
+    for number in 2..=5 {
+        assert!(tally.stops.get(&number).is_some_and(|&n| n > 1_000), "few texts are refused {number} for a `stop` line");
+    }
+    assert!(tally.stoppable > 1_000, "few rigs have a stoppable state");
+    assert!(tally.vain > 500, "few rigs have a live state without any scenario of the horizon");
+    assert!(tally.over > 1_000, "few rigs have a live start and no scenario of the horizon");
+    assert!(tally.ending > 300, "few rigs are served at one horizon and have no scenario of the next");
+    assert!(tally.late > 500, "few sequences are refused at an event before which no scenario goes on already");
     assert!(tally.short > 1_000, "few lines have too short an output");
     for ((call, number), (times, wrong)) in &tally.answers {
         let answer = if *number == 0 { "served".into() } else { format!("refusal {number}") };
         println!("{call:20} {answer:12} {times:8} {wrong:8}");
     }
     println!("{} of the served rigs begin in another state than 0, {} have another order of events", tally.begun, tally.ordered);
+    println!("{} have a stoppable state, {} a live state without any scenario of the horizon", tally.stoppable, tally.vain);
+    println!(
+        "{} rigs have a live start and no scenario of the horizon, {} are served at one and not at the next",
+        tally.over, tally.ending
+    );
+    println!("{} sequences are refused at an event before which no scenario goes on already", tally.late);
+    println!("texts refused for a `stop` line, by number: {:?}", tally.stops);
     println!("{} of the lines have too short an output", tally.short);
     println!("{} comparisons, {} differences", tally.comparisons, tally.differences);
     if tally.differences > 0 {

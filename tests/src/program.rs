@@ -2,7 +2,9 @@
 //! The last line is the number of inputs and of differences; the exit status is 0 only without any.
 use outside::listing::{listing, Outcome};
 use outside::random::Random;
-use outside::texts::{damage, monitors, other_order, other_start, text, Shape, A, A_FROM_1, A_ORDERED, B, F, ONE};
+use outside::texts::{
+    damage, endless, monitors, other_marks, other_order, other_start, text, Shape, A, A_FROM_1, A_ORDERED, B, B_STOPS, F, LAST, ONE,
+};
 use std::collections::{BTreeMap, BTreeSet};
 use std::io::Write;
 use std::process::{ChildStdin, Command, Stdio};
@@ -16,6 +18,8 @@ struct Tally {
     outcomes: BTreeMap<Outcome, (u64, u64)>,
     /// The horizons that were served.
     served: BTreeSet<u64>,
+    /// How many inputs with a `stop` line were served.
+    stops: u64,
 }
 
 /// Lends an input to the program in pieces, with a rest between them. A program that has read enough may close its end.
@@ -57,6 +61,7 @@ impl Tally {
         seen.0 += 1;
         if matches!(want.outcome, Outcome::Fewer | Outcome::Thousand | Outcome::More) {
             self.served.insert(want.horizon);
+            self.stops += u64::from(input.windows(6).any(|w| w == b"\nstop\t"));
         }
         if let Some(what) = wrong {
             seen.1 += 1;
@@ -96,13 +101,23 @@ fn worked(tally: &mut Tally) {
     assert_eq!(tally.compare(&ask(3, A_FROM_1.as_bytes())), whole.as_bytes(), "the independent listing of A from its state 1");
     let whole = "count\t5\t1\n0\t1\t0\t1\n1\t1\t0\t0\n2\t0\t1\t0\n3\t0\t0\t1\n4\t0\t0\t0\n";
     assert_eq!(tally.compare(&ask(3, A_ORDERED.as_bytes())), whole.as_bytes(), "the independent listing of A with another order");
+    let whole = "count\t2\t1\n0\t0\t0\t0\n1\t0\t0\t1\n";
+    assert_eq!(tally.compare(&ask(3, B_STOPS.as_bytes())), whole.as_bytes(), "the independent listing of B with marks");
+    for (h, whole) in [(0, "count\t1\t1\n0\n"), (1, "count\t1\t1\n0\t0\n"), (2, "no\t9\t0\n")] {
+        assert_eq!(tally.compare(&ask(h, LAST.as_bytes())), whole.as_bytes(), "the independent listing of one event and no more");
+    }
+    let shift = include_str!("../../examples/last_bus.ask").split_once('\n').unwrap().1.as_bytes();
+    for (h, first) in [(11, "count\t7\t"), (12, "count\t1\t"), (13, "no\t9\t0\n")] {
+        assert!(tally.compare(&ask(h, shift)).starts_with(first.as_bytes()), "the independent listing of the last bus");
+        assert_eq!(tally.compare(&ask(h, &endless(shift))), b"no\t9\t0\n", "the independent listing of the last bus without marks");
+    }
     let long = "\n".repeat(65_535);
     let (two, four) = ("rig\t1\nmon\t32\nmon\t32\n", "rig\t1\nmon\t1\nmon\t1\nmon\t1\nmon\t1\n");
     let refused = [
         (0, format!("{long}\n"), "no\t1\t0\n"),
         (0, long, "no\t2\t1\n"),
         (0, "rig\t2\nmon\n".into(), "no\t2\t2\n"),
-        (0, "rig\t2\nmon\t2\nstop\t0\n".into(), "no\t2\t3\n"),
+        (0, "rig\t2\nmon\t2\ngap\t0\t2\n".into(), "no\t2\t3\n"),
         (0, "rig\t02\nmon\t2\n".into(), "no\t2\t1\n"),
         (0, "rig\t2\nmon\t2\ngo\t0\t0\t0".into(), "no\t2\t3\n"),
         (0, "rig\t17\n".into(), "no\t3\t1\n"),
@@ -120,6 +135,13 @@ fn worked(tally: &mut Tally) {
         (0, "rig\t2\nmon\t1\nord\t0\t0\n".into(), "no\t5\t3\n"),
         (0, "ord\n".into(), "no\t5\t1\n"),
         (0, "rig\t1\nord\t0\n".into(), "no\t5\t3\n"),
+        (0, "rig\t1\nmon\t2\nstop\n".into(), "no\t2\t3\n"),
+        (0, "rig\t1\nmon\t2\nstop\t0\t1\n".into(), "no\t2\t3\n"),
+        (0, "rig\t1\nmon\t2\nstop\t01\n".into(), "no\t2\t3\n"),
+        (0, "rig\t1\nmon\t2\nstop\t2\n".into(), "no\t3\t3\n"),
+        (0, format!("{LAST}stop\t1\n"), "no\t4\t5\n"),
+        (0, "rig\t1\nstop\t99999\n".into(), "no\t5\t2\n"),
+        (0, "stop\t0\n".into(), "no\t5\t1\n"),
         (0, "rig\t2\nmon\t2\ngo\t2\t0\t0\n".into(), "no\t3\t3\n"),
         (0, "rig\t2\nmon\t2\ngo\t0\t2\t0\n".into(), "no\t3\t3\n"),
         (0, "rig\t2\nmon\t2\ngo\t0\t0\t2\n".into(), "no\t3\t3\n"),
@@ -149,7 +171,7 @@ fn worked(tally: &mut Tally) {
         tally.compare(&ask(h, format!("rig\t1\nmon\t{monitors}\n").as_bytes()));
     }
     for h in [0, 1, 2, 7, 30, 63, 999, 1000, 1001, 1002, 8191, 8192, 10_000, 65_535, 65_536, 99_999] {
-        for t in [A, A_FROM_1, A_ORDERED, B, F, ONE, two] {
+        for t in [A, A_FROM_1, A_ORDERED, B, B_STOPS, F, ONE, two] {
             tally.compare(&ask(h, t.as_bytes()));
         }
     }
@@ -165,7 +187,7 @@ fn damaged(tally: &mut Tally) {
             tally.compare(&input);
         }
     }
-    for good in [A_FROM_1, A_ORDERED].map(|t| ask(10, t.as_bytes())) {
+    for good in [(10, A_FROM_1), (10, A_ORDERED), (1, LAST)].map(|(h, t)| ask(h, t.as_bytes())) {
         for at in 0..good.len() {
             tally.compare(&good[..at]);
             tally.compare(&[&good[..at], &good[at + 1..]].concat());
@@ -231,7 +253,8 @@ fn counts(tally: &mut Tally) {
     }
 }
 
-/// The longest listings: at most one event 1, or at most one of two digits, so that there are h + 1 scenarios.
+/// The longest listings: at most one event 1, or at most one of two digits, so that there are h + 1 scenarios. And the longest ways to where a run
+/// stops: 2^30 of 30 events, beside one scenario that goes on.
 fn long_listings(tally: &mut Tally) {
     for (events, often, once) in [(2, 0, 1), (2, 1, 0), (16, 15, 14), (16, 9, 10)] {
         let t = format!("rig\t{events}\nmon\t2\ngo\t0\t{often}\t0\ngo\t0\t{once}\t1\ngo\t1\t{often}\t1\n");
@@ -239,12 +262,18 @@ fn long_listings(tally: &mut Tally) {
             tally.compare(&ask(h, t.as_bytes()));
         }
     }
+    let path: String = (0..30).map(|s| format!("go\t{s}\t0\t{}\ngo\t{s}\t1\t{}\n", s + 1, s + 1)).collect();
+    let t = format!("rig\t3\nmon\t32\n{path}stop\t30\ngo\t0\t2\t31\ngo\t31\t2\t31\n");
+    for (h, first) in [(30, "count\t1073741825\t1\n"), (31, "count\t1\t1\n0\t2\t2"), (255, "count\t1\t1\n0\t2\t2")] {
+        let printed = tally.compare(&ask(h, t.as_bytes()));
+        assert!(printed.starts_with(first.as_bytes()), "the independent listing beside runs that stop");
+    }
 }
 
 /// Inputs about the length that the program can hold, and far longer ones; also some that come in pieces.
 fn long_inputs(tally: &mut Tally, rng: &mut Random) {
-    let whole = text(&Shape { events: 16, monitors: vec![32, 32], density: 100 }, rng);
-    let more = monitors(&Shape { events: 16, monitors: vec![1, 1], density: 100 }, rng);
+    let whole = text(&Shape { events: 16, monitors: vec![32, 32], density: 100, marks: 100 }, rng);
+    let more = monitors(&Shape { events: 16, monitors: vec![1, 1], density: 100, marks: 100 }, rng);
     let largest = [whole, more].concat();
     for line in ["ask\t0\n", "ask\t1000\n", "ask\t99999\n", "ask\t100000\n", "asked\t3\n", "ask\t99999"] {
         for t in [A.as_bytes(), &largest] {
@@ -288,18 +317,19 @@ fn random(tally: &mut Tally, rng: &mut Random) {
         match rng.below(16) {
             0 | 1 => t = other_start(&t, rng),
             2 => t = other_order(&t, rng),
+            3 => t = other_marks(&t, rng),
             _ => (),
         }
         tally.compare(&ask(horizon(rng), &t));
     }
     for _ in 0..100 {
         let (monitors, density) = (vec![rng.from_to(1, 4), rng.from_to(1, 2)], *rng.pick(&[30, 45, 60]));
-        let t = text(&Shape { events: rng.from_to(1, 3), monitors, density }, rng);
+        let t = text(&Shape { events: rng.from_to(1, 3), monitors, density, marks: *rng.pick(&[0, 50]) }, rng);
         tally.compare(&ask(*rng.pick(&[30, 100, 1000]), &t));
     }
     for _ in 0..300 {
         let monitors = (0..rng.from_to(1, 5)).map(|_| *rng.pick(&[1, 2, 3, 8, 16, 31, 32, 33])).collect();
-        let t = text(&Shape { events: rng.from_to(1, 16), monitors, density: 70 }, rng);
+        let t = text(&Shape { events: rng.from_to(1, 16), monitors, density: 70, marks: *rng.pick(&[0, 30, 100]) }, rng);
         tally.compare(&ask(rng.below(10), &t));
     }
     for _ in 0..4_000 {
@@ -324,7 +354,7 @@ fn random(tally: &mut Tally, rng: &mut Random) {
 
 fn main() {
     let program = std::env::args().nth(1).expect("the program to run");
-    let mut tally = Tally { program, inputs: 0, differences: 0, outcomes: BTreeMap::new(), served: BTreeSet::new() };
+    let mut tally = Tally { program, inputs: 0, differences: 0, outcomes: BTreeMap::new(), served: BTreeSet::new(), stops: 0 };
     let rng = &mut Random::seeded(20_261_116);
     worked(&mut tally);
     damaged(&mut tally);
@@ -339,6 +369,7 @@ fn main() {
     for h in [0, 1, 30, 1000] {
         assert!(tally.served.contains(&h), "no input is served at horizon {h}");
     }
+    assert!(tally.stops > 500, "few inputs with a `stop` line are served");
     for (outcome, (times, wrong)) in &tally.outcomes {
         let name = match outcome {
             Outcome::Fewer => "served, fewer than 1,000".into(),
@@ -349,6 +380,7 @@ fn main() {
         };
         println!("{:20} {name:24} {times:8} {wrong:8}", "program");
     }
+    println!("{} of the served inputs have a `stop` line", tally.stops);
     println!("{} listings, {} differences", tally.inputs, tally.differences);
     if tally.differences > 0 {
         std::process::exit(1);

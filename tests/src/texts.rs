@@ -8,18 +8,26 @@ pub const A_FROM_1: &str = "rig\t2\nmon\t2\t1\ngo\t0\t0\t0\ngo\t0\t1\t1\ngo\t1\t
 /// A with event 1 before event 0.
 pub const A_ORDERED: &str = "rig\t2\nord\t1\t0\nmon\t2\ngo\t0\t0\t0\ngo\t0\t1\t1\ngo\t1\t0\t0\n";
 pub const B: &str = "rig\t2\nmon\t2\ngo\t0\t0\t0\ngo\t0\t1\t1\ngo\t1\t0\t0\nmon\t2\ngo\t0\t0\t0\ngo\t0\t1\t1\ngo\t1\t1\t1\n";
+/// B with state 1 of both monitors marked: event 1 may be the last.
+pub const B_STOPS: &str =
+    "rig\t2\nmon\t2\ngo\t0\t0\t0\ngo\t0\t1\t1\ngo\t1\t0\t0\nstop\t1\nmon\t2\nstop\t1\ngo\t0\t0\t0\ngo\t0\t1\t1\ngo\t1\t1\t1\n";
 pub const F: &str = "rig\t2\nmon\t1\ngo\t0\t0\t0\ngo\t0\t1\t0\n";
 pub const ONE: &str = "rig\t1\nmon\t1\ngo\t0\t0\t0\n";
+/// One event, and no more.
+pub const LAST: &str = "rig\t1\nmon\t2\ngo\t0\t0\t1\nstop\t1\n";
+/// Event 0 and no more, or event 1 for ever.
+pub const EITHER: &str = "rig\t2\nmon\t4\ngo\t0\t0\t1\ngo\t0\t1\t2\ngo\t2\t1\t2\nstop\t1\n";
 
-/// The shape of a rig: events, states of each monitor, and how many in a hundred moves it has.
+/// The shape of a rig: events, states of each monitor, how many in a hundred moves it has, and how many in a hundred states are marked.
 pub struct Shape {
     pub events: u64,
     pub monitors: Vec<u64>,
     pub density: u64,
+    pub marks: u64,
 }
 
 impl Shape {
-    /// A small rig of 1 to 4 monitors with at most `most` joint states.
+    /// A small rig of 1 to 4 monitors with at most `most` joint states. Half of them have no marks.
     pub fn small(rng: &mut Random, events: u64, most: u64) -> Shape {
         let mut left = most;
         let monitors = (0..rng.from_to(1, 4))
@@ -29,7 +37,8 @@ impl Shape {
                 s
             })
             .collect();
-        Shape { events: rng.from_to(1, events), monitors, density: *rng.pick(&[25, 50, 70, 85, 100]) }
+        let (density, marks) = (*rng.pick(&[25, 50, 70, 85, 100]), *rng.pick(&[0, 0, 0, 0, 30, 60, 80, 100]));
+        Shape { events: rng.from_to(1, events), monitors, density, marks }
     }
 }
 
@@ -60,16 +69,21 @@ pub fn text(shape: &Shape, rng: &mut Random) -> Vec<u8> {
     [t.as_bytes(), &monitors(shape, rng)].concat()
 }
 
-/// The lines of the monitors of this shape; the `go` lines of each stand in random order.
+/// The lines of the monitors of this shape; the `go` and `stop` lines of each stand in random order.
 pub fn monitors(shape: &Shape, rng: &mut Random) -> Vec<u8> {
     let mut t = String::new();
     for &s in &shape.monitors {
         t += &mon(s, rng);
-        let mut lines = vec![];
-        for (x, e) in (0..s).flat_map(|x| (0..shape.events).map(move |e| (x, e))) {
-            if rng.chance(shape.density, 100) {
-                let at = rng.below(lines.len() as u64 + 1) as usize;
-                lines.insert(at, format!("go\t{x}\t{e}\t{}\n", rng.below(s)));
+        let mut lines: Vec<String> = vec![];
+        let mut add = |line, rng: &mut Random| lines.insert(rng.below(lines.len() as u64 + 1) as usize, line);
+        for x in 0..s {
+            for e in 0..shape.events {
+                if rng.chance(shape.density, 100) {
+                    add(format!("go\t{x}\t{e}\t{}\n", rng.below(s)), rng);
+                }
+            }
+            if rng.chance(shape.marks, 100) {
+                add(format!("stop\t{x}\n"), rng);
             }
         }
         t += &lines.concat();
@@ -121,6 +135,28 @@ pub fn other_order(t: &[u8], rng: &mut Random) -> Vec<u8> {
     ls.concat()
 }
 
+/// The text with one `stop` line more, anywhere: its state is just one of the monitor's or just none, perhaps marked already; or it has no form.
+pub fn other_marks(t: &[u8], rng: &mut Random) -> Vec<u8> {
+    let mut ls = lines(t);
+    let at = rng.below(ls.len() as u64 + 1) as usize;
+    let latest = ls[..at].iter().rev().find(|l| l.starts_with(b"mon\t"));
+    let states: u64 = latest.and_then(|l| String::from_utf8_lossy(l).trim_end().split('\t').nth(1)?.parse().ok()).unwrap_or(2);
+    let near = *rng.pick(&[states.saturating_sub(1), states, states + 1, 0]);
+    let line = match rng.below(8) {
+        0 => "stop\n".to_string(),
+        1 => format!("stop\t{near}\t{}\n", rng.below(3)),
+        2 => format!("stop\t{}\n", rng.pick(FIELDS)),
+        _ => format!("stop\t{near}\n"),
+    };
+    ls.insert(at, line.into_bytes());
+    ls.concat()
+}
+
+/// The text without its `stop` lines.
+pub fn endless(t: &[u8]) -> Vec<u8> {
+    lines(t).into_iter().filter(|l| !l.starts_with(b"stop\t")).flatten().collect()
+}
+
 /// The text without its second line, where that is an `ord` line.
 pub fn lower_first(t: &[u8]) -> Vec<u8> {
     let mut ls = lines(t);
@@ -144,11 +180,14 @@ pub fn from_state_0(rig: &Rig, rng: &mut Random) -> Vec<u8> {
         for ((s, e), y) in &m.moves {
             t += &format!("go\t{}\t{e}\t{}\n", new[*s], new[*y]);
         }
+        for s in &m.marked {
+            t += &format!("stop\t{}\n", new[*s]);
+        }
     }
     t.into_bytes()
 }
 
-const ODD: &[u8] = b"0123456789\t\n\r rigmongord-+\0\x7f\xff";
+const ODD: &[u8] = b"0123456789\t\n\r rigmongordstp-+\0\x7f\xff";
 const FIELDS: &[&str] =
     &["0", "1", "2", "3", "4", "5", "8", "16", "17", "32", "33", "99999", "100000", "00", "01", "", "-1", "1 ", "x", "4294967297"];
 const LINES: &[&str] = &[
@@ -180,7 +219,15 @@ const LINES: &[&str] = &[
     "ord\t2\t0\t1",
     "ord\t0\t01",
     "order\t0",
+    "stop",
+    "stop\t",
     "stop\t0",
+    "stop\t1",
+    "stop\t0\t1",
+    "stop\t32",
+    "stop\t01",
+    "stops\t0",
+    "gap\t0\t2",
     "mon\t2\t1",
     "mon\t3\t2",
     "mon\t2\t2",
