@@ -7,10 +7,11 @@ use native.Mathlib.Nat.{mul-le-mul-right}
 use lib.ListN.{getD, List·getD-append}
 use Rattle.lists.proofs.Tables.{length-tabulate, getD-tabulate, getD-stack}
 use Rattle.automaton.specs.Automaton.{Automaton}
-use Rattle.automaton.specs.Table.{entry, stateRow, tableOf, withTable, Pruned, liveFlags, withFlags}
+use Rattle.automaton.specs.Pruning.{live}
+use Rattle.automaton.specs.Table.{entryInto, rowInto, rowsInto, withTable, Pruned, liveFlags, withFlags}
 use Rattle.rig.specs.declared.Rig.{Rig}
 use Rattle.rig.specs.Record.{recordAutomaton, WellFormed}
-use Rattle.pruning.proofs.Entries.{length-stateRow, length-tableOf, record-distinct, record-few, record-only}
+use Rattle.pruning.proofs.Entries.{length-rowInto, length-rowsInto, record-distinct, record-few, record-only}
 use Rattle.counting.specs.Tabled.{Tabled, Flagged}
 
 module _ (A : Automaton) where
@@ -23,12 +24,12 @@ module _ (A : Automaton) where
       ∙ getD-tabulate _ (A .states) x 0 h
 
   pruned : (t d : List ℕ) → t ≡ withTable A d → Pruned A t
-  unfolding Pruned tableOf stateRow
+  unfolding Pruned rowsInto rowInto
   pruned t d q x c h k =
       ap (λ (l : List ℕ). getD l (x * 16 + c) 0) q
-      ∙ List·getD-append (tableOf A (A .states)) _ 0 (x * 16 + c) (rw length-tableOf (omega (arith, mul-le-mul-right 16 h)))
-      ∙ getD-stack (stateRow A) 16 (length-stateRow A) (A .states) x c 0 h k
-      ∙ getD-tabulate (entry A x) 16 c 0 k
+      ∙ List·getD-append (rowsInto A (live A) (A .states)) _ 0 (x * 16 + c) (rw length-rowsInto (omega (arith, mul-le-mul-right 16 h)))
+      ∙ getD-stack (rowInto A (live A)) 16 (length-rowInto A (live A)) (A .states) x c 0 h k
+      ∙ getD-tabulate (entryInto A (live A) x) 16 c 0 k
 
 -- the pruned table of a record
 pub tabled : (r : Rig) (p : ℕ) (t d : List ℕ) → WellFormed r → p ≡ recordAutomaton r .states → t ≡ withTable (recordAutomaton r) d → Tabled (recordAutomaton r) p t
