@@ -1,6 +1,5 @@
-// Runs the four calls on the examples of paper 01 that are left to a test, on rigs that begin in other states and on rigs with another order of events,
-// and prints what each answers and leaves. Cells, scratch and outputs begin
-// with 7 everywhere and are lent in part, so that what is kept shows: each line ends with how many numbers of each buffer are still 7.
+// Runs the four calls on the examples of paper 01 that are left to a test, on rigs that begin in other states, on rigs with another order of events and on rigs
+// that may stop, and prints what each answers and leaves. Cells, scratch and outputs begin with 7 everywhere and are lent in part, so that what is kept shows: each line ends with how many numbers of each buffer are still 7.
 use generator::Counted;
 use generator::Indexed;
 use generator::Listed;
@@ -18,6 +17,7 @@ fn main() {
     sequences();
     starts();
     orders();
+    stops();
     let again = [4u64, 4, 4];
     show_shuffle(5, &again);
     let low = [0u64, 0];
@@ -119,6 +119,33 @@ fn orders() {
     show_count(
         b"an event twice in ord",
         b"rig\t2\nord\t1\t1\nmon\t1\n",
+        0,
+        1,
+    );
+}
+
+// One event and then the depot is closed; the same with a second monitor, marked and not; and a depot that closes or goes on.
+fn stops() {
+    let closes = b"rig\t1\nmon\t2\ngo\t0\t0\t1\nstop\t1\n";
+    let both = b"rig\t1\nmon\t2\ngo\t0\t0\t1\nstop\t1\nmon\t2\nstop\t1\ngo\t0\t0\t1\n";
+    let one = b"rig\t1\nmon\t2\ngo\t0\t0\t1\nstop\t1\nmon\t2\ngo\t0\t0\t1\n";
+    let may = b"rig\t2\nmon\t4\ngo\t0\t0\t1\ngo\t0\t1\t2\ngo\t2\t1\t2\nstop\t1\n";
+    let two = [1u64, 0];
+    let ended = [0u8];
+    let closed = [0u8, 1];
+    let on = [1u8, 1];
+    show_count(b"closes h 0", closes, 0, 2);
+    show_count(b"closes h 1", closes, 1, 4);
+    show_count(b"closes h 2", closes, 2, 6);
+    show_count(b"both marked h 1", both, 1, 8);
+    show_count(b"one not marked h 1", one, 1, 8);
+    show_list(b"may close h 1: 1 0", may, 1, &two, 2);
+    show_index(b"may close: 0", may, &ended);
+    show_index(b"may close: 0 1", may, &closed);
+    show_index(b"may close: 1 1", may, &on);
+    show_count(
+        b"a state marked twice",
+        b"rig\t1\nmon\t1\nstop\t0\nstop\t0\n",
         0,
         1,
     );

@@ -1,4 +1,5 @@
-// Reads texts and prints what each gives: `read`, E, the events in their order, the number of moves and each S with its start; or `no`, the number and the place.
+// Reads texts and prints what each gives: `read`, E, the events in their order, the number of moves, each S with its start and, where states are marked, `stop` and
+// their number; or `no`, the number and the place.
 // The texts of standard input each have a name up to a line end before them and byte 28 after them; those at the limit of 65,535 bytes are made here.
 use libc::STDIN_FILENO;
 use libc::STDOUT_FILENO;
@@ -20,19 +21,26 @@ fn say_byte(byte: u8) {
     say_number(byte as u64);
 }
 
-fn one_if_move(entry: u8) -> u64
+fn one_unless(entry: u8, none: u8) -> u64
     ensures { λ r. ⌜ r ≤ 1 ⌝ }
 {
-    if entry == 255 { 0 } else { 1 }
+    if entry == none { 0 } else { 1 }
 }
 
-// How many entries of a move table are moves.
-fn moves_in(moves: &[u8; 2048]) -> u64 {
+// How many entries of a table are others than `none`.
+fn entries_in(table: &[u8], none: u8) -> u64 {
     let mut n = 0;
-    for i in 0..2048 {
-        n += one_if_move(moves[i]);
+    for i in 0..table.len() {
+        n += one_unless(table[i], none);
     }
     n
+}
+
+fn say_marks(marks: u64) {
+    if marks > 0 {
+        say(b"\tstop");
+        say_number(marks);
+    }
 }
 
 fn say_record(r: Rig) {
@@ -44,7 +52,7 @@ fn say_record(r: Rig) {
             say_byte(order[i]);
         }
     }
-    say_number(moves_in(&r.moves));
+    say_number(entries_in(&r.moves, 255));
     let counts = r.counts;
     let starts = r.starts;
     for m in 0..4 {
@@ -53,6 +61,7 @@ fn say_record(r: Rig) {
             say_byte(starts[m]);
         }
     }
+    say_marks(entries_in(&r.stops, 0));
 }
 
 fn show(name: &[u8], text: &[u8]) {

@@ -1,4 +1,4 @@
--- The events in their order, then the counts and starts, each within its array.
+-- The events in their order, then the counts and starts, each within its array, then the marks.
 -- Assumes nothing.
 use Prim.Native.Nat.{_≤_, _-_}
 use borrow.Author.Needs.{needs}
@@ -44,8 +44,8 @@ loop-less c = search needs
 loop-again : tie.Need-loop-again Inv-loop μ-loop Inv-loop2 μ-loop2
 loop-again c = search needs
 
-moves-in-requires : tie.Need-moves-in-requires Inv-loop μ-loop Inv-loop2 μ-loop2
-moves-in-requires c κs = search needs
+entries-in-requires : tie.Need-entries-in-requires Inv-loop μ-loop Inv-loop2 μ-loop2
+entries-in-requires c κs = search needs
 
 say-number-requires-2 : tie.Need-say-number-requires-2 Inv-loop μ-loop Inv-loop2 μ-loop2
 say-number-requires-2 c κs = search needs
@@ -74,6 +74,12 @@ loop2-less c = search needs
 loop2-again : tie.Need-loop2-again Inv-loop μ-loop Inv-loop2 μ-loop2
 loop2-again c = search needs
 
+entries-in-requires-2 : tie.Need-entries-in-requires-2 Inv-loop μ-loop Inv-loop2 μ-loop2
+entries-in-requires-2 c κs = search needs
+
+say-marks-requires : tie.Need-say-marks-requires Inv-loop μ-loop Inv-loop2 μ-loop2
+say-marks-requires c κs = search needs
+
 returns : tie.Need-returns Inv-loop μ-loop Inv-loop2 μ-loop2
 returns c = search needs
 
@@ -94,7 +100,7 @@ say-record-spec =
     add-i
     loop-less
     loop-again
-    moves-in-requires
+    entries-in-requires
     say-number-requires-2
     loop2-holds
     array-read-say-byte-2
@@ -104,4 +110,6 @@ say-record-spec =
     add-m
     loop2-less
     loop2-again
+    entries-in-requires-2
+    say-marks-requires
     returns)
