@@ -8,7 +8,6 @@ use mathlib.Core.Option.{Option, none, some, Option·getD}
 use mathlib.Core.List.{List, [], _∷_, _++_, append-nil, List·Memᴰ as In, List·Memᴰ·head as here, List·Memᴰ·tail as there, List·Memᴰ·not-nil, Memᴰ·map as map-in}
 use Prim.Native.Nat.{ℕ, _*_, _≤_, _<_}
 use native.Mathlib.Omega.{arith}
-use lib.ListN.{length}
 use Rattle.lists.specs.Lists.{Pairwise, Permutation}
 use Rattle.lists.proofs.Ordered.{indexOf-ordered}
 use Rattle.lists.proofs.Tells.{tells-true, tells-false}
