@@ -7,7 +7,7 @@
 --   AllAdmit t w        == every monitor of the text t admits w from its start state
 --   AllMayStop t w      == w leads from the start to a stoppable joint state
 --   CarriedOn t w k     == w can be carried on by k events, or by fewer to a stoppable state
---   Belongs t h w       == w has h events, every monitor admits it, and it can be carried on by any further number of events
+--   Belongs t h w       == w has h events, every monitor admits it, and it can be so carried on by any further number of events
 --   Earlier ls a b      == the lines ls put event a before event b
 --   Comes t v w         == v comes before w in the order of their events
 -- A new Kind is one clause of Says and one of Ends. Assumes nothing.
@@ -50,6 +50,7 @@ AllMayStop t w = (m : Monitor) → In m (monitors (decoded t)) → MayStop m (st
 unfoldable pub CarriedOn : List ℕ → List ℕ → ℕ → Type 0
 CarriedOn t w k = (v : List ℕ) × AllAdmit t (w ++ v) × ((length v ≡ k) ⊎ ((length v < k) × AllMayStop t (w ++ v)))
 
+-- 'for every k'; 'the third demand's 'carried on by any further number of events' .. read so from now on' (02 no. 4)
 pub record Belongs (t : List ℕ) (h : ℕ) (w : List ℕ) : Type 0 where
   pub long : length w ≡ h
   pub admitted : AllAdmit t w
