@@ -85,15 +85,19 @@ unmarked : (k : Kind) (ps : List Part) → ((s : ℕ) → In (stop s) ps → ⊥
 unfolding Ends
 unmarked (mon S a) ps nowhere s (u, l, i) = nowhere u i
 
+endless-by-one : (t : List ℕ) (m : Monitor) → In m (monitors (decoded t)) → ((s : ℕ) → In (stop s) (m .parts) → ⊥) → Endless t
+unfolding Endless MayStop
+endless-by-one t m i nowhere = (m, i, λ s l. unmarked (m .kind) (m .parts) nowhere s)
+
 pub without-stop : (t : List ℕ) → Readable t → ((s : ℕ) → In (continues (stop s)) (decoded t) → ⊥) → Endless t
-unfolding Endless MayStop monitors
+unfolding monitors
 without-stop t r nowhere = first (monitors (decoded t)) (r .monitored) (λ m i. i)
   where
     first : (ms : List Monitor) → ms ≢ [] → ((m : Monitor) → In m ms → In m (monitors (decoded t))) → Endless t
     first [] full sub = absurd (full refl)
     first (m ∷ ms) full sub =
         let i = sub m (here refl) in
-        (m, i, λ s l. unmarked (m .kind) (m .parts) (λ s j. ⊎-elim (λ (k, a, b). List·Memᴰ·not-nil a) (nowhere s) (parts-from [] (decoded t) m (stop s) i j)) s)
+        endless-by-one t m i (λ s j. ⊎-elim (λ (k, a, b). List·Memᴰ·not-nil a) (nowhere s) (parts-from [] (decoded t) m (stop s) i j))
 
 module _ (t : List ℕ) (r : Readable t) (e : Endless t) where
   plain : (w : List ℕ) (k : ℕ) → CarriedOn t w k ↔ ((v : List ℕ) × (length v ≡ k) × AllAdmit t (w ++ v))
@@ -122,6 +126,7 @@ stopping = record {
   not-below = not-below;
   marked-twice = marked-twice;
   to-stoppable = to-stoppable;
+  endless-by-one = endless-by-one;
   without-stop = without-stop;
   endless-belongs = endless-belongs;
   endless-none = endless-none;

@@ -24,9 +24,11 @@ pub record Stopping : Type 0 where
       → (m : Monitor) → latest (monitors front) ≡ some m → s < statesOf (m .kind) → In (stop s) (m .parts) → Fault t 4 (suc (length front))
   -- 'A depot closes; its last bus is parked and no event follows. 01 .. drops these scenarios.' What leads to a stoppable state belongs, whatever follows
   pub to-stoppable : (t w : List ℕ) → AllAdmit t w → AllMayStop t w → Belongs t (length w) w
-  -- a rig without a `stop` line has no marked state
+  -- 'Rigs in which some monitor has no marked state': one monitor without a `stop` line makes a rig endless, whatever the others mark
+  pub endless-by-one : (t : List ℕ) (m : Monitor) → In m (monitors (decoded t)) → ((s : ℕ) → In (stop s) (m .parts) → ⊥) → Endless t
+  -- so a rig without a `stop` line is
   pub without-stop : (t : List ℕ) → Readable t → ((s : ℕ) → In (continues (stop s)) (decoded t) → ⊥) → Endless t
-  -- where some monitor has none, a sequence belongs as 01 says: 'some k events can be put after it so that every monitor admits the whole', for every k
+  -- and there a sequence belongs as 01 says: 'some k events can be put after it so that every monitor admits the whole', for every k
   pub endless-belongs : (t : List ℕ) → Readable t → Endless t → (h : ℕ) (w : List ℕ)
       → Belongs t h w ↔ ((length w ≡ h) × AllAdmit t w × ((k : ℕ) → (v : List ℕ) × (length v ≡ k) × AllAdmit t (w ++ v)))
   -- and none belongs at one horizon only if none belongs at any
