@@ -1,5 +1,6 @@
 -- The theorems, in the order of specs/.
 pub mod Joint
+pub mod Sentences
 pub mod Pruning
 pub mod Counting
 pub mod Ranking

@@ -9,17 +9,18 @@ use native.Mathlib.Omega.{arith}
 use lib.ListN.{length, length-replicate}
 use Rattle.lists.specs.Lists.{range, indexOf}
 use Rattle.lists.proofs.Distinct.{in-place}
+use Rattle.automaton.specs.Automaton.{bounded}
 use Rattle.automaton.specs.Joint.{both, join, idle, joint, sizes, jointState}
 use Rattle.automaton.specs.Pruning.{keep, prunedSet, size, passesFrom, passes, live}
 use Rattle.automaton.specs.Counting.{N}
 use Rattle.automaton.specs.Ranking.{choose, unrank, firstViolation}
 use Rattle.automaton.proofs.Counting.{scenarios-length, scenarios-sound, stays-live, stays-events}
 use Rattle.automaton.proofs.Ranking.{index-belongs, firstViolation-none}
-use Rattle.promises.specs.Text.{onto, splitOn, init, lastOf, lines, unended, fields, digitsValue, number, ahead, numbers, same, field, endOr, end, one, two, three, oneOrTwo, anyNumber, form, decode, decoded, addPart, extended, monitorsFrom, monitors, statesOf, startOf, latest, product, eventsOf, reordered, orderFrom, orderOf, Readable, Fault, Case1}
+use Rattle.promises.specs.Text.{onto, splitOn, init, lastOf, lines, unended, fields, digitsValue, number, ahead, numbers, same, field, endOr, end, one, two, three, four, oneOrTwo, anyNumber, form, decode, decoded, addPart, extended, monitorsFrom, monitors, statesOf, startOf, latest, product, eventsOf, reordered, orderFrom, orderOf, Readable, Fault, Case1}
 use Rattle.promises.specs.Answer.{served, refused, Served}
 use Rattle.promises.specs.Meaning.{Belongs, Earlier, Comes}
-use Rattle.promises.specs.Reading.{leadsTo, moveBy, marks, markedBy, testBeginning, ofLatest, testContinuing, tests, lineCase, readingFrom, reading}
-use Rattle.promises.specs.Rig.{nextOf, markedOf, monitorOf, standing, linesAutomaton, linesStart, rigAutomaton, start}
+use Rattle.promises.specs.Reading.{leadsTo, moveBy, marks, markedBy, isMon, outOfRange, equal, testBeginning, ofLatest, testContinuing, tests, lineCase, readingFrom, reading}
+use Rattle.promises.specs.Rig.{gapNext, replyNext, nextOf, markedOf, monitorOf, standing, linesAutomaton, linesStart, rigAutomaton, start}
 use Rattle.promises.specs.Examples.{A, B, A-from-1, A-exchanged, most-events, most-joint-states, Words, closes, one-unmarked, both-marked, may-close, stop-without-state, field-after-stop, stop-before-mon, stop-S, stop-again, start-S, field-after-start, empty-start, A-ordered, ord-too-short, ord-not-below, ord-twice, ord-third, ord-first, ord-no-number, ord-alone, mon-without-S, last-line-unended, leading-zero, six-digits, empty-field, seventeen-events, five-digits, fifth-monitor, go-again-out-of-range, go-again, nothing, rig-alone, rig-later, go-before-mon, too-many-joint-states}
 use Rattle.promises.proofs.Reading.{reading-refuses, reading-serves}
 use Rattle.promises.proofs.Meaning.{text-belongs}
@@ -69,7 +70,7 @@ record Readings : Type 0 where
   of-too-many-joint-states : reading too-many-joint-states ≡ refused 6 4
 
 readings : Readings
-unfolding reading readingFrom lineCase tests testBeginning testContinuing ofLatest moveBy leadsTo markedBy marks orElse decoded lines unended splitOn onto init lastOf decode fields form one two three oneOrTwo anyNumber field endOr end number numbers ahead digitsValue same monitors monitorsFrom extended addPart latest statesOf product eventsOf orderOf orderFrom reordered
+unfolding reading readingFrom lineCase tests testBeginning isMon outOfRange equal testContinuing ofLatest moveBy leadsTo markedBy marks orElse decoded lines unended splitOn onto init lastOf decode fields form one two three four oneOrTwo anyNumber field endOr end number numbers ahead digitsValue same monitors monitorsFrom extended addPart latest statesOf product eventsOf orderOf orderFrom reordered
 readings = record {
   of-A = refl;
   of-B = refl;
@@ -128,7 +129,7 @@ record Scenarios-A : Type 0 where
   leaves-at-once : firstViolation (rigAutomaton A-from-1) (start A-from-1) (1 ∷ []) ≡ 0
 
 scenarios-A : Scenarios-A
-unfolding decoded lines unended splitOn onto init lastOf decode fields form one two three oneOrTwo anyNumber field endOr end number numbers ahead digitsValue same monitors monitorsFrom extended addPart latest statesOf product eventsOf orderOf orderFrom reordered startOf moveBy leadsTo markedBy marks orElse nextOf markedOf monitorOf standing linesAutomaton linesStart rigAutomaton start range both join idle joint sizes jointState keep prunedSet size passesFrom passes live N choose unrank firstViolation
+unfolding decoded lines unended splitOn onto init lastOf decode fields form one two three four oneOrTwo anyNumber field endOr end number numbers ahead digitsValue same monitors monitorsFrom extended addPart latest statesOf product eventsOf orderOf orderFrom reordered startOf moveBy leadsTo markedBy marks orElse gapNext replyNext nextOf markedOf bounded monitorOf standing linesAutomaton linesStart rigAutomaton start range both join idle joint sizes jointState keep prunedSet size passesFrom passes live N choose unrank firstViolation
 scenarios-A = record { four-below = omega arith; four-is = refl; leaves-at = refl; zero-below = omega arith; zero-is = refl; leaves-at-once = refl }
 
 -- where the depot closes, and where it may: index 0 at horizon 1, and where what follows it leaves the live states; two monitors, with both states marked and with one
@@ -144,7 +145,7 @@ record Closing : Type 0 where
   one-leaves : firstViolation (rigAutomaton one-unmarked) (start one-unmarked) (0 ∷ []) ≡ 0
 
 closing : Closing
-unfolding decoded lines unended splitOn onto init lastOf decode fields form one two three oneOrTwo anyNumber field endOr end number numbers ahead digitsValue same monitors monitorsFrom extended addPart latest statesOf product eventsOf orderOf orderFrom reordered startOf moveBy leadsTo markedBy marks orElse nextOf markedOf monitorOf standing linesAutomaton linesStart rigAutomaton start range both join idle joint sizes jointState keep prunedSet size passesFrom passes live N choose unrank firstViolation
+unfolding decoded lines unended splitOn onto init lastOf decode fields form one two three four oneOrTwo anyNumber field endOr end number numbers ahead digitsValue same monitors monitorsFrom extended addPart latest statesOf product eventsOf orderOf orderFrom reordered startOf moveBy leadsTo markedBy marks orElse gapNext replyNext nextOf markedOf bounded monitorOf standing linesAutomaton linesStart rigAutomaton start range both join idle joint sizes jointState keep prunedSet size passesFrom passes live N choose unrank firstViolation
 closing = record { only-below = omega arith; only-is = refl; none-then = refl; last-below = omega arith; last-is = refl; leaves-then = refl; both-below = omega arith; both-is = refl; one-leaves = refl }
 
 -- where the events stand in the order of A with `ord`, and without
@@ -153,7 +154,7 @@ record Compared : Type 0 where
   lower-first : indexOf (orderOf (decoded A)) 0 < indexOf (orderOf (decoded A)) 1
 
 compared : Compared
-unfolding decoded lines splitOn onto init decode fields form one two three oneOrTwo anyNumber field endOr end number numbers ahead digitsValue same orderOf orderFrom reordered range indexOf
+unfolding decoded lines splitOn onto init decode fields form one two three four oneOrTwo anyNumber field endOr end number numbers ahead digitsValue same orderOf orderFrom reordered range indexOf
 compared = record { by-ord = omega arith; lower-first = omega arith }
 
 module _ (t : List ℕ) (r : Readable t) where

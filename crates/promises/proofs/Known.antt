@@ -13,15 +13,15 @@ use Rattle.lists.specs.Lists.{range}
 use Rattle.lists.proofs.Tests.{case}
 use Rattle.lists.proofs.Members.{getD-in}
 use Rattle.lists.proofs.Distinct.{in-place}
-use Rattle.automaton.specs.Automaton.{Automaton, stopping}
+use Rattle.automaton.specs.Automaton.{Automaton, stopping, bounded}
 use Rattle.automaton.specs.Joint.{both, join, idle, joint, sizes, jointState}
 use Rattle.automaton.specs.Pruning.{keep, prunedSet, size, passesFrom, passes, live}
 use Rattle.automaton.specs.Counting.{N, most, cell}
 use Rattle.automaton.specs.Ranking.{choose, unrank}
 use Rattle.automaton.proofs.Counting.{N-dead}
-use Rattle.promises.specs.Text.{onto, splitOn, init, lastOf, lines, unended, fields, digitsValue, number, ahead, numbers, same, field, endOr, end, one, two, three, oneOrTwo, anyNumber, form, decode, mon, go, stop, Line, rig, begins, continues, decoded, addPart, extended, monitorsFrom, monitors, statesOf, startOf, latest, product, eventsOf, reordered, orderFrom, orderOf, jointStates, Case12}
-use Rattle.promises.specs.Reading.{leadsTo, moveBy, marks, markedBy, testBeginning, ofLatest, testContinuing, tests, lineCase, readingFrom, reading}
-use Rattle.promises.specs.Rig.{nextOf, markedOf, monitorOf, standing, linesAutomaton, linesStart, rigAutomaton, start}
+use Rattle.promises.specs.Text.{onto, splitOn, init, lastOf, lines, unended, fields, digitsValue, number, ahead, numbers, same, field, endOr, end, one, two, three, four, oneOrTwo, anyNumber, form, decode, mon, go, stop, Line, rig, begins, continues, decoded, addPart, extended, monitorsFrom, monitors, statesOf, startOf, latest, product, eventsOf, reordered, orderFrom, orderOf, IsMon, jointStates, Case12}
+use Rattle.promises.specs.Reading.{leadsTo, moveBy, marks, markedBy, isMon, outOfRange, equal, testBeginning, ofLatest, testContinuing, tests, lineCase, readingFrom, reading}
+use Rattle.promises.specs.Rig.{gapNext, replyNext, nextOf, markedOf, monitorOf, standing, linesAutomaton, linesStart, rigAutomaton, start}
 use Rattle.promises.specs.Answer.{served, refused, Served}
 use Rattle.promises.specs.Calls.{rows, fills, sized, total, counted, count, scenarios}
 use Rattle.promises.specs.Demand3.{Calls, Whole, Demand}
@@ -73,11 +73,13 @@ known-B = known B 1 (lent 8) 1 3 (starred .b-1)
 
 -- A has no `stop` line
 lines-A : decoded A ≡ rig 2 ∷ begins (mon 2 0) ∷ continues (go 0 0 0) ∷ continues (go 0 1 1) ∷ continues (go 1 0 0) ∷ []
-unfolding decoded lines splitOn onto init decode fields form one two three oneOrTwo anyNumber field endOr end number numbers ahead digitsValue same
+unfolding decoded lines splitOn onto init decode fields form one two three four oneOrTwo anyNumber field endOr end number numbers ahead digitsValue same
 lines-A = refl
 
 pub endless-A : Endless A
-endless-A = without-stop A (known-A .fits .readable) (λ s i. none s (rw lines-A at i))
+unfolding IsMon monitors monitorsFrom extended addPart
+endless-A =
+    without-stop A (record { kind = mon 2 0; parts = go 0 0 0 ∷ go 0 1 1 ∷ go 1 0 0 ∷ [] }) (rw lines-A (here refl)) (2, 0, refl) (λ s i. none s (rw lines-A at i))
   where
     other-line : (s : ℕ) (l : Line) (ls : List Line) → continues (stop s) ≢ l → (In (continues (stop s)) ls → ⊥) → In (continues (stop s)) (l ∷ ls) → ⊥
     other-line s l ls ne rest (here q) = ne q
@@ -153,7 +155,7 @@ pub record Values : Type 0 where
   pub beside-1 : rigAutomaton full-cell .next 1 1 ≡ 1
 
 pub values : Values
-unfolding reading readingFrom lineCase tests testBeginning testContinuing ofLatest moveBy leadsTo markedBy marks orElse decoded lines unended splitOn onto init lastOf decode fields form one two three oneOrTwo anyNumber field endOr end number numbers ahead digitsValue same monitors monitorsFrom extended addPart latest statesOf product eventsOf orderOf orderFrom reordered startOf jointStates nextOf markedOf monitorOf standing linesAutomaton linesStart rigAutomaton start range both join idle joint sizes jointState keep prunedSet size passesFrom passes live N most choose unrank sized total counted count admitted without passWithin passesWithinFrom passesWithin
+unfolding reading readingFrom lineCase tests testBeginning isMon outOfRange equal testContinuing ofLatest moveBy leadsTo markedBy marks orElse decoded lines unended splitOn onto init lastOf decode fields form one two three four oneOrTwo anyNumber field endOr end number numbers ahead digitsValue same monitors monitorsFrom extended addPart latest statesOf product eventsOf orderOf orderFrom reordered startOf jointStates gapNext replyNext nextOf markedOf bounded monitorOf standing linesAutomaton linesStart rigAutomaton start range both join idle joint sizes jointState keep prunedSet size passesFrom passes live N most choose unrank sized total counted count admitted without passWithin passesWithinFrom passesWithin
 values = record {
   numbers-0 = refl;
   numbers-4 = refl;

@@ -3,6 +3,10 @@ pub mod Lines
 pub mod Pieces
 pub mod Spelling
 pub mod Reading
+pub mod Agreeing
+pub mod Mon
+pub mod Gap
+pub mod Reply
 pub mod Meaning
 pub mod Order
 pub mod Checks
@@ -14,6 +18,7 @@ pub mod Starred
 pub mod Starts
 pub mod Ordering
 pub mod Stopping
+pub mod Sentences
 pub mod Refusals
 pub mod Buffers
 pub mod Shapes

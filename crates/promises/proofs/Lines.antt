@@ -1,7 +1,7 @@
 -- What the lines of a readable text are: one `rig` line first, at most four monitors of 1 to 32 states, every move in range and at most one
 -- for a state and an event, at most 1,024 joint states, every event once in their order.
 -- Why: each sound line keeps it so, whatever sound lines stand before it.
---   Ranged k           == the numbers of the kind k are in their ranges
+--   Ranged E k         == the numbers of the kind k are in their ranges, in a rig with E events, and its a and b differ
 --   PartRanged E k p   == so are those of the line p of a monitor of the kind k, in a rig with E events
 --   Kept E m           == all lines of the monitor m are in range, and no move is given twice
 --   Formed ls          == one `rig` line first, at most four monitors that are kept, at most 1,024 joint states, every event once in their order
@@ -20,7 +20,7 @@ use Rattle.lists.specs.Lists.{none, Permutation}
 use Rattle.lists.proofs.Tests.{split, ℕ-trichotomy}
 use Rattle.lists.proofs.Distinct.{once-distinct}
 use Rattle.lists.proofs.Permutations.{range-permutation, full-permutation}
-use Rattle.promises.specs.Text.{Kind, mon, Part, go, stop, Line, rig, ord, begins, continues, other, Monitor, addPart, extended, monitorsFrom, monitors, statesOf, startOf, latest, product, eventsOf, reordered, orderFrom, orderOf, beginning, OfLatest, continuing, Twice, cases, Case2, Case3, Case16, Case4, Case5, Case6, Sound, AllSound, Readable, decoded}
+use Rattle.promises.specs.Text.{Kind, mon, gap, reply, Part, go, stop, Line, rig, ord, begins, continues, other, Monitor, addPart, extended, monitorsFrom, monitors, statesOf, startOf, latest, product, eventsOf, reordered, orderFrom, orderOf, OutOfRange, Equal, beginning, OfLatest, continuing, Twice, cases, Case2, Case3, Case16, Case17, Case4, Case5, Case6, Sound, AllSound, Readable, decoded}
 
 -- ---- one line more
 
@@ -79,8 +79,10 @@ product-append (k ∷ ms) m = ap (λ p. statesOf (k .kind) * p) (product-append 
 
 -- ---- what sound lines are
 
-unfoldable pub Ranged : Kind → Type 0
-Ranged (mon S a) = (1 ≤ S) × (S ≤ 32) × (a < S)
+unfoldable pub Ranged : ℕ → Kind → Type 0
+Ranged E (mon S a) = (1 ≤ S) × (S ≤ 32) × (a < S)
+Ranged E (gap e n) = (e < E) × (2 ≤ n) × (n ≤ 32)
+Ranged E (reply a b lo hi) = (a < E) × (b < E) × (1 ≤ lo) × (lo ≤ hi) × (hi ≤ 31) × (a ≢ b)
 
 unfoldable pub PartRanged : ℕ → Kind → Part → Type 0
 PartRanged E k (go s e t) = (s < statesOf k) × (e < E) × (t < statesOf k)
@@ -91,7 +93,7 @@ unfoldable pub Once : {A : Type 0} → (A → Part) → List Part → Type 0
 Once {A} f ps = (a b : A) → In (f a) ps → In (f b) ps → a ≡ b
 
 pub record Kept (E : ℕ) (m : Monitor) : Type 0 where
-  pub ranged : Ranged (m .kind)
+  pub ranged : Ranged E (m .kind)
   pub parts-ranged : (p : Part) → In p (m .parts) → PartRanged E (m .kind) p
   pub move-once : (s e : ℕ) → Once (go s e) (m .parts)
 
@@ -110,20 +112,41 @@ pub record Formed (ls : List Line) : Type 0 where
   pub monitored : WellFormed (eventsOf ls) (monitors ls)
   pub ordered : Permutation (eventsOf ls) (orderOf ls)
 
--- a monitor starts in one of its states
-pub start-below : (k : Kind) → Ranged k → startOf k < statesOf k
+-- a monitor starts in one of its states, which are at most 32
+pub start-below : (E : ℕ) (k : Kind) → Ranged E k → startOf k < statesOf k
 unfolding Ranged startOf statesOf
-start-below (mon S a) r = omega arith
+start-below E (mon S a) r = omega arith
+start-below E (gap e n) r = omega arith
+start-below E (reply a b lo hi) r = omega arith
+
+pub few-states : (E : ℕ) (k : Kind) → Ranged E k → statesOf k ≤ 32
+unfolding Ranged statesOf
+few-states E (mon S a) r = omega arith
+few-states E (gap e n) r = omega arith
+few-states E (reply a b lo hi) (x, y, one, le, h, ne) = omega arith
 
 -- ---- what a sound line says
 
 within : (a b : ℕ) → ((b < a) → ⊥) → a ≤ b
 within a b h = ⊎-elim (λ k. k) (λ k. absurd (h k)) (split a b)
 
-begun : (ls : List Line) (k : Kind) → Sound ls (begins k) → Ranged k × (length (monitors ls) < 4) × (product (monitors ls) * statesOf k ≤ 1024)
-unfolding Case3 Case6 cases beginning Ranged
-begun ls (mon S a) s = (
-  (within 1 S (λ h. s .ranged (inl (inl (inl h)))), within S 32 (λ h. s .ranged (inl (inl (inr h)))), within (suc a) S (λ h. s .ranged (inl (inr (omega arith))))),
+in-range : (E : ℕ) (k : Kind) → (OutOfRange E k → ⊥) → (Equal k → ⊥) → Ranged E k
+unfolding OutOfRange Equal Ranged
+in-range E (mon S a) r d = (within 1 S (λ h. r (inl (inl h))), within S 32 (λ h. r (inl (inr h))), within (suc a) S (λ h. r (inr (omega arith))))
+in-range E (gap e n) r d = (within (suc e) E (λ h. r (inl (omega arith))), within 2 n (λ h. r (inr (inl h))), within n 32 (λ h. r (inr (inr h))))
+in-range E (reply a b lo hi) r d = (
+  within (suc a) E (λ h. r (inl (omega arith))),
+  within (suc b) E (λ h. r (inr (inl (omega arith)))),
+  within 1 lo (λ h. r (inr (inr (inl h)))),
+  within lo hi (λ h. r (inr (inr (inr (inl h))))),
+  within hi 31 (λ h. r (inr (inr (inr (inr h))))),
+  d,
+)
+
+begun : (ls : List Line) (k : Kind) → Sound ls (begins k) → Ranged (eventsOf ls) k × (length (monitors ls) < 4) × (product (monitors ls) * statesOf k ≤ 1024)
+unfolding Case3 Case17 Case6 cases beginning
+begun ls k s = (
+  in-range (eventsOf ls) k (λ o. s .ranged (inl o)) (λ q. s .unequal (refl, q)),
   within (suc (length (monitors ls))) 4 (λ h. s .ranged (inr (omega arith))),
   within _ 1024 (s .fits),
 )
@@ -162,9 +185,9 @@ module _ (ls : List Line) (es : List ℕ) (s : Sound ls (ord es)) where
       full (no n) = absurd (s .formed (sound-second, n))
 
       one : (i j : ℕ) → i < length es → j < length es → getD es i 0 ≡ getD es j 0 → (i < j) ⊎ ((i ≡ j) ⊎ (j < i)) → i ≡ j
-      one i j a b q (inl h) = absurd (s .named-once (i, j, h, b, q))
+      one i j a b q (inl h) = absurd (s .named-once (refl, (i, j, h, b, q)))
       one i j a b q (inr (inl h)) = h
-      one i j a b q (inr (inr h)) = absurd (s .named-once (j, i, h, a, sym q))
+      one i j a b q (inr (inr h)) = absurd (s .named-once (refl, (j, i, h, a, sym q)))
 
 once-more : {A : Type 0} (f : A → Part) (ps : List Part) (p : Part) → ((a b : A) → f a ≡ f b → a ≡ b) → ((a b : A) → f a ≡ p → In (f b) ps → ⊥) → Once f ps → Once f (ps ++ (p ∷ []))
 unfolding Once
@@ -193,7 +216,7 @@ one-monitor-more ls k w s =
       small = rw (product-append (monitors ls) (record { kind = k; parts = [] })) small;
     }
   where
-    kept : Ranged k → Kept (eventsOf ls) (record { kind = k; parts = [] })
+    kept : Ranged (eventsOf ls) k → Kept (eventsOf ls) (record { kind = k; parts = [] })
     kept ranged = record {
       ranged = ranged;
       parts-ranged = λ p i. absurd (List·Memᴰ·not-nil i);
@@ -240,16 +263,16 @@ line-formed l ls k f w o = record {
 }
 
 first-line : (l : Line) → Sound [] l → Formed (l ∷ [])
-unfolding Case2 Case5 Case3 cases beginning continuing Headed monitors monitorsFrom extended eventsOf orderOf orderFrom reordered
+unfolding Case2 Case5 Case3 cases beginning continuing OfLatest latest Headed monitors monitorsFrom extended eventsOf orderOf orderFrom reordered
 first-line (rig E) s = record {
   headed = inr (E, [], refl, within 1 E (λ h. s .ranged (inl h)), within E 16 (λ h. s .ranged (inr h)));
   monitored = no-monitor _;
   ordered = range-permutation E;
 }
 first-line (ord es) s = absurd (s .placed (λ q. omega arith))
-first-line (begins (mon S a)) s = absurd (s .placed refl)
-first-line (continues (go a b c)) s = absurd (s .placed (inl refl))
-first-line (continues (stop a)) s = absurd (s .placed (inl refl))
+first-line (begins k) s = absurd (s .placed refl)
+first-line (continues (go a b c)) s = absurd (s .placed (λ h. h))
+first-line (continues (stop a)) s = absurd (s .placed (λ h. h))
 first-line other s = absurd (s .formed tt)
 
 later-line : (l : Line) (ls : List Line) (k : Line) → Formed (l ∷ ls) → Sound (l ∷ ls) k → Formed ((l ∷ ls) ++ (k ∷ []))
@@ -260,11 +283,11 @@ later-line l ls (begins k) f s = line-formed l ls (begins k) f (one-monitor-more
 later-line l ls (continues p) f s = line-formed l ls (continues p) f (one-part-more (l ∷ ls) p (f .monitored) s) (f .ordered)
 later-line l ls other f s = absurd (s .formed tt)
 
-sound-formed : (ls : List Line) (l : Line) → Formed ls → Sound ls l → Formed (ls ++ (l ∷ []))
+pub sound-formed : (ls : List Line) (l : Line) → Formed ls → Sound ls l → Formed (ls ++ (l ∷ []))
 sound-formed [] l f s = first-line l s
 sound-formed (k ∷ ls) l f s = later-line k ls l f s
 
-nothing-formed : Formed []
+pub nothing-formed : Formed []
 unfolding Headed monitors monitorsFrom eventsOf orderOf orderFrom
 nothing-formed = record { headed = inl refl; monitored = no-monitor _; ordered = record { once = none; just = λ e. (λ i. absurd (List·Memᴰ·not-nil i), λ h. absurd (omega arith)) } }
 

@@ -6,11 +6,11 @@ use mathlib.Core.List.{List, [], _∷_, _++_, List·Memᴰ as In}
 use Prim.Native.Nat.{ℕ, suc, _≤_, _<_}
 use native.Mathlib.Omega.{arith}
 use lib.ListN.{length}
-use Rattle.promises.specs.Text.{Line, rig, ord, extended, monitorsFrom, monitors, eventsOf, decoded, Twice, cases, Case1, Case2, Case5, Case3, Case16, Case4, Case6, AllSound, LineFault, Fault}
-use Rattle.promises.specs.Meaning.{AllAdmit, AllMayStop, CarriedOn, Belongs}
+use Rattle.promises.specs.Text.{Line, rig, ord, extended, monitorsFrom, monitors, eventsOf, decoded, Twice, cases, Case1, Case2, Case5, Case3, Case16, Case17, Case4, Case6, AllSound, LineFault, Fault}
+use Rattle.promises.specs.Meaning.{BelowE, AllAdmit, AllMayStop, Belongs}
 use Rattle.promises.specs.Ordering.{Second, Ordering}
 use Rattle.promises.proofs.Reading.{bad-line}
-use Rattle.promises.proofs.Meaning.{order-permutes}
+use Rattle.promises.proofs.Meaning.{belong-alike, order-permutes}
 use Rattle.promises.proofs.Order.{ord-second, order-listed}
 use Rattle.promises.proofs.Answers.{same-count}
 
@@ -18,8 +18,8 @@ use Rattle.promises.proofs.Answers.{same-count}
 
 module _ (t : List ℕ) (E : ℕ) (es : List ℕ) (z : Second t E es) where
   first-sound : AllSound [] (rig E ∷ [])
-  unfolding AllSound Case2 Case5 Case3 Case16 Case4 Case6 cases
-  first-sound = (record { formed = λ h. h; placed = λ h. h refl; ranged = outside; named-once = λ h. h; new = λ h. h; fits = λ h. h }, tt)
+  unfolding AllSound Case2 Case5 Case3 Case16 Case17 Case4 Case6 cases
+  first-sound = (record { formed = λ h. h; placed = λ h. h refl; ranged = outside; named-once = λ h. h; unequal = λ h. h; new = λ h. h; fits = λ h. h }, tt)
     where
       outside : (E < 1) ⊎ (16 < E) → ⊥
       outside (inl h) = omega (arith, z .some-event)
@@ -47,7 +47,7 @@ module _ (t : List ℕ) (E : ℕ) (es : List ℕ) (z : Second t E es) where
 
     named-twice : ((e : ℕ) → In e es → e < E) → Twice es → Fault t 16 2
     unfolding LineFault Case3 Case16 cases eventsOf
-    named-twice below w = second-bad 16 (inr (not-misformed, inr (not-misplaced, inr (λ (e, i, h). past e (below e i) h, inl (w, refl)))))
+    named-twice below w = second-bad 16 (inr (not-misformed, inr (not-misplaced, inr (λ (e, i, h). past e (below e i) h, inl ((refl, w), refl)))))
       where
         past : (e : ℕ) → e < E → E ≤ e → ⊥
         past e a b = omega arith
@@ -64,12 +64,23 @@ module _ (t u : List ℕ) (E : ℕ) (es : List ℕ) (back : List Line) (p : deco
   unfolding monitors monitorsFrom extended
   same-monitors = rw (p, q)
 
-  same-belong : (h : ℕ) (w : List ℕ) → Belongs t h w ↔ Belongs u h w
-  unfolding AllAdmit AllMayStop CarriedOn
-  same-belong h w = (
-    λ b. record { long = b .long; admitted = rw same-monitors at (b .admitted); carried-on = λ k. rw same-monitors at (b .carried-on k) },
-    λ b. record { long = b .long; admitted = rw same-monitors (b .admitted); carried-on = λ k. rw same-monitors (b .carried-on k) },
+  same-events : eventsOf (decoded t) ≡ eventsOf (decoded u)
+  unfolding eventsOf
+  same-events = rw (p, q)
+
+  same-admit : (w : List ℕ) → AllAdmit t w ↔ AllAdmit u w
+  unfolding BelowE
+  same-admit w = (
+    λ a. record { events = rw same-events at (a .events); each = rw same-monitors at (a .each) },
+    λ a. record { events = rw same-events (a .events); each = rw same-monitors (a .each) },
   )
+
+  same-stop : (w : List ℕ) → AllMayStop t w ↔ AllMayStop u w
+  unfolding AllMayStop
+  same-stop w = (λ s. rw same-monitors at s, λ s. rw same-monitors s)
+
+  same-belong : (h : ℕ) (w : List ℕ) → Belongs t h w ↔ Belongs u h w
+  same-belong = belong-alike t u same-admit same-stop
 
 pub ordering : Ordering
 ordering = record {

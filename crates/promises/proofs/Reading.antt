@@ -16,8 +16,8 @@ use Rattle.lists.proofs.Members.{getD-in}
 use Rattle.lists.proofs.Distinct.{in-place}
 use Rattle.lists.proofs.Tells.{Tells, tells-true, tells-false, tells-lt, tells-le, tells-eq, tells-never, tells-always, tells-not, tells-or, tells-and, tells-any}
 use Rattle.promises.specs.Answer.{served, refused, Served, unless}
-use Rattle.promises.specs.Text.{Kind, mon, Part, go, stop, Line, rig, ord, begins, continues, other, Monitor, monitors, latest, statesOf, eventsOf, product, decoded, unended, Outside, Cases, beginning, OfLatest, continuing, Twice, cases, Case1, Case2, Case3, Case16, Case4, Case5, Case6, Sound, AllSound, Readable, first, LineFault, Fault}
-use Rattle.promises.specs.Reading.{empty, isSome, leadsTo, moveBy, marks, markedBy, Tests, outside, testBeginning, ofLatest, testContinuing, repeats, tests, lineCase, readingFrom, reading}
+use Rattle.promises.specs.Text.{Kind, mon, gap, reply, Part, go, stop, Line, rig, ord, begins, continues, other, Monitor, monitors, latest, statesOf, eventsOf, product, decoded, unended, Outside, OutOfRange, Equal, Cases, beginning, OfLatest, continuing, IsMon, Twice, cases, Case1, Case2, Case3, Case16, Case17, Case4, Case5, Case6, Sound, AllSound, Readable, first, LineFault, Fault}
+use Rattle.promises.specs.Reading.{empty, isSome, leadsTo, moveBy, marks, markedBy, Tests, outside, isMon, outOfRange, equal, testBeginning, ofLatest, testContinuing, repeats, tests, lineCase, readingFrom, reading}
 use Rattle.promises.proofs.Lines.{not-empty}
 
 -- ---- each test tells its case
@@ -118,29 +118,47 @@ record Told (t : Tests) (c : Cases) : Type 0 where
   misformed : Tells (t .misformed) (c .misformed)
   misplaced : Tells (t .misplaced) (c .misplaced)
   out-of-range : Tells (t .out-of-range) (c .out-of-range)
-  twice : Tells (t .twice) (c .twice)
+  clash : (n : ℕ) → Tells (t .clash n) (c .clash n)
   again : Tells (t .again) (c .again)
   too-many : Tells (t .too-many) (c .too-many)
 
-told-beginning : (ls : List Line) (k : Kind) (f : Bool) (P : Type 0) → Tells f P → Told (testBeginning ls k f) (beginning ls k P)
+pub tells-mon : (k : Kind) → Tells (isMon k) (IsMon k)
+unfolding isMon IsMon
+tells-mon (mon S a) = record { yes = λ q. (S, a, refl); no = λ q. contra refl q }
+tells-mon (gap e n) = record { yes = λ q. contra q refl; no = λ q (S, a, r). let z : _≡_ {A = ℕ} 0 1 = cc in omega arith }
+tells-mon (reply a b lo hi) = record { yes = λ q. contra q refl; no = λ q (S, x, r). let z : _≡_ {A = ℕ} 0 1 = cc in omega arith }
+
+tells-out : (E : ℕ) (k : Kind) → Tells (outOfRange E k) (OutOfRange E k)
+unfolding outOfRange OutOfRange
+tells-out E (mon S a) = tells-or (tells-outside 1 32 S) (tells-le S a)
+tells-out E (gap e n) = tells-or (tells-le E e) (tells-outside 2 32 n)
+tells-out E (reply a b lo hi) = tells-or (tells-le E a) (tells-or (tells-le E b) (tells-or (tells-lt lo 1) (tells-or (tells-lt hi lo) (tells-lt 31 hi))))
+
+tells-equal : (k : Kind) → Tells (equal k) (Equal k)
+unfolding equal Equal
+tells-equal (mon S a) = tells-never
+tells-equal (gap e n) = tells-never
+tells-equal (reply a b lo hi) = tells-eq a b
+
+told-beginning : (ls : List Line) (k : Kind) → Told (testBeginning ls k) (beginning ls k)
 unfolding testBeginning beginning
-told-beginning ls k f P out = record {
+told-beginning ls k = record {
   misformed = tells-never;
   misplaced = tells-empty ls;
-  out-of-range = tells-or out (tells-le 4 (length (monitors ls)));
-  twice = tells-never;
+  out-of-range = tells-or (tells-out (eventsOf ls) k) (tells-le 4 (length (monitors ls)));
+  clash = λ n. tells-and (tells-eq n 17) (tells-equal k);
   again = tells-never;
   too-many = tells-lt 1024 (product (monitors ls) * statesOf k);
 }
 
-told-continuing : (ls : List Line) (f g : Monitor → Bool) (P Q : Monitor → Type 0) → ((m : Monitor) → Tells (f m) (P m)) → ((m : Monitor) → Tells (g m) (Q m))
-    → Told (testContinuing ls f g) (continuing ls P Q)
+told-continuing : (ls : List Line) (r : Kind → Bool) (f g : Monitor → Bool) (R : Kind → Type 0) (P Q : Monitor → Type 0)
+    → ((k : Kind) → Tells (r k) (R k)) → ((m : Monitor) → Tells (f m) (P m)) → ((m : Monitor) → Tells (g m) (Q m)) → Told (testContinuing ls r f g) (continuing ls R P Q)
 unfolding testContinuing continuing
-told-continuing ls f g P Q out again = record {
+told-continuing ls r f g R P Q right out again = record {
   misformed = tells-never;
-  misplaced = tells-or (tells-empty ls) (tells-empty (monitors ls));
+  misplaced = tells-not (tells-latest (λ m. r (m .kind)) (λ m. R (m .kind)) (λ m. right (m .kind)) (latest (monitors ls)));
   out-of-range = tells-latest f P out (latest (monitors ls));
-  twice = tells-never;
+  clash = λ n. tells-never;
   again = tells-latest g Q again (latest (monitors ls));
   too-many = tells-never;
 }
@@ -152,7 +170,7 @@ told ls (rig E) = record {
   misformed = tells-never;
   misplaced = tells-not (tells-empty ls);
   out-of-range = tells-outside 1 16 E;
-  twice = tells-never;
+  clash = λ n. tells-never;
   again = tells-never;
   too-many = tells-never;
 }
@@ -160,25 +178,25 @@ told ls (ord es) = record {
   misformed = tells-and (tells-eq (length ls) 1) (tells-not (tells-eq (length es) (eventsOf ls)));
   misplaced = tells-not (tells-eq (length ls) 1);
   out-of-range = tells-any (leb (eventsOf ls)) (λ e. eventsOf ls ≤ e) (tells-le (eventsOf ls)) es;
-  twice = tells-twice es;
+  clash = λ n. tells-and (tells-eq n 16) (tells-twice es);
   again = tells-never;
   too-many = tells-never;
 }
-told ls (begins (mon S a)) = told-beginning ls (mon S a) _ _ (tells-or (tells-outside 1 32 S) (tells-le S a))
+told ls (begins k) = told-beginning ls k
 told ls (continues (go s e t)) =
-    told-continuing ls _ _ _ _
+    told-continuing ls _ _ _ _ _ _ tells-mon
     (λ m. tells-or (tells-le (statesOf (m .kind)) s) (tells-or (tells-le (eventsOf ls) e) (tells-le (statesOf (m .kind)) t)))
     (λ m. tells-moves (m .parts) s e)
-told ls (continues (stop s)) = told-continuing ls _ _ _ _ (λ m. tells-le (statesOf (m .kind)) s) (λ m. tells-marked (m .parts) s)
-told ls other = record { misformed = tells-always; misplaced = tells-empty ls; out-of-range = tells-never; twice = tells-never; again = tells-never; too-many = tells-never }
+told ls (continues (stop s)) = told-continuing ls _ _ _ _ _ _ tells-mon (λ m. tells-le (statesOf (m .kind)) s) (λ m. tells-marked (m .parts) s)
+told ls other = record { misformed = tells-always; misplaced = tells-empty ls; out-of-range = tells-never; clash = λ n. tells-never; again = tells-never; too-many = tells-never }
 
 -- ---- one line
 
 pub sound-case : (ls : List Line) (l : Line) → Sound ls l → lineCase ls l ≡ 0
-unfolding lineCase Case2 Case5 Case3 Case16 Case4 Case6
+unfolding lineCase Case2 Case5 Case3 Case16 Case17 Case4 Case6
 sound-case ls l s =
     let t = told ls l in
-    rw (tells-false (t .misformed) (s .formed), tells-false (t .misplaced) (s .placed), tells-false (t .out-of-range) (s .ranged), tells-false (t .twice) (s .named-once), tells-false (t .again) (s .new), tells-false (t .too-many) (s .fits))
+    rw (tells-false (t .misformed) (s .formed), tells-false (t .misplaced) (s .placed), tells-false (t .out-of-range) (s .ranged), tells-false (t .clash 16) (s .named-once), tells-false (t .clash 17) (s .unequal), tells-false (t .again) (s .new), tells-false (t .too-many) (s .fits))
 
 -- where a case is the first that holds, its test picks its number m; k is what the later tests pick
 picked : {b : Bool} {P L : Type 0} (m k : ℕ) {n : ℕ} → Tells b P → m ≢ 0 → (L → (k ≡ n) × (n ≢ 0)) → first P (n ≡ m) L → (pick b m k ≡ n) × (n ≢ 0)
@@ -186,20 +204,21 @@ picked m k t ne later (inl (p, q)) = rw (tells-true t p, q) (refl, ne)
 picked m k t ne later (inr (p, l)) = rw (tells-false t p) (later l)
 
 pub fault-case : (ls : List Line) (l : Line) (n : ℕ) → LineFault ls l n → (lineCase ls l ≡ n) × (n ≢ 0)
-unfolding LineFault lineCase Case2 Case5 Case3 Case16 Case4 Case6
+unfolding LineFault lineCase Case2 Case5 Case3 Case16 Case17 Case4 Case6
 fault-case ls l n =
     let t = told ls l in
     picked 2 _ (t .misformed) (λ q. omega arith)
     (picked 5 _ (t .misplaced) (λ q. omega arith)
     (picked 3 _ (t .out-of-range) (λ q. omega arith)
-    (picked 16 _ (t .twice) (λ q. omega arith)
+    (picked 16 _ (t .clash 16) (λ q. omega arith)
+    (picked 17 _ (t .clash 17) (λ q. omega arith)
     (picked 4 _ (t .again) (λ q. omega arith)
     (picked 6 0 (t .too-many) (λ q. omega arith)
-    (λ never. absurd never))))))
+    (λ never. absurd never)))))))
 
 -- every line is sound, or some case is the first that holds of it
 judged : (ls : List Line) (l : Line) → Sound ls l ⊎ ((n : ℕ) × LineFault ls l n)
-unfolding LineFault Case2 Case5 Case3 Case16 Case4 Case6
+unfolding LineFault Case2 Case5 Case3 Case16 Case17 Case4 Case6
 judged ls l =
     let t = told ls l in
     case (tests ls l .misformed) (λ q. inr (2, inl (t .misformed .yes q, refl))) (λ q.
@@ -208,12 +227,18 @@ judged ls l =
     let b = t .misplaced .no q in
     case (tests ls l .out-of-range) (λ q. inr (3, inr (a, inr (b, inl (t .out-of-range .yes q, refl))))) (λ q.
     let c = t .out-of-range .no q in
-    case (tests ls l .twice) (λ q. inr (16, inr (a, inr (b, inr (c, inl (t .twice .yes q, refl)))))) (λ q.
-    let d = t .twice .no q in
-    case (tests ls l .again) (λ q. inr (4, inr (a, inr (b, inr (c, inr (d, inl (t .again .yes q, refl))))))) (λ q.
-    let e = t .again .no q in
-    case (tests ls l .too-many) (λ q. inr (6, inr (a, inr (b, inr (c, inr (d, inr (e, inl (t .too-many .yes q, refl)))))))) (λ q.
-    inl (record { formed = a; placed = b; ranged = c; named-once = d; new = e; fits = t .too-many .no q })))))))
+    case (tests ls l .clash 16) (λ q. inr (16, inr (a, inr (b, inr (c, inl (t .clash 16 .yes q, refl)))))) (λ q.
+    let d = t .clash 16 .no q in
+    case (tests ls l .clash 17) (λ q. inr (17, inr (a, inr (b, inr (c, inr (d, inl (t .clash 17 .yes q, refl))))))) (λ q.
+    let e = t .clash 17 .no q in
+    case (tests ls l .again) (λ q. inr (4, inr (a, inr (b, inr (c, inr (d, inr (e, inl (t .again .yes q, refl)))))))) (λ q.
+    let f = t .again .no q in
+    case (tests ls l .too-many) (λ q. inr (6, inr (a, inr (b, inr (c, inr (d, inr (e, inr (f, inl (t .too-many .yes q, refl))))))))) (λ q.
+    inl (record { formed = a; placed = b; ranged = c; named-once = d; unequal = e; new = f; fits = t .too-many .no q }))))))))
+
+-- a line is sound exactly if no test finds a case
+pub case-sound : (ls : List Line) (l : Line) → lineCase ls l ≡ 0 → Sound ls l
+case-sound ls l q = ⊎-elim (λ s. s) (λ (n, f). let (r, ne) = fault-case ls l n f in absurd (ne (sym r ∙ q))) (judged ls l)
 
 -- ---- all lines
 
@@ -292,7 +317,7 @@ numbered m o later (inr (p, l)) = later l
 line-number : (ls : List Line) (l : Line) (n : ℕ) → LineFault ls l n → OfText n
 unfolding LineFault
 line-number ls l n =
-    numbered 2 (inl (omega arith)) (numbered 5 (inl (omega arith)) (numbered 3 (inl (omega arith)) (numbered 16 (inr (omega arith)) (numbered 4 (inl (omega arith)) (numbered 6 (inl (omega arith)) (λ never. absurd never))))))
+    numbered 2 (inl (omega arith)) (numbered 5 (inl (omega arith)) (numbered 3 (inl (omega arith)) (numbered 16 (inr (omega arith)) (numbered 17 (inr (omega arith)) (numbered 4 (inl (omega arith)) (numbered 6 (inl (omega arith)) (λ never. absurd never)))))))
 
 pub fault-number : (t : List ℕ) (n p : ℕ) → Fault t n p → OfText n
 unfolding Fault

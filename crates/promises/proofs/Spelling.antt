@@ -17,7 +17,7 @@ use Rattle.lists.specs.Decimal.{decimal, value, valueFrom, Digit}
 use Rattle.lists.proofs.Tests.{contra, case, and-left, and-right, or-left, or-rest, split}
 use Rattle.lists.proofs.Tells.{Tells, tells-eq, tells-and}
 use Rattle.lists.proofs.Decimal.{decimal-one, decimal-digit, decimal-some, decimal-lead, decimal-value, value-decimal, decimal-short, decimal-long}
-use Rattle.promises.specs.Text.{splitOn, init, lastOf, lines, unended, fields, digitsValue, number, ahead, numbers, same, mon, go, stop, Line, rig, ord, begins, continues, other, field, endOr, end, one, two, three, oneOrTwo, anyNumber, bytes, form, decode}
+use Rattle.promises.specs.Text.{splitOn, init, lastOf, lines, unended, fields, digitsValue, number, ahead, numbers, same, mon, gap, reply, go, stop, Line, rig, ord, begins, continues, other, field, endOr, end, one, two, three, four, oneOrTwo, anyNumber, bytes, form, decode}
 use Rattle.promises.specs.Spelling.{spelled, Small, SpelledAs, Spelled, joined, Spelling}
 use Rattle.promises.proofs.Pieces.{preceded, Free, splitOn-some, splitOn-joined, splitOn-free, splitOn-pieces, init-last, in-init, last-in}
 
@@ -155,6 +155,14 @@ module _ (k : Line) (ne : k ≢ other) where
       let (b, c, g, t, h) = two-is (f a) gs r in
       (a, b, c, e ∙ ap (λ gs. decimal a ∷ gs) g, small-more a _ s t, h)
 
+  four-is : (f : ℕ → ℕ → ℕ → ℕ → Line) (fs : List (List ℕ)) → four f fs ≡ k
+      → (a : ℕ) × (b : ℕ) × (c : ℕ) × (d : ℕ) × (fs ≡ map decimal (a ∷ b ∷ c ∷ d ∷ [])) × Small (a ∷ b ∷ c ∷ d ∷ []) × (f a b c d ≡ k)
+  unfolding four
+  four-is f fs q =
+      let (a, gs, e, s, r) = field-is (λ a. three (f a)) fs q in
+      let (b, c, d, g, t, h) = three-is (f a) gs r in
+      (a, b, c, d, e ∙ ap (λ gs. decimal a ∷ gs) g, small-more a _ s t, h)
+
   one-or-two-is : (f : ℕ → Line) (g : ℕ → ℕ → Line) (fs : List (List ℕ)) → oneOrTwo f g fs ≡ k
       → ((a : ℕ) × (fs ≡ map decimal (a ∷ [])) × Small (a ∷ []) × (f a ≡ k)) ⊎ ((a : ℕ) × (b : ℕ) × (fs ≡ map decimal (a ∷ b ∷ [])) × Small (a ∷ b ∷ []) × (g a b ≡ k))
   unfolding oneOrTwo endOr Small
@@ -189,6 +197,10 @@ two-reads f a b s = field-reads (λ a. one (f a)) a (map decimal (b ∷ [])) (s 
 three-reads : (f : ℕ → ℕ → ℕ → Line) (a b c : ℕ) → Small (a ∷ b ∷ c ∷ []) → three f (map decimal (a ∷ b ∷ c ∷ [])) ≡ f a b c
 unfolding three Small
 three-reads f a b c s = field-reads (λ a. two (f a)) a (map decimal (b ∷ c ∷ [])) (s a (here refl)) ∙ two-reads (f a) b c (λ n i. s n (there i))
+
+four-reads : (f : ℕ → ℕ → ℕ → ℕ → Line) (a b c d : ℕ) → Small (a ∷ b ∷ c ∷ d ∷ []) → four f (map decimal (a ∷ b ∷ c ∷ d ∷ [])) ≡ f a b c d
+unfolding four Small
+four-reads f a b c d s = field-reads (λ a. three (f a)) a (map decimal (b ∷ c ∷ d ∷ [])) (s a (here refl)) ∙ three-reads (f a) b c d (λ n i. s n (there i))
 
 one-of-two-reads : (f : ℕ → Line) (g : ℕ → ℕ → Line) (a : ℕ) → Small (a ∷ []) → oneOrTwo f g (map decimal (a ∷ [])) ≡ f a
 unfolding oneOrTwo endOr Small
@@ -243,7 +255,11 @@ form-spelled l v fs e k ne q =
     (λ y. let (ns, g, s, r) = numbers-are k ne (λ es. ord es) fs (rw (t, u, x, y) at q) in subst (λ k. Spelled k l) r (spelled-fields "ord" ns l v fs e y g s))
     (λ y. case (same v (bytes "stop"))
     (λ z. let (a, g, s, r) = one-is k ne (λ s. continues (stop s)) fs (rw (t, u, x, y, z) at q) in subst (λ k. Spelled k l) r (spelled-fields "stop" (a ∷ []) l v fs e z g s))
-    (λ z. absurd (ne (sym (rw (t, u, x, y, z) at q))))))))
+    (λ z. case (same v (bytes "gap"))
+    (λ m. let (a, b, g, s, r) = two-is k ne (λ e n. begins (gap e n)) fs (rw (t, u, x, y, z, m) at q) in subst (λ k. Spelled k l) r (spelled-fields "gap" (a ∷ b ∷ []) l v fs e m g s))
+    (λ m. case (same v (bytes "reply"))
+    (λ n. let (a, b, c, d, g, s, r) = four-is k ne (λ a b lo hi. begins (reply a b lo hi)) fs (rw (t, u, x, y, z, m, n) at q) in subst (λ k. Spelled k l) r (spelled-fields "reply" (a ∷ b ∷ c ∷ d ∷ []) l v fs e n g s))
+    (λ n. absurd (ne (sym (rw (t, u, x, y, z, m, n) at q))))))))))
 
 spelled-decodes : (k : Line) (l : List ℕ) → Spelled k l → decode l ≡ k
 unfolding decode Spelled form same
@@ -251,6 +267,8 @@ spelled-decodes (rig E) l (q, s) = rw (q, fields-spelled "rig" (E ∷ []) refl) 
 spelled-decodes (ord es) l (q, s) = unfold anyNumber in rw (q, fields-spelled "ord" es refl, numbers-read es s)
 spelled-decodes (begins (mon S a)) l (inl (q, s)) = rw (q, fields-spelled "mon" (S ∷ a ∷ []) refl) (two-of-two-reads (λ S. begins (mon S 0)) (λ S a. begins (mon S a)) S a s)
 spelled-decodes (begins (mon S a)) l (inr (z, (q, s))) = rw (z, q, fields-spelled "mon" (S ∷ []) refl) (one-of-two-reads (λ S. begins (mon S 0)) (λ S a. begins (mon S a)) S s)
+spelled-decodes (begins (gap a b)) l (q, s) = rw (q, fields-spelled "gap" (a ∷ b ∷ []) refl) (two-reads (λ e n. begins (gap e n)) a b s)
+spelled-decodes (begins (reply a b c d)) l (q, s) = rw (q, fields-spelled "reply" (a ∷ b ∷ c ∷ d ∷ []) refl) (four-reads (λ a b lo hi. begins (reply a b lo hi)) a b c d s)
 spelled-decodes (continues (go a b c)) l (q, s) = rw (q, fields-spelled "go" (a ∷ b ∷ c ∷ []) refl) (three-reads (λ s e t. continues (go s e t)) a b c s)
 spelled-decodes (continues (stop a)) l (q, s) = rw (q, fields-spelled "stop" (a ∷ []) refl) (one-reads (λ s. continues (stop s)) a s)
 spelled-decodes other l never = absurd never

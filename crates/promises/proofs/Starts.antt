@@ -1,30 +1,31 @@
 -- A rig whose states are renumbered has the same scenarios, in the same order.
 -- Why: a monitor moves along the renumbered lines just as it did along its own, so the same sequences belong; and their list in order is one. Assumes nothing.
 use mathlib.Core.Path.{_≡_, refl, sym, ap, ap₂, _∙_, subst}
-use mathlib.Core.Logic.{inl, inr, _↔_, ⊎-elim}
+use mathlib.Core.Logic.{_↔_}
 use mathlib.Core.List.{List, [], _∷_, _++_, map, List·Memᴰ as In, List·Memᴰ·head as here, List·Memᴰ·tail as there, List·Memᴰ·not-nil, Memᴰ·map as map-in}
 use Prim.Native.Nat.{ℕ, _<_}
 use native.Mathlib.Omega.{arith}
-use lib.ListN.{getD}
+use lib.ListN.{length, getD}
 use lib.Dec.{eqb}
 use borrow.Author.Tests.{eq-eqb, eqb-true}
 use Rattle.lists.specs.Lists.{pick, indexOf, Pairwise}
 use Rattle.lists.proofs.Tests.{case}
 use Rattle.lists.proofs.Members.{in-map}
 use Rattle.lists.proofs.Ordered.{same-ordered}
+use Rattle.lists.proofs.Permutations.{permutation-length}
 use Rattle.automaton.specs.Counting as counting
 use Rattle.automaton.proofs.Counting.{scenarios-ordered}
 use Rattle.automaton.proofs.Ranking.{unrank-at}
 use Rattle.promises.specs.Answer.{served}
-use Rattle.promises.specs.Text.{onto, splitOn, init, lines, fields, digitsValue, number, ahead, numbers, same, field, endOr, end, one, two, three, oneOrTwo, anyNumber, form, decode, Kind, mon, Part, go, stop, Monitor, addPart, extended, monitorsFrom, monitors, decoded, startOf, orderOf, Readable, Case7, Case8}
-use Rattle.promises.specs.Meaning.{Leads, Says, Ends, Admits, MayStop, AllAdmit, AllMayStop, CarriedOn, Belongs, Earlier}
+use Rattle.promises.specs.Text.{onto, splitOn, init, lines, fields, digitsValue, number, ahead, numbers, same, field, endOr, end, one, two, three, four, oneOrTwo, anyNumber, form, decode, Kind, mon, gap, reply, Part, go, stop, Monitor, addPart, extended, monitorsFrom, monitors, decoded, startOf, eventsOf, orderOf, Readable, Case7, Case8}
+use Rattle.promises.specs.Meaning.{Leads, Says, Ends, Admits, MayStop, BelowE, AllAdmit, AllMayStop, Belongs, Earlier}
 use Rattle.promises.specs.Rig.{rigAutomaton, start}
 use Rattle.promises.specs.Calls.{total, count}
 use Rattle.promises.specs.Demand3.{Gives}
 use Rattle.promises.specs.Generator.{generator}
 use Rattle.promises.specs.Examples.{A-from-1, A-exchanged}
 use Rattle.promises.specs.Starts.{renumberedKind, renumberedPart, renumbered, Renumbered, Starts}
-use Rattle.promises.proofs.Meaning.{all, events-ordered}
+use Rattle.promises.proofs.Meaning.{all, belong-alike, order-permutes, events-ordered}
 use Rattle.promises.proofs.Order.{comes-lex, order}
 use Rattle.promises.proofs.Answers.{belongs-listed, scenarioOf, count-told, same-total, same-count}
 use Rattle.promises.proofs.Demand3.{gives-scenario, gives-only}
@@ -77,6 +78,8 @@ module _ (f : ℕ → ℕ) (injective : (s t : ℕ) → f s ≡ f t → s ≡ t)
   says : (w : List ℕ) (k : Kind) (ps : List Part) → Says k ps (startOf k) w ↔ Says (renumberedKind f k) (map (renumberedPart f) ps) (startOf (renumberedKind f k)) w
   unfolding Says startOf renumberedKind
   says w (mon S a) ps = (λ (u, l). (f u, leads-on ps a w u l), λ (v, l). let (u, m, q) = leads-back ps a w v l in (u, m))
+  says w (gap e n) ps = (λ p. p, λ p. p)
+  says w (reply a b lo hi) ps = (λ p. p, λ p. p)
 
   ends : (w : List ℕ) (k : Kind) (ps : List Part) → Ends k ps (startOf k) w ↔ Ends (renumberedKind f k) (map (renumberedPart f) ps) (startOf (renumberedKind f k)) w
   unfolding Ends startOf renumberedKind renumberedPart
@@ -84,6 +87,8 @@ module _ (f : ℕ → ℕ) (injective : (s t : ℕ) → f s ≡ f t → s ≡ t)
     λ (u, l, i). (f u, leads-on ps a w u l, map-in (renumberedPart f) i),
     λ (v, l, i). let (u, m, q) = leads-back ps a w v l in (u, m, mark-back ps u (rw q at i)),
   )
+  ends w (gap e n) ps = (λ p. p, λ p. p)
+  ends w (reply a b lo hi) ps = (λ p. p, λ p. p)
 
 -- ---- all monitors
 
@@ -101,27 +106,21 @@ all-of Q same (m ∷ ms) (n ∷ ns) ((f, injective, q), r) =
 
 -- ---- the text
 
-module _ (t u : List ℕ) (n : Renumbered (monitors (decoded t)) (monitors (decoded u))) where
+module _ (t u : List ℕ) (n : Renumbered (monitors (decoded t)) (monitors (decoded u))) (ev : eventsOf (decoded t) ≡ eventsOf (decoded u)) where
   all-admit : (w : List ℕ) → AllAdmit t w ↔ AllAdmit u w
-  unfolding AllAdmit Admits
-  all-admit w = all-of (λ m. Admits m (startOf (m .kind)) w) (λ f i m. says f i w (m .kind) (m .parts)) (monitors (decoded t)) (monitors (decoded u)) n
+  unfolding BelowE Admits
+  all-admit w =
+      let (to, from) = all-of (λ m. Admits m (startOf (m .kind)) w) (λ f i m. says f i w (m .kind) (m .parts)) (monitors (decoded t)) (monitors (decoded u)) n in (
+        λ a. record { events = rw ev at (a .events); each = to (a .each) },
+        λ a. record { events = rw ev (a .events); each = from (a .each) },
+      )
 
   all-may-stop : (w : List ℕ) → AllMayStop t w ↔ AllMayStop u w
   unfolding AllMayStop MayStop
   all-may-stop w = all-of (λ m. MayStop m (startOf (m .kind)) w) (λ f i m. ends f i w (m .kind) (m .parts)) (monitors (decoded t)) (monitors (decoded u)) n
 
-  same-carried : (w : List ℕ) (k : ℕ) → CarriedOn t w k ↔ CarriedOn u w k
-  unfolding CarriedOn
-  same-carried w k = (
-    λ (v, a, c). (v, all-admit (w ++ v) .0 a, ⊎-elim (λ l. inl l) (λ (l, s). inr (l, all-may-stop (w ++ v) .0 s)) c),
-    λ (v, a, c). (v, all-admit (w ++ v) .1 a, ⊎-elim (λ l. inl l) (λ (l, s). inr (l, all-may-stop (w ++ v) .1 s)) c),
-  )
-
   same-belong : (h : ℕ) (w : List ℕ) → Belongs t h w ↔ Belongs u h w
-  same-belong h w = (
-    λ b. record { long = b .long; admitted = all-admit w .0 (b .admitted); carried-on = λ k. same-carried w k .0 (b .carried-on k) },
-    λ b. record { long = b .long; admitted = all-admit w .1 (b .admitted); carried-on = λ k. same-carried w k .1 (b .carried-on k) },
-  )
+  same-belong = belong-alike t u all-admit all-may-stop
 
   module _ (r : Readable t) (s : Readable u) (h : ℕ) where
     counts-same : total t h ≡ total u h
@@ -152,6 +151,10 @@ module _ (t u : List ℕ) (n : Renumbered (monitors (decoded t)) (monitors (deco
           let v : w ≡ scenarioOf u h i = gives-only t h r c7 (rw (k .total-is) (k .some)) (rw (k .total-is) (k .few)) i w lt g ∙ same-scenario o i lt in
           rw v (gives-scenario u h s c7 (rw e (k .some)) (rw e (k .few)) i (rw e l))
 
+-- an order of events tells how many there are
+same-events : (t u : List ℕ) → Readable t → Readable u → orderOf (decoded t) ≡ orderOf (decoded u) → eventsOf (decoded t) ≡ eventsOf (decoded u)
+same-events t u r s o = sym (permutation-length _ _ (order-permutes t r)) ∙ ap length o ∙ permutation-length _ _ (order-permutes u s)
+
 -- ---- every monitor from 0
 
 -- the numbers a and 0 exchanged
@@ -170,6 +173,8 @@ exchanged-injective a s t q = sym (exchanged-twice a s) ∙ ap (exchanged a) q �
 start-exchanged : (k : Kind) → startOf (renumberedKind (exchanged (startOf k)) k) ≡ 0
 unfolding startOf renumberedKind
 start-exchanged (mon S a) = rw (eq-eqb a a refl)
+start-exchanged (gap e n) = refl
+start-exchanged (reply a b lo hi) = refl
 
 from-0 : (ms : List Monitor) → (ns : List Monitor) × Renumbered ms ns × ((n : Monitor) → In n ns → startOf (n .kind) ≡ 0)
 unfolding Renumbered
@@ -191,7 +196,7 @@ record Lines : Type 0 where
   of-exchanged : monitors (decoded A-exchanged) ≡ record { kind = mon 2 0; parts = go 1 0 1 ∷ go 1 1 0 ∷ go 0 0 1 ∷ [] } ∷ []
 
 lines-of : Lines
-unfolding decoded lines splitOn onto init decode fields form one two three oneOrTwo anyNumber field endOr end number numbers ahead digitsValue same monitors monitorsFrom extended addPart
+unfolding decoded lines splitOn onto init decode fields form one two three four oneOrTwo anyNumber field endOr end number numbers ahead digitsValue same monitors monitorsFrom extended addPart
 lines-of = record { of-A = refl; of-exchanged = refl }
 
 pub starts : Starts
@@ -199,7 +204,7 @@ unfolding Renumbered renumberedKind renumberedPart
 starts = record {
   from-0 = from-0;
   same-belong = same-belong;
-  same-count = λ t u r s n h c7 cells others c8 d8 m p q. same-count t u h r s (same-belong t u n h) c7 cells others c8 d8 m p q;
-  same-given = λ t u r s n o h c7 cells c8 m p q i l w. same-given t u n r s h c7 cells c8 m p q o i l w;
+  same-count = λ t u r s n ev h c7 cells others c8 d8 m p q. same-count t u h r s (same-belong t u n ev h) c7 cells others c8 d8 m p q;
+  same-given = λ t u r s n o h c7 cells c8 m p q i l w. same-given t u n (same-events t u r s o) r s h c7 cells c8 m p q o i l w;
   renumbered-A = rw (lines-of .of-A, lines-of .of-exchanged) ((exchanged 1, exchanged-injective 1, refl), tt);
 }

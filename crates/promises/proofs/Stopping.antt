@@ -11,7 +11,7 @@ use lib.ListN.{length}
 use Rattle.automaton.specs.Counting.{N}
 use Rattle.automaton.proofs.Counting.{live-count, scenarios-sound, stays-live, carried-plain}
 use Rattle.automaton.proofs.Ranking.{index-belongs}
-use Rattle.promises.specs.Text.{Kind, mon, Part, stop, Line, rig, ord, begins, continues, other, Monitor, extended, monitorsFrom, monitors, latest, statesOf, OfLatest, continuing, cases, Case1, Case2, Case5, Case3, Case16, Case4, AllSound, LineFault, Readable, Fault, decoded}
+use Rattle.promises.specs.Text.{Kind, Part, stop, Line, rig, ord, begins, continues, other, Monitor, extended, monitorsFrom, monitors, latest, statesOf, OfLatest, continuing, IsMon, cases, Case1, Case2, Case5, Case3, Case16, Case17, Case4, AllSound, LineFault, Readable, Fault, decoded}
 use Rattle.promises.specs.Meaning.{Ends, MayStop, AllAdmit, AllMayStop, CarriedOn, Belongs}
 use Rattle.promises.specs.Rig.{rigAutomaton, start}
 use Rattle.promises.specs.Demand2.{Endless}
@@ -33,22 +33,21 @@ module _ (t : List ℕ) (front : List Line) (s : ℕ) (back : List Line) (short 
   formed h = h
 
   before-mon : monitors front ≡ [] → Fault t 5 (suc (length front))
-  unfolding LineFault Case5 cases continuing
-  before-mon none = bad-stop 5 (inr (formed, inl (inr none, refl)))
+  unfolding LineFault Case5 cases continuing OfLatest latest
+  before-mon none = bad-stop 5 (inr (formed, inl (λ h. rw none at h, refl)))
 
-  module _ (m : Monitor) (last : latest (monitors front) ≡ some m) where
+  module _ (m : Monitor) (last : latest (monitors front) ≡ some m) (is : IsMon (m .kind)) where
     placed : Case5 front (continues (stop s)) → ⊥
-    unfolding Case5 cases continuing monitors monitorsFrom latest
-    placed (inl none) = Option·none-ne-some m (rw none at last)
-    placed (inr none) = Option·none-ne-some m (rw none at last)
+    unfolding Case5 cases continuing OfLatest
+    placed none = none (rw last is)
 
     not-below : statesOf (m .kind) ≤ s → Fault t 3 (suc (length front))
     unfolding LineFault Case3 cases continuing OfLatest
     not-below h = bad-stop 3 (inr (formed, inr (placed, inl (rw last h, refl))))
 
     marked-twice : s < statesOf (m .kind) → In (stop s) (m .parts) → Fault t 4 (suc (length front))
-    unfolding LineFault Case3 Case16 Case4 cases continuing OfLatest
-    marked-twice h i = bad-stop 4 (inr (formed, inr (placed, inr (λ k. below (rw last at k), inr (λ k. k, inl (rw last i, refl))))))
+    unfolding LineFault Case3 Case16 Case17 Case4 cases continuing OfLatest
+    marked-twice h i = bad-stop 4 (inr (formed, inr (placed, inr (λ k. below (rw last at k), inr (λ k. k, inr (λ k. k, inl (rw last i, refl)))))))
       where
         below : statesOf (m .kind) ≤ s → ⊥
         below k = omega arith
@@ -80,24 +79,18 @@ parts-from ms (l ∷ ls) m p i j = ⊎-elim (λ (k, a, b). before l k a b) (λ a
         latest-has o c (inr b) = inr (here (ap continues (List·Memᴰ·eq-of-singleton b)))
     before other k a b = inl (k, a, b)
 
--- a monitor without a `stop` line may stop in no state
-unmarked : (k : Kind) (ps : List Part) → ((s : ℕ) → In (stop s) ps → ⊥) → (s : ℕ) → Ends k ps s [] → ⊥
-unfolding Ends
-unmarked (mon S a) ps nowhere s (u, l, i) = nowhere u i
+-- a `mon` without a `stop` line may stop in no state
+unmarked : (k : Kind) (ps : List Part) → IsMon k → ((s : ℕ) → In (stop s) ps → ⊥) → (s : ℕ) → Ends k ps s [] → ⊥
+unfolding IsMon Ends
+unmarked k ps (S, a, q) nowhere s e = let (u, l, i) = subst (λ k. Ends k ps s []) q e in nowhere u i
 
-endless-by-one : (t : List ℕ) (m : Monitor) → In m (monitors (decoded t)) → ((s : ℕ) → In (stop s) (m .parts) → ⊥) → Endless t
+endless-by-one : (t : List ℕ) (m : Monitor) → In m (monitors (decoded t)) → IsMon (m .kind) → ((s : ℕ) → In (stop s) (m .parts) → ⊥) → Endless t
 unfolding Endless MayStop
-endless-by-one t m i nowhere = (m, i, λ s l. unmarked (m .kind) (m .parts) nowhere s)
+endless-by-one t m i is nowhere = (m, i, λ s l. unmarked (m .kind) (m .parts) is nowhere s)
 
-pub without-stop : (t : List ℕ) → Readable t → ((s : ℕ) → In (continues (stop s)) (decoded t) → ⊥) → Endless t
+pub without-stop : (t : List ℕ) (m : Monitor) → In m (monitors (decoded t)) → IsMon (m .kind) → ((s : ℕ) → In (continues (stop s)) (decoded t) → ⊥) → Endless t
 unfolding monitors
-without-stop t r nowhere = first (monitors (decoded t)) (r .monitored) (λ m i. i)
-  where
-    first : (ms : List Monitor) → ms ≢ [] → ((m : Monitor) → In m ms → In m (monitors (decoded t))) → Endless t
-    first [] full sub = absurd (full refl)
-    first (m ∷ ms) full sub =
-        let i = sub m (here refl) in
-        endless-by-one t m i (λ s j. ⊎-elim (λ (k, a, b). List·Memᴰ·not-nil a) (nowhere s) (parts-from [] (decoded t) m (stop s) i j))
+without-stop t m i is nowhere = endless-by-one t m i is (λ s j. ⊎-elim (λ (k, a, b). List·Memᴰ·not-nil a) (nowhere s) (parts-from [] (decoded t) m (stop s) i j))
 
 module _ (t : List ℕ) (r : Readable t) (e : Endless t) where
   plain : (w : List ℕ) (k : ℕ) → CarriedOn t w k ↔ ((v : List ℕ) × (length v ≡ k) × AllAdmit t (w ++ v))

@@ -18,4 +18,5 @@ pub mod Starred
 pub mod Starts
 pub mod Ordering
 pub mod Stopping
+pub mod Sentences
 pub mod Wrong

@@ -3,11 +3,13 @@
 --   moveBy ps s e      == where the first of the lines ps that does so moves
 --   marks s p          == the line p marks the state s
 --   markedBy ps s      == one of the lines ps marks s
+--   isMon k            == k is a `mon`
+--   outOfRange, equal  == OutOfRange and Equal of Text, as tests
 --   repeats es         == some number stands twice in es
---   tests ls l         == the cases 2, 5, 3, 16, 4 and 6 of the line l after the lines ls, as tests
+--   tests ls l         == the cases 2, 5, 3, 16, 17, 4 and 6 of the line l after the lines ls, as tests
 --   lineCase ls l      == the number of the first case that holds of l, 0 where none does
---   reading t          == served where t is readable, else refused by a number from 1 to 6, or 16, and its place
--- A new line form is one clause of `tests`; a new Part also one of `leadsTo` and one of `marks`. Assumes nothing.
+--   reading t          == served where t is readable, else refused by a number from 1 to 6, 16 or 17, and its place
+-- A new Kind is one clause each of `isMon`, `outOfRange` and `equal`; a new Part one each of `tests`, `leadsTo` and `marks`. Assumes nothing.
 use mathlib.Core.Bool.{Bool, true, false, not, _&&_, _||_}
 use mathlib.Core.List.{List, [], _∷_, _++_}
 use mathlib.Core.Option.{Option, none, some, orElse}
@@ -16,7 +18,7 @@ use lib.ListN.{length}
 use lib.Dec.{ltb, leb, eqb}
 use Rattle.lists.specs.Lists.{pick, any}
 use Rattle.promises.specs.Answer.{Answer, served, unless}
-use Rattle.promises.specs.Text.{Kind, mon, Part, go, stop, Line, rig, ord, begins, continues, other, Monitor, monitors, latest, statesOf, eventsOf, product, decoded, unended}
+use Rattle.promises.specs.Text.{Kind, mon, gap, reply, Part, go, stop, Line, rig, ord, begins, continues, other, Monitor, monitors, latest, statesOf, eventsOf, product, decoded, unended}
 
 abbrev pub empty : {A : Type 0} → List A → Bool
 empty [] = true
@@ -48,20 +50,38 @@ pub record Tests : Type 0 where
   pub misformed : Bool
   pub misplaced : Bool
   pub out-of-range : Bool
-  pub twice : Bool
+  pub clash : ℕ → Bool
   pub again : Bool
   pub too-many : Bool
 
 abbrev pub outside : ℕ → ℕ → ℕ → Bool
 outside lo hi n = ltb n lo || ltb hi n
 
--- a line that begins a monitor of the kind k, its own numbers being out of range by `out`
-unfoldable pub testBeginning : List Line → Kind → Bool → Tests
-testBeginning ls k out = record {
+abbrev pub noClash : ℕ → Bool
+noClash n = false
+
+unfoldable pub isMon : Kind → Bool
+isMon (mon S a) = true
+isMon (gap e n) = false
+isMon (reply a b lo hi) = false
+
+unfoldable pub outOfRange : ℕ → Kind → Bool
+outOfRange E (mon S a) = outside 1 32 S || leb S a
+outOfRange E (gap e n) = leb E e || outside 2 32 n
+outOfRange E (reply a b lo hi) = leb E a || (leb E b || (ltb lo 1 || (ltb hi lo || ltb 31 hi)))
+
+unfoldable pub equal : Kind → Bool
+equal (mon S a) = false
+equal (gap e n) = false
+equal (reply a b lo hi) = eqb a b
+
+-- a line that begins a monitor of the kind k
+unfoldable pub testBeginning : List Line → Kind → Tests
+testBeginning ls k = record {
   misformed = false;
   misplaced = empty ls;
-  out-of-range = out || leb 4 (length (monitors ls));
-  twice = false;
+  out-of-range = outOfRange (eventsOf ls) k || leb 4 (length (monitors ls));
+  clash = λ n. eqb n 17 && equal k;
   again = false;
   too-many = ltb 1024 (product (monitors ls) * statesOf k);
 }
@@ -72,12 +92,12 @@ ofLatest f none = false
 ofLatest f (some m) = f m
 
 -- a line of the latest monitor
-unfoldable pub testContinuing : List Line → (Monitor → Bool) → (Monitor → Bool) → Tests
-testContinuing ls out again = record {
+unfoldable pub testContinuing : List Line → (Kind → Bool) → (Monitor → Bool) → (Monitor → Bool) → Tests
+testContinuing ls right out again = record {
   misformed = false;
-  misplaced = empty ls || empty (monitors ls);
+  misplaced = not (ofLatest (λ m. right (m .kind)) (latest (monitors ls)));
   out-of-range = ofLatest out (latest (monitors ls));
-  twice = false;
+  clash = noClash;
   again = ofLatest again (latest (monitors ls));
   too-many = false;
 }
@@ -87,33 +107,34 @@ repeats [] = false
 repeats (e ∷ es) = any (eqb e) es || repeats es
 
 unfoldable pub tests : List Line → Line → Tests
-tests ls (rig E) = record { misformed = false; misplaced = not (empty ls); out-of-range = outside 1 16 E; twice = false; again = false; too-many = false }
+tests ls (rig E) = record { misformed = false; misplaced = not (empty ls); out-of-range = outside 1 16 E; clash = noClash; again = false; too-many = false }
 tests ls (ord es) = record {
   misformed = eqb (length ls) 1 && not (eqb (length es) (eventsOf ls));
   misplaced = not (eqb (length ls) 1);
   out-of-range = any (leb (eventsOf ls)) es;
-  twice = repeats es;
+  clash = λ n. eqb n 16 && repeats es;
   again = false;
   too-many = false;
 }
-tests ls (begins (mon S a)) = testBeginning ls (mon S a) (outside 1 32 S || leb S a)
+tests ls (begins k) = testBeginning ls k
 tests ls (continues (go s e t)) =
-    testContinuing ls
+    testContinuing ls isMon
     (λ m. leb (statesOf (m .kind)) s || (leb (eventsOf ls) e || leb (statesOf (m .kind)) t))
     (λ m. isSome (moveBy (m .parts) s e))
-tests ls (continues (stop s)) = testContinuing ls (λ m. leb (statesOf (m .kind)) s) (λ m. markedBy (m .parts) s)
-tests ls other = record { misformed = true; misplaced = empty ls; out-of-range = false; twice = false; again = false; too-many = false }
+tests ls (continues (stop s)) = testContinuing ls isMon (λ m. leb (statesOf (m .kind)) s) (λ m. markedBy (m .parts) s)
+tests ls other = record { misformed = true; misplaced = empty ls; out-of-range = false; clash = noClash; again = false; too-many = false }
 
--- 'on one line 2, 5, 3, 4, 6'; 16 'tested after 3' (02 no. 2)
+-- 'on one line 2, 5, 3, 4, 6'; 16 'tested after 3' (02 no. 2), 17 'after 3' (02 no. 5)
 unfoldable pub lineCase : List Line → Line → ℕ
 lineCase ls l =
     pick (tests ls l .misformed) 2
     (pick (tests ls l .misplaced) 5
     (pick (tests ls l .out-of-range) 3
-    (pick (tests ls l .twice) 16
+    (pick (tests ls l .clash 16) 16
+    (pick (tests ls l .clash 17) 17
     (pick (tests ls l .again) 4
     (pick (tests ls l .too-many) 6
-    0)))))
+    0))))))
 
 -- after the lines `front`, none of them bad: the first bad line of `back`; then whether what stands after the last line is empty, and a monitor is there
 unfoldable pub readingFrom : List Line → List Line → List ℕ → Answer
@@ -125,6 +146,6 @@ readingFrom front (l ∷ back) tail =
     unless (lineCase front l) (suc (length front)) (not (eqb (lineCase front l) 0))
     (readingFrom (front ++ (l ∷ [])) back tail)
 
--- rows 1 to 6 of the table, and 16
+-- rows 1 to 6 of the table, 16 and 17
 unfoldable pub reading : List ℕ → Answer
 reading t = unless 1 0 (ltb 65535 (length t)) (readingFrom [] (decoded t) (unended t))

@@ -1,4 +1,5 @@
 -- The automaton that a text's lines describe: each monitor an automaton, all of them joined. What the answers are read from.
+--   gapNext, replyNext == where a `gap` and a `reply` monitor move
 --   nextOf k ps s e    == where a monitor of the kind k with the further lines ps moves from s on e; a number that is no state where it doesn't admit e
 --   markedOf k ps s    == its state s is marked as one in which a run may stop
 --   monitorOf es m     == the automaton of the monitor m, its events in the order es
@@ -6,30 +7,46 @@
 --   rigAutomaton t     == the joint automaton of the text t
 --   start t            == its start state
 -- A new Kind is one clause of nextOf and one of markedOf. Assumes nothing.
-use mathlib.Core.Bool.{Bool}
+use mathlib.Core.Bool.{Bool, true, _&&_}
 use mathlib.Core.List.{List, map}
 use mathlib.Core.Option.{Option·getD}
-use Prim.Native.Nat.{ℕ}
-use Rattle.automaton.specs.Automaton.{Automaton}
+use Prim.Native.Nat.{ℕ, zero, suc, _+_, _-_}
+use lib.Dec.{eqb, leb}
+use Rattle.lists.specs.Lists.{pick}
+use Rattle.automaton.specs.Automaton.{Automaton, bounded}
 use Rattle.automaton.specs.Joint.{At, joint, jointState}
 use Rattle.promises.specs.Reading.{moveBy, markedBy}
-use Rattle.promises.specs.Text.{Kind, mon, Part, Line, Monitor, monitors, statesOf, startOf, orderOf, decoded}
+use Rattle.promises.specs.Text.{Kind, mon, gap, reply, Part, Line, Monitor, monitors, statesOf, startOf, orderOf, decoded}
+
+-- 'The state of `gap` is the number of coming steps that bar e' (02 no. 5): on e it moves if none does, to the n − 1 steps that follow
+unfoldable pub gapNext : ℕ → ℕ → ℕ → ℕ → ℕ
+gapNext e n s u = pick (eqb u e) (pick (eqb s 0) (n - 1) n) (s - 1)
+
+-- 'that of `reply` is 0 with nothing due, 1 just after a, and one more each step' (02 no. 5): in state s the coming event is s steps after a
+unfoldable pub replyNext : ℕ → ℕ → ℕ → ℕ → ℕ → ℕ → ℕ
+replyNext a b lo hi zero u = pick (eqb u a) 1 0
+replyNext a b lo hi (suc s) u = pick (eqb u a) (hi + 1) (pick (eqb u b && leb lo (suc s)) 0 (suc (suc s)))
 
 -- '`mon`, S: a new monitor with states 0 to S−1'; S itself is the number that is no state. 'Without such a line it doesn't admit e in s.'
 unfoldable pub nextOf : Kind → List Part → ℕ → ℕ → ℕ
 nextOf (mon S a) ps s e = Option·getD (moveBy ps s e) S
+nextOf (gap e n) ps s u = gapNext e n s u
+nextOf (reply a b lo hi) ps s u = replyNext a b lo hi s u
 
--- 'A line `stop`, s marks a state of the latest monitor.' (02 no. 4)
+-- 'A line `stop`, s marks a state of the latest monitor.' (02 no. 4) 'All `gap` states are marked `stop`, of `reply` only state 0.' (02 no. 5)
 unfoldable pub markedOf : Kind → List Part → ℕ → Bool
 markedOf (mon S a) ps s = markedBy ps s
+markedOf (gap e n) ps s = true
+markedOf (reply a b lo hi) ps s = eqb s 0
 
+-- what the kind says, of its states and of the events es alone
 unfoldable pub monitorOf : List ℕ → Monitor → Automaton
-monitorOf es m = record {
+monitorOf es m = bounded (record {
   states = statesOf (m .kind);
   events = es;
   next = nextOf (m .kind) (m .parts);
   stop = markedOf (m .kind) (m .parts);
-}
+})
 
 unfoldable pub standing : List ℕ → List Monitor → List At
 standing es ms = map (λ m. record { of = monitorOf es m; state = startOf (m .kind) }) ms

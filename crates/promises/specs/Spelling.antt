@@ -13,7 +13,7 @@ use Prim.Native.Nat.{ℕ, _<_}
 use Prim.Native.String.{String}
 use Rattle.lists.specs.Lists.{concatMap}
 use Rattle.lists.specs.Decimal.{decimal}
-use Rattle.promises.specs.Text.{lines, unended, number, mon, go, stop, Line, rig, ord, begins, continues, other, bytes, decode}
+use Rattle.promises.specs.Text.{lines, unended, number, mon, gap, reply, go, stop, Line, rig, ord, begins, continues, other, bytes, decode}
 
 -- 'fields are parted by one byte 9'
 unfoldable pub spelled : String → List ℕ → List ℕ
@@ -27,11 +27,13 @@ abbrev pub SpelledAs : String → List ℕ → List ℕ → Type 0
 SpelledAs w ns l = (l ≡ spelled w ns) × Small ns
 
 -- '`rig`, E'; `ord` and its events (02 no. 2); '`mon`, S', and the start, which may be left out where it is 0 (02 no. 1); '`go`, s, e, t'; `stop`, s
--- (02 no. 4)
+-- (02 no. 4); `gap`, e, n; `reply`, a, b, lo, hi (02 no. 5)
 unfoldable pub Spelled : Line → List ℕ → Type 0
 Spelled (rig E) l = SpelledAs "rig" (E ∷ []) l
 Spelled (ord es) l = SpelledAs "ord" es l
 Spelled (begins (mon S a)) l = SpelledAs "mon" (S ∷ a ∷ []) l ⊎ ((a ≡ 0) × SpelledAs "mon" (S ∷ []) l)
+Spelled (begins (gap e n)) l = SpelledAs "gap" (e ∷ n ∷ []) l
+Spelled (begins (reply a b lo hi)) l = SpelledAs "reply" (a ∷ b ∷ lo ∷ hi ∷ []) l
 Spelled (continues (go s e t)) l = SpelledAs "go" (s ∷ e ∷ t ∷ []) l
 Spelled (continues (stop s)) l = SpelledAs "stop" (s ∷ []) l
 Spelled other l = ⊥

@@ -9,7 +9,7 @@ use mathlib.Core.Logic.{_↔_}
 use mathlib.Core.List.{List, [], _∷_, map, List·Memᴰ as In}
 use Prim.Native.Nat.{ℕ, _<_}
 use Rattle.promises.specs.Answer.{served}
-use Rattle.promises.specs.Text.{Kind, mon, Part, go, stop, Monitor, monitors, decoded, startOf, orderOf, Readable, Case7, Case8}
+use Rattle.promises.specs.Text.{Kind, mon, gap, reply, Part, go, stop, Monitor, monitors, decoded, startOf, eventsOf, orderOf, Readable, Case7, Case8}
 use Rattle.promises.specs.Meaning.{Belongs}
 use Rattle.promises.specs.Demand3.{Gives}
 use Rattle.promises.specs.Calls.{count}
@@ -18,6 +18,8 @@ use Rattle.promises.specs.Examples.{A-from-1, A-exchanged}
 
 unfoldable pub renumberedKind : (ℕ → ℕ) → Kind → Kind
 renumberedKind f (mon S a) = mon S (f a)
+renumberedKind f (gap e n) = gap e n
+renumberedKind f (reply a b lo hi) = reply a b lo hi
 
 unfoldable pub renumberedPart : (ℕ → ℕ) → Part → Part
 renumberedPart f (go s e t) = go (f s) e (f t)
@@ -36,10 +38,10 @@ Renumbered (m ∷ ms) (n ∷ ns) = ((f : ℕ → ℕ) × ((s t : ℕ) → f s �
 pub record Starts : Type 0 where
   -- any monitors can be renumbered so that each starts in 0
   pub from-0 : (ms : List Monitor) → (ns : List Monitor) × Renumbered ms ns × ((n : Monitor) → In n ns → startOf (n .kind) ≡ 0)
-  -- then the same sequences belong
-  pub same-belong : (t u : List ℕ) → Renumbered (monitors (decoded t)) (monitors (decoded u)) → (h : ℕ) (w : List ℕ) → Belongs t h w ↔ Belongs u h w
+  -- then, with as many events, the same sequences belong
+  pub same-belong : (t u : List ℕ) → Renumbered (monitors (decoded t)) (monitors (decoded u)) → eventsOf (decoded t) ≡ eventsOf (decoded u) → (h : ℕ) (w : List ℕ) → Belongs t h w ↔ Belongs u h w
   -- the count is the same
-  pub same-count : (t u : List ℕ) → Readable t → Readable u → Renumbered (monitors (decoded t)) (monitors (decoded u))
+  pub same-count : (t u : List ℕ) → Readable t → Readable u → Renumbered (monitors (decoded t)) (monitors (decoded u)) → eventsOf (decoded t) ≡ eventsOf (decoded u)
       → (h : ℕ) → (Case7 h → ⊥) → (cells others : List ℕ) → (Case8 t h cells → ⊥) → (Case8 u h others → ⊥)
       → (n p : ℕ) → count t h cells ≡ served (n ∷ p ∷ []) → (q : ℕ) × (count u h others ≡ served (n ∷ q ∷ []))
   -- and, where both compare events in one order, every index gives the same bytes

@@ -12,12 +12,14 @@
 --   startOf k          == the state in which it starts
 --   eventsOf ls        == E
 --   orderOf ls         == the events, in the order in which they are compared
---   cases ls l         == what each of the cases 2, 5, 3, 16, 4 and 6 says of the line l after the lines ls
+--   OutOfRange E k     == a number of a line that begins a monitor of the kind k is out of its range, in a rig with E events
+--   Equal k            == the a and the b of such a line are equal
+--   cases ls l         == what each of the cases 2, 5, 3, 16, 17, 4 and 6 says of the line l after the lines ls
 --   Readable t         == no case of a check on the text holds of it
 --   Fault t n p        == the checks on the text, in their order, refuse t with number n and place p
 --   Case7 .. Case13    == the case holds of a horizon, of lent buffers, of a sequence
--- A new line form is one constructor of Kind, Part or Line, its word in `form` and one clause of `cases`; a new Kind also has its states and its start,
--- a new Line what it does to the monitors (`extended`) and to the order of events (`reordered`).
+-- A new line form is one constructor of Kind, Part or Line and its word in `form`; a new Kind has one clause each of `statesOf`, `startOf`, `OutOfRange` and
+-- `Equal`, a new Part one of `cases`, a new Line also what it does to the monitors (`extended`) and to the order of events (`reordered`).
 -- How each form is written is fixed by the theorem of Spelling. Assumes nothing.
 use mathlib.Core.Path.{_≡_}
 use mathlib.Core.Logic.{_⊎_, _≢_}
@@ -95,6 +97,8 @@ same (a ∷ as′) (b ∷ bs) = eqb a b && same as′ bs
 -- a line that begins a monitor
 pub data Kind : Type 0 where
   mon : ℕ → ℕ → Kind  -- `mon`, S, and 'the monitor's start state'
+  gap : ℕ → ℕ → Kind  -- `gap`, e, n (02 no. 5)
+  reply : ℕ → ℕ → ℕ → ℕ → Kind  -- `reply`, a, b, lo, hi (02 no. 5)
 
 -- a line of 'the latest monitor'
 pub data Part : Type 0 where
@@ -125,7 +129,7 @@ endOr l more (f ∷ fs) = more (f ∷ fs)
 unfoldable pub end : Line → List (List ℕ) → Line
 end l = endOr l (λ fs. other)
 
--- one number, two and three
+-- one number, two, three and four
 unfoldable pub one : (ℕ → Line) → List (List ℕ) → Line
 one f = field number (λ a. end (f a))
 
@@ -134,6 +138,9 @@ two f = field number (λ a. one (f a))
 
 unfoldable pub three : (ℕ → ℕ → ℕ → Line) → List (List ℕ) → Line
 three f = field number (λ a. two (f a))
+
+unfoldable pub four : (ℕ → ℕ → ℕ → ℕ → Line) → List (List ℕ) → Line
+four f = field number (λ a. three (f a))
 
 -- one number, or two
 unfoldable pub oneOrTwo : (ℕ → Line) → (ℕ → ℕ → Line) → List (List ℕ) → Line
@@ -161,7 +168,9 @@ form (w ∷ fs) =
     (pick (same w (bytes "go")) (three (λ s e t. continues (go s e t)) fs)
     (pick (same w (bytes "ord")) (anyNumber (λ es. ord es) fs)
     (pick (same w (bytes "stop")) (one (λ s. continues (stop s)) fs)
-    other))))
+    (pick (same w (bytes "gap")) (two (λ e n. begins (gap e n)) fs)
+    (pick (same w (bytes "reply")) (four (λ a b lo hi. begins (reply a b lo hi)) fs)
+    other))))))
 
 unfoldable pub decode : List ℕ → Line
 decode l = form (fields l)
@@ -196,13 +205,17 @@ monitorsFrom ms (l ∷ ls) = monitorsFrom (extended ms l) ls
 unfoldable pub monitors : List Line → List Monitor
 monitors ls = monitorsFrom [] ls
 
--- '`mon`, S: a new monitor with states 0 to S−1'
+-- '`mon`, S: a new monitor with states 0 to S−1'; `gap` and `reply`: 'a monitor, with n or hi+1 states' (02 no. 5)
 unfoldable pub statesOf : Kind → ℕ
 statesOf (mon S a) = S
+statesOf (gap e n) = n
+statesOf (reply a b lo hi) = hi + 1
 
--- 'the monitor's start state' (02 no. 1)
+-- 'the monitor's start state' (02 no. 1); `gap`: no coming step bars e; `reply`: '0 with nothing due' (02 no. 5)
 unfoldable pub startOf : Kind → ℕ
 startOf (mon S a) = a
+startOf (gap e n) = 0
+startOf (reply a b lo hi) = 0
 
 -- 'the latest monitor'
 unfoldable pub latest : List Monitor → Option Monitor
@@ -245,23 +258,40 @@ orderOf ls = orderFrom [] ls
 
 pub record Cases : Type 1 where
   pub misformed : Type 0  -- 2, 'no such line form; a field that isn't a number as above'; `ord`, 'the wrong number of fields'
-  pub misplaced : Type 0  -- 5, 'first line not `rig`; `rig` later; `go` before `mon`'; `ord` 'elsewhere'; 'a `stop` before any `mon`'
+  pub misplaced : Type 0  -- 5, 'first line not `rig`; `rig` later'; `ord` 'elsewhere'; `go` or `stop` 'if the latest monitor isn't a `mon`'
   pub out-of-range : Type 0  -- 3, 'a number out of its range, or a fifth `mon`'
-  pub twice : Type 0  -- 16, 'an event named twice in `ord`'
+  pub clash : ℕ → Type 0  -- by its number: 16, 'an event named twice in `ord`'; 17, 'a equals b'
   pub again : Type 0  -- 4, 's and e again in one monitor'; 'A state marked twice'
   pub too-many : Type 0  -- 6, 'P over 1,024'
+
+abbrev pub never : ℕ → Type 0
+never n = ⊥
 
 -- n is not 'from lo to hi'
 abbrev pub Outside : ℕ → ℕ → ℕ → Type 0
 Outside lo hi n = (n < lo) ⊎ (hi < n)
 
--- a line that begins a monitor of the kind k, its own numbers being out of range by `out`
-unfoldable pub beginning : List Line → Kind → Type 0 → Cases
-beginning ls k out = record {
+unfoldable pub OutOfRange : ℕ → Kind → Type 0
+-- 'S from 1 to 32'; 'A start not below S is refused 3.' (02 no. 1)
+OutOfRange E (mon S a) = Outside 1 32 S ⊎ (S ≤ a)
+-- 'n from 2 to 32' (02 no. 5)
+OutOfRange E (gap e n) = (E ≤ e) ⊎ Outside 2 32 n
+-- '1 ≤ lo ≤ hi ≤ 31' (02 no. 5)
+OutOfRange E (reply a b lo hi) = (E ≤ a) ⊎ ((E ≤ b) ⊎ ((lo < 1) ⊎ ((hi < lo) ⊎ (31 < hi))))
+
+-- '17, a equals b' (02 no. 5)
+unfoldable pub Equal : Kind → Type 0
+Equal (mon S a) = ⊥
+Equal (gap e n) = ⊥
+Equal (reply a b lo hi) = a ≡ b
+
+-- a line that begins a monitor of the kind k: it 'counts as a `mon` in 3, 5 and 6, as do all later kinds' (02 no. 5)
+unfoldable pub beginning : List Line → Kind → Cases
+beginning ls k = record {
   misformed = ⊥;
   misplaced = ls ≡ [];
-  out-of-range = out ⊎ (4 ≤ length (monitors ls));
-  twice = ⊥;
+  out-of-range = OutOfRange (eventsOf ls) k ⊎ (4 ≤ length (monitors ls));
+  clash = λ n. (n ≡ 17) × Equal k;
   again = ⊥;
   too-many = 1024 < product (monitors ls) * statesOf k;
 }
@@ -271,16 +301,19 @@ unfoldable pub OfLatest : (Monitor → Type 0) → Option Monitor → Type 0
 OfLatest P none = ⊥
 OfLatest P (some m) = P m
 
--- a line of the latest monitor; whether its numbers are out of range, or were given before, is said of that monitor
-unfoldable pub continuing : List Line → (Monitor → Type 0) → (Monitor → Type 0) → Cases
-continuing ls out again = record {
+-- a line of the latest monitor, which must be there and of the right kind; whether its numbers are out of range, or were given before, is said of that monitor
+unfoldable pub continuing : List Line → (Kind → Type 0) → (Monitor → Type 0) → (Monitor → Type 0) → Cases
+continuing ls right out again = record {
   misformed = ⊥;
-  misplaced = (ls ≡ []) ⊎ (monitors ls ≡ []);
+  misplaced = OfLatest (λ m. right (m .kind)) (latest (monitors ls)) → ⊥;
   out-of-range = OfLatest out (latest (monitors ls));
-  twice = ⊥;
+  clash = never;
   again = OfLatest again (latest (monitors ls));
   too-many = ⊥;
 }
+
+unfoldable pub IsMon : Kind → Type 0
+IsMon k = (S : ℕ) × (a : ℕ) × (k ≡ mon S a)
 
 -- 'an event named twice in `ord`'
 unfoldable pub Twice : List ℕ → Type 0
@@ -288,27 +321,26 @@ Twice es = (i : ℕ) × (j : ℕ) × (i < j) × (j < length es) × (getD es i 0 
 
 unfoldable pub cases : List Line → Line → Cases
 -- 'the first line and only there'; 'E from 1 to 16'
-cases ls (rig E) = record { misformed = ⊥; misplaced = ls ≢ []; out-of-range = Outside 1 16 E; twice = ⊥; again = ⊥; too-many = ⊥ }
+cases ls (rig E) = record { misformed = ⊥; misplaced = ls ≢ []; out-of-range = Outside 1 16 E; clash = never; again = ⊥; too-many = ⊥ }
 -- 'at most one and only second'; 'On line 2 the wrong number of fields is 2, an event not below E is 3; an `ord` elsewhere is 5 with any number of number
 -- fields, none included.' (02 no. 2)
 cases ls (ord es) = record {
   misformed = (length ls ≡ 1) × (length es ≢ eventsOf ls);
   misplaced = length ls ≢ 1;
   out-of-range = (e : ℕ) × In e es × (eventsOf ls ≤ e);
-  twice = Twice es;
+  clash = λ n. (n ≡ 16) × Twice es;
   again = ⊥;
   too-many = ⊥;
 }
--- 'S from 1 to 32'; 'A start not below S is refused 3.' (02 no. 1)
-cases ls (begins (mon S a)) = beginning ls (mon S a) (Outside 1 32 S ⊎ (S ≤ a))
--- 'moves from s to t on event e': s and t below S, e below E
+cases ls (begins k) = beginning ls k
+-- 'moves from s to t on event e': s and t below S, e below E; 'A `go` or `stop` is 5 if the latest monitor isn't a `mon`.' (02 no. 5)
 cases ls (continues (go s e t)) =
-    continuing ls
+    continuing ls IsMon
     (λ m. (statesOf (m .kind) ≤ s) ⊎ ((eventsOf ls ≤ e) ⊎ (statesOf (m .kind) ≤ t)))
     (λ m. (u : ℕ) × In (go s e u) (m .parts))
 -- 'A state marked twice is 4, a state not below S is 3, a `stop` before any `mon` is 5.' (02 no. 4)
-cases ls (continues (stop s)) = continuing ls (λ m. statesOf (m .kind) ≤ s) (λ m. In (stop s) (m .parts))
-cases ls other = record { misformed = Unit {0}; misplaced = ls ≡ []; out-of-range = ⊥; twice = ⊥; again = ⊥; too-many = ⊥ }
+cases ls (continues (stop s)) = continuing ls IsMon (λ m. statesOf (m .kind) ≤ s) (λ m. In (stop s) (m .parts))
+cases ls other = record { misformed = Unit {0}; misplaced = ls ≡ []; out-of-range = ⊥; clash = never; again = ⊥; too-many = ⊥ }
 
 unfoldable pub Case2 : List Line → Line → Type 0
 Case2 ls l = cases ls l .misformed
@@ -320,7 +352,10 @@ unfoldable pub Case3 : List Line → Line → Type 0
 Case3 ls l = cases ls l .out-of-range
 
 unfoldable pub Case16 : List Line → Line → Type 0
-Case16 ls l = cases ls l .twice
+Case16 ls l = cases ls l .clash 16
+
+unfoldable pub Case17 : List Line → Line → Type 0
+Case17 ls l = cases ls l .clash 17
 
 unfoldable pub Case4 : List Line → Line → Type 0
 Case4 ls l = cases ls l .again
@@ -334,12 +369,13 @@ Case6 ls l = cases ls l .too-many
 unfoldable pub Case1 : List ℕ → Type 0
 Case1 t = 65535 < length t
 
--- no case of 2 to 6, and not 16, holds of the line
+-- no case of 2 to 6, nor 16 or 17, holds of the line
 pub record Sound (ls : List Line) (l : Line) : Type 0 where
   pub formed : Case2 ls l → ⊥
   pub placed : Case5 ls l → ⊥
   pub ranged : Case3 ls l → ⊥
   pub named-once : Case16 ls l → ⊥
+  pub unequal : Case17 ls l → ⊥
   pub new : Case4 ls l → ⊥
   pub fits : Case6 ls l → ⊥
 
@@ -348,7 +384,7 @@ unfoldable pub AllSound : List Line → List Line → Type 0
 AllSound front [] = Unit {0}
 AllSound front (l ∷ back) = Sound front l × AllSound (front ++ (l ∷ [])) back
 
--- 'A rig is readable if no case of a check on its text, here 1 to 6, holds of it, whatever a call answers.' 16 is one more (02 no. 2)
+-- 'A rig is readable if no case of a check on its text, here 1 to 6, holds of it, whatever a call answers.' 16 (02 no. 2) and 17 (02 no. 5) are two more
 pub record Readable (t : List ℕ) : Type 0 where
   pub short : Case1 t → ⊥
   pub sound : AllSound [] (decoded t)
@@ -361,16 +397,17 @@ pub record Readable (t : List ℕ) : Type 0 where
 abbrev pub first : Type 0 → Type 0 → Type 0 → Type 0
 first case says later = (case × says) ⊎ ((case → ⊥) × later)
 
--- 'on one line 2, 5, 3, 4, 6'; 16 'tested after 3' (02 no. 2)
+-- 'on one line 2, 5, 3, 4, 6'; 16 'tested after 3' (02 no. 2), 17 'after 3' (02 no. 5): no line has both
 unfoldable pub LineFault : List Line → Line → ℕ → Type 0
 LineFault ls l n =
     first (Case2 ls l) (n ≡ 2)
     (first (Case5 ls l) (n ≡ 5)
     (first (Case3 ls l) (n ≡ 3)
     (first (Case16 ls l) (n ≡ 16)
+    (first (Case17 ls l) (n ≡ 17)
     (first (Case4 ls l) (n ≡ 4)
     (first (Case6 ls l) (n ≡ 6)
-    ⊥)))))
+    ⊥))))))
 
 -- 'Checks go in the table's order, but 2 to 6 are made line by line and the first bad line counts'; 'line, from 1'; 'at the end, lines + 1'
 unfoldable pub Fault : List ℕ → ℕ → ℕ → Type 0

@@ -1,0 +1,123 @@
+-- What `gap` and `reply` lines are.
+-- Why: each kind's automaton agrees with its sentence, so every monitor of a readable text does; what comes after the place i of a sequence stands i + 1 places later
+-- in it; a line's cases are those of its kind. Assumes nothing.
+use mathlib.Core.Path.{_≡_, refl, subst}
+use mathlib.Core.Logic.{_⊎_, inl, inr, _≢_, _↔_, ⊎-map}
+use mathlib.Core.List.{List, [], _∷_, _++_, List·Memᴰ as In}
+use mathlib.Core.Option.{some}
+use Prim.Native.Nat.{ℕ, zero, suc, _+_, _-_, _*_, _≤_, _<_}
+use native.Mathlib.Omega.{arith}
+use lib.ListN.{length, drop, length-drop}
+use Rattle.promises.specs.Text.{Kind, gap, reply, Part, go, stop, Line, begins, continues, Monitor, monitors, latest, statesOf, eventsOf, product, decoded, OutOfRange, Equal, beginning, OfLatest, continuing, IsMon, cases, Case1, Case2, Case5, Case3, Case16, Case17, Case4, Case6, AllSound, LineFault, Fault}
+use Rattle.promises.specs.Meaning.{Stands, Apart, Answered, StillDue, Replied, Says, Admits, Ends, MayStop}
+use Rattle.promises.specs.Sentences.{RepliedAt, Begins, Continues, Sentences}
+use Rattle.promises.proofs.Lines.{readable-formed}
+use Rattle.promises.proofs.Reading.{bad-line}
+use Rattle.promises.proofs.Gap.{free, gap-agrees}
+use Rattle.promises.proofs.Reply.{marked, reply-agrees}
+use Rattle.promises.proofs.Meaning.{monitor-agrees}
+
+-- ---- the sentences in the start state
+
+gap-plain : (e n : ℕ) (ps : List Part) (w : List ℕ) → Admits (record { kind = gap e n; parts = ps }) 0 w ↔ Apart e n w
+unfolding Admits Says
+gap-plain e n ps w = (λ (b, a). a, λ a. (free e n w, a))
+
+-- what stands after place i
+stands-after : (e : ℕ) (w : List ℕ) (i j : ℕ) → Stands e (drop (suc i) w) j ↔ Stands e w (suc (i + j))
+unfolding Stands
+stands-after e [] i j = (λ t. t, λ t. t)
+stands-after e (u ∷ w) zero j = let q : 0 + j ≡ j = omega arith in rw q (λ t. t, λ t. t)
+stands-after e (u ∷ w) (suc i) j = let q : suc i + j ≡ suc (i + j) = omega arith in rw q (stands-after e w i j)
+
+stands-below : (e : ℕ) (w : List ℕ) (i : ℕ) → Stands e w i → i < length w
+unfolding Stands
+stands-below e [] i t = absurd t
+stands-below e (u ∷ w) zero t = omega arith
+stands-below e (u ∷ w) (suc i) t = omega (arith, stands-below e w i t)
+
+-- a place k after i, counted from what stands there
+counted : (i k : ℕ) → i < k → k ≡ suc (i + (k - suc i))
+counted i k h = omega arith
+
+module _ (a b lo hi : ℕ) (w : List ℕ) (i : ℕ) where
+  answered-at : 1 ≤ lo → Answered a b lo hi 1 (drop (suc i) w) ↔ ((j : ℕ) × (i + lo ≤ j) × (j ≤ i + hi) × Stands b w j × ((k : ℕ) → i < k → k < j → ¬ Stands a w k))
+  unfolding Answered
+  answered-at pos = (
+    λ (j, l, h, t, n). (suc (i + j), omega arith, omega arith, stands-after b w i j .0 t, λ k x y s. n (k - suc i) (omega arith) (stands-after a w i (k - suc i) .1 (subst (Stands a w) (counted i k x) s))),
+    λ (j, l, h, t, n). from j l h t n,
+  )
+    where
+      from : (j : ℕ) → i + lo ≤ j → j ≤ i + hi → Stands b w j → ((k : ℕ) → i < k → k < j → ¬ Stands a w k) → Answered a b lo hi 1 (drop (suc i) w)
+      from j l h t n =
+          let q : j ≡ suc (i + (j - suc i)) = counted i j (omega arith) in
+          (j - suc i, omega arith, omega arith, stands-after b w i (j - suc i) .1 (subst (Stands b w) q t), λ k y s. n (suc (i + k)) (omega arith) (omega arith) (stands-after a w i k .0 s))
+
+  due-at : i < length w → StillDue a b lo hi 1 (drop (suc i) w) ↔ ((length w ≤ i + hi) × ((k : ℕ) → i < k → ¬ Stands a w k))
+  unfolding StillDue
+  due-at below =
+      let q : length (drop (suc i) w) ≡ length w - suc i = length-drop (suc i) w in (
+        λ (l, n). (omega arith, λ k x s. n (k - suc i) (stands-after a w i (k - suc i) .1 (subst (Stands a w) (counted i k x) s))),
+        λ (l, n). (omega arith, λ k s. n (suc (i + k)) (omega arith) (stands-after a w i k .0 s)),
+      )
+
+reply-plain : (a b lo hi : ℕ) (ps : List Part) (w : List ℕ) → 1 ≤ lo → Admits (record { kind = reply a b lo hi; parts = ps }) 0 w ↔ RepliedAt a b lo hi w
+unfolding Admits Says Replied RepliedAt
+reply-plain a b lo hi ps w pos = (
+  λ (z, r) i t. ⊎-map (answered-at a b lo hi w i pos .0) (due-at a b lo hi w i (stands-below a w i t) .0) (r i t),
+  λ r. (λ z. absurd (omega arith), λ i t. ⊎-map (answered-at a b lo hi w i pos .1) (due-at a b lo hi w i (stands-below a w i t) .1) (r i t)),
+)
+
+-- ---- refusals
+
+-- a line that begins a monitor
+module _ (t : List ℕ) (front : List Line) (k : Kind) (z : Begins t front k) where
+  bad : (n : ℕ) → LineFault front (begins k) n → Fault t n (suc (length front))
+  bad n f = bad-line t front (begins k) (z .back) n (z .short) (z .lines-are) (z .sound) f
+
+  out-of-range : OutOfRange (eventsOf front) k ⊎ (4 ≤ length (monitors front)) → Fault t 3 (suc (length front))
+  unfolding LineFault Case2 Case5 Case3 cases beginning
+  out-of-range o = bad 3 (inr (λ h. h, inr (z .not-first, inl (o, refl))))
+
+  module _ (ranged : OutOfRange (eventsOf front) k → ⊥) (few : length (monitors front) < 4) where
+    in-range : OutOfRange (eventsOf front) k ⊎ (4 ≤ length (monitors front)) → ⊥
+    in-range (inl o) = ranged o
+    in-range (inr h) = omega arith
+
+    equal : Equal k → Fault t 17 (suc (length front))
+    unfolding LineFault Case2 Case5 Case3 Case16 Case17 cases beginning
+    equal e = bad 17 (inr (λ h. h, inr (z .not-first, inr (in-range, inr (λ (q, s). omega arith, inl ((refl, e), refl))))))
+
+    too-many : (Equal k → ⊥) → 1024 < product (monitors front) * statesOf k → Fault t 6 (suc (length front))
+    unfolding LineFault Case2 Case5 Case3 Case16 Case17 Case4 Case6 cases beginning
+    too-many e p = bad 6 (inr (λ h. h, inr (z .not-first, inr (in-range, inr (λ (q, s). omega arith, inr (λ (q, s). e s, inr (λ h. h, inl (p, refl))))))))
+
+not-first : (t : List ℕ) (k : Kind) (back : List Line) → (Case1 t → ⊥) → decoded t ≡ begins k ∷ back → Fault t 5 1
+unfolding LineFault Case2 Case5 cases beginning AllSound
+not-first t k back short q = bad-line t [] (begins k) back 5 short q tt (inr (λ h. h, inl (refl, refl)))
+
+-- a line of the latest monitor
+not-mon : (t : List ℕ) (front : List Line) (p : Part) → Continues t front p → (m : Monitor) → latest (monitors front) ≡ some m → (IsMon (m .kind) → ⊥) → Fault t 5 (suc (length front))
+not-mon t front p z m last isn't = bad-line t front (continues p) (z .back) 5 (z .short) (z .lines-are) (z .sound) (misplaced p)
+  where
+    misplaced : (p : Part) → LineFault front (continues p) 5
+    misplaced (go s e u) = unfold LineFault Case2 Case5 cases continuing OfLatest in inr (λ h. h, inl (λ h. isn't (rw last at h), refl))
+    misplaced (stop s) = unfold LineFault Case2 Case5 cases continuing OfLatest in inr (λ h. h, inl (λ h. isn't (rw last at h), refl))
+
+pub sentences : Sentences
+unfolding MayStop Ends
+sentences = record {
+  gaps = λ es e n ps. gap-agrees e n es ps;
+  replies = λ es a b lo hi ps one le ne. reply-agrees a b lo hi one le ne es ps;
+  each = λ t r m i. monitor-agrees _ _ m (readable-formed t r .monitored .each m i);
+  gap-plain = gap-plain;
+  reply-plain = reply-plain;
+  gap-marked = λ e n ps s. tt;
+  reply-marked = λ a b lo hi ps s. marked a b lo hi ps s;
+  not-first = not-first;
+  out-of-range = λ t front k z o. out-of-range t front k z (inl o);
+  fifth = λ t front k z h. out-of-range t front k z (inr h);
+  equal = equal;
+  too-many = too-many;
+  not-mon = not-mon;
+}
