@@ -21,7 +21,7 @@ use Rattle.promises.specs.Answer.{served, refused, Served}
 use Rattle.promises.specs.Meaning.{Belongs, Earlier, Comes}
 use Rattle.promises.specs.Reading.{leadsTo, moveBy, marks, markedBy, isMon, outOfRange, equal, testBeginning, ofLatest, testContinuing, tests, lineCase, readingFrom, reading}
 use Rattle.promises.specs.Rig.{gapNext, replyNext, nextOf, markedOf, monitorOf, standing, linesAutomaton, linesStart, rigAutomaton, start}
-use Rattle.promises.specs.Examples.{A, B, A-from-1, A-exchanged, most-events, most-joint-states, Words, closes, one-unmarked, both-marked, may-close, stop-without-state, field-after-stop, stop-before-mon, stop-S, stop-again, start-S, field-after-start, empty-start, A-ordered, ord-too-short, ord-not-below, ord-twice, ord-third, ord-first, ord-no-number, ord-alone, mon-without-S, last-line-unended, leading-zero, six-digits, empty-field, seventeen-events, five-digits, fifth-monitor, go-again-out-of-range, go-again, nothing, rig-alone, rig-later, go-before-mon, too-many-joint-states}
+use Rattle.promises.specs.Examples.{A, B, A-from-1, A-exchanged, most-events, most-joint-states, Words, closes, one-unmarked, both-marked, may-close, gap-alone, reply-alone, unanswerable, every-kind, widest-kinds, gap-without-n, field-after-n, reply-without-hi, field-after-hi, gap-first, gap-1, gap-33, gap-no-event, reply-no-event, reply-lo-0, reply-hi-32, reply-lo-over-hi, reply-equal, equal-and-too-many, equal-and-fifth, gap-too-many, go-after-gap, stop-after-reply, stop-without-state, field-after-stop, stop-before-mon, stop-S, stop-again, start-S, field-after-start, empty-start, A-ordered, ord-too-short, ord-not-below, ord-twice, ord-third, ord-first, ord-no-number, ord-alone, mon-without-S, last-line-unended, leading-zero, six-digits, empty-field, seventeen-events, five-digits, fifth-monitor, go-again-out-of-range, go-again, nothing, rig-alone, rig-later, go-before-mon, too-many-joint-states}
 use Rattle.promises.proofs.Reading.{reading-refuses, reading-serves}
 use Rattle.promises.proofs.Meaning.{text-belongs}
 use Rattle.promises.proofs.Answers.{belongs-listed}
@@ -36,6 +36,29 @@ record Readings : Type 0 where
   of-one-unmarked : reading one-unmarked ≡ served []
   of-both-marked : reading both-marked ≡ served []
   of-may-close : reading may-close ≡ served []
+  of-gap-alone : reading gap-alone ≡ served []
+  of-reply-alone : reading reply-alone ≡ served []
+  of-unanswerable : reading unanswerable ≡ served []
+  of-every-kind : reading every-kind ≡ served []
+  of-widest-kinds : reading widest-kinds ≡ served []
+  of-gap-without-n : reading gap-without-n ≡ refused 2 2
+  of-field-after-n : reading field-after-n ≡ refused 2 2
+  of-reply-without-hi : reading reply-without-hi ≡ refused 2 2
+  of-field-after-hi : reading field-after-hi ≡ refused 2 2
+  of-gap-first : reading gap-first ≡ refused 5 1
+  of-gap-1 : reading gap-1 ≡ refused 3 2
+  of-gap-33 : reading gap-33 ≡ refused 3 2
+  of-gap-no-event : reading gap-no-event ≡ refused 3 2
+  of-reply-no-event : reading reply-no-event ≡ refused 3 2
+  of-reply-lo-0 : reading reply-lo-0 ≡ refused 3 2
+  of-reply-hi-32 : reading reply-hi-32 ≡ refused 3 2
+  of-reply-lo-over-hi : reading reply-lo-over-hi ≡ refused 3 2
+  of-reply-equal : reading reply-equal ≡ refused 17 2
+  of-equal-and-too-many : reading equal-and-too-many ≡ refused 17 4
+  of-equal-and-fifth : reading equal-and-fifth ≡ refused 3 6
+  of-gap-too-many : reading gap-too-many ≡ refused 6 4
+  of-go-after-gap : reading go-after-gap ≡ refused 5 4
+  of-stop-after-reply : reading stop-after-reply ≡ refused 5 3
   of-stop-without-state : reading stop-without-state ≡ refused 2 3
   of-field-after-stop : reading field-after-stop ≡ refused 2 3
   of-stop-before-mon : reading stop-before-mon ≡ refused 5 2
@@ -81,6 +104,29 @@ readings = record {
   of-one-unmarked = refl;
   of-both-marked = refl;
   of-may-close = refl;
+  of-gap-alone = refl;
+  of-reply-alone = refl;
+  of-unanswerable = refl;
+  of-every-kind = refl;
+  of-widest-kinds = refl;
+  of-gap-without-n = refl;
+  of-field-after-n = refl;
+  of-reply-without-hi = refl;
+  of-field-after-hi = refl;
+  of-gap-first = refl;
+  of-gap-1 = refl;
+  of-gap-33 = refl;
+  of-gap-no-event = refl;
+  of-reply-no-event = refl;
+  of-reply-lo-0 = refl;
+  of-reply-hi-32 = refl;
+  of-reply-lo-over-hi = refl;
+  of-reply-equal = refl;
+  of-equal-and-too-many = refl;
+  of-equal-and-fifth = refl;
+  of-gap-too-many = refl;
+  of-go-after-gap = refl;
+  of-stop-after-reply = refl;
   of-stop-without-state = refl;
   of-field-after-stop = refl;
   of-stop-before-mon = refl;
@@ -148,6 +194,34 @@ closing : Closing
 unfolding decoded lines unended splitOn onto init lastOf decode fields form one two three four oneOrTwo anyNumber field endOr end number numbers ahead digitsValue same monitors monitorsFrom extended addPart latest statesOf product eventsOf orderOf orderFrom reordered startOf moveBy leadsTo markedBy marks orElse gapNext replyNext nextOf markedOf bounded monitorOf standing linesAutomaton linesStart rigAutomaton start range both join idle joint sizes jointState keep prunedSet size passesFrom passes live N choose unrank firstViolation
 closing = record { only-below = omega arith; only-is = refl; none-then = refl; last-below = omega arith; last-is = refl; leaves-then = refl; both-below = omega arith; both-is = refl; one-leaves = refl }
 
+-- the reply to an event, in time, still due, before it and too late; an event that is barred; one that no reply can follow
+record Replying : Type 0 where
+  replied-below : 0 < N (rigAutomaton reply-alone) 4 (start reply-alone)
+  replied-is : unrank (rigAutomaton reply-alone) 4 (start reply-alone) 0 ≡ 0 ∷ 1 ∷ 1 ∷ 0 ∷ []
+  due-below : 3 < N (rigAutomaton reply-alone) 3 (start reply-alone)
+  due-is : unrank (rigAutomaton reply-alone) 3 (start reply-alone) 3 ≡ 0 ∷ 2 ∷ 2 ∷ []
+  again-leaves : firstViolation (rigAutomaton reply-alone) (start reply-alone) (0 ∷ 1 ∷ 0 ∷ []) ≡ 2
+  late-leaves : firstViolation (rigAutomaton reply-alone) (start reply-alone) (0 ∷ 2 ∷ 2 ∷ 2 ∷ []) ≡ 3
+  once-below : 0 < N (rigAutomaton gap-alone) 1 (start gap-alone)
+  once-is : unrank (rigAutomaton gap-alone) 1 (start gap-alone) 0 ≡ 0 ∷ []
+  twice-none : N (rigAutomaton gap-alone) 2 (start gap-alone) ≡ 0
+  unanswered-leaves : firstViolation (rigAutomaton unanswerable) (start unanswerable) (1 ∷ 0 ∷ []) ≡ 1
+
+replying : Replying
+unfolding decoded lines unended splitOn onto init lastOf decode fields form one two three four oneOrTwo anyNumber field endOr end number numbers ahead digitsValue same monitors monitorsFrom extended addPart latest statesOf product eventsOf orderOf orderFrom reordered startOf moveBy leadsTo markedBy marks orElse gapNext replyNext nextOf markedOf bounded monitorOf standing linesAutomaton linesStart rigAutomaton start range both join idle joint sizes jointState keep prunedSet size passesFrom passes live N choose unrank firstViolation
+replying = record {
+  replied-below = omega arith;
+  replied-is = refl;
+  due-below = omega arith;
+  due-is = refl;
+  again-leaves = refl;
+  late-leaves = refl;
+  once-below = omega arith;
+  once-is = refl;
+  twice-none = refl;
+  unanswered-leaves = refl;
+}
+
 -- where the events stand in the order of A with `ord`, and without
 record Compared : Type 0 where
   by-ord : indexOf (orderOf (decoded A-ordered)) 1 < indexOf (orderOf (decoded A-ordered)) 0
@@ -190,6 +264,11 @@ words = record {
   readable-one-unmarked = readable one-unmarked (readings .of-one-unmarked);
   readable-both-marked = readable both-marked (readings .of-both-marked);
   readable-may-close = readable may-close (readings .of-may-close);
+  readable-gap-alone = readable gap-alone (readings .of-gap-alone);
+  readable-reply-alone = readable reply-alone (readings .of-reply-alone);
+  readable-unanswerable = readable unanswerable (readings .of-unanswerable);
+  readable-every-kind = readable every-kind (readings .of-every-kind);
+  readable-widest-kinds = readable widest-kinds (readings .of-widest-kinds);
   readable-most-events = readable most-events (readings .of-most-events);
   readable-most-joint-states = readable most-joint-states (readings .of-most-joint-states);
   belongs = index-given A (readable A (readings .of-A)) 3 4 _ (scenarios-A .four-below) (scenarios-A .four-is);
@@ -204,6 +283,13 @@ words = record {
   not-belongs-closed = leaves may-close (readable may-close (readings .of-may-close)) (0 ∷ 1 ∷ []) (omega (arith, closing .leaves-then));
   belongs-both = index-given both-marked (readable both-marked (readings .of-both-marked)) 1 0 _ (closing .both-below) (closing .both-is);
   not-belongs-one = leaves one-unmarked (readable one-unmarked (readings .of-one-unmarked)) (0 ∷ []) (omega (arith, closing .one-leaves));
+  belongs-replied = index-given reply-alone (readable reply-alone (readings .of-reply-alone)) 4 0 _ (replying .replied-below) (replying .replied-is);
+  not-belongs-again = leaves reply-alone (readable reply-alone (readings .of-reply-alone)) (0 ∷ 1 ∷ 0 ∷ []) (omega (arith, replying .again-leaves));
+  not-belongs-late = leaves reply-alone (readable reply-alone (readings .of-reply-alone)) (0 ∷ 2 ∷ 2 ∷ 2 ∷ []) (omega (arith, replying .late-leaves));
+  belongs-due = index-given reply-alone (readable reply-alone (readings .of-reply-alone)) 3 3 _ (replying .due-below) (replying .due-is);
+  belongs-once = index-given gap-alone (readable gap-alone (readings .of-gap-alone)) 1 0 _ (replying .once-below) (replying .once-is);
+  none-twice = none-of gap-alone (readable gap-alone (readings .of-gap-alone)) 2 (replying .twice-none);
+  not-belongs-unanswered = leaves unanswerable (readable unanswerable (readings .of-unanswerable)) (1 ∷ 0 ∷ []) (omega (arith, replying .unanswered-leaves));
   fault-too-long = inl (omega (arith, length-replicate {A = ℕ} 65536 10), refl, refl);
   never-too-long = long-enough;
   fault-mon-without-S = reading-refuses mon-without-S 2 2 .0 (readings .of-mon-without-S);
@@ -231,6 +317,24 @@ words = record {
   fault-stop-before-mon = reading-refuses stop-before-mon 5 2 .0 (readings .of-stop-before-mon);
   fault-stop-S = reading-refuses stop-S 3 3 .0 (readings .of-stop-S);
   fault-stop-again = reading-refuses stop-again 4 5 .0 (readings .of-stop-again);
+  fault-gap-without-n = reading-refuses gap-without-n 2 2 .0 (readings .of-gap-without-n);
+  fault-field-after-n = reading-refuses field-after-n 2 2 .0 (readings .of-field-after-n);
+  fault-reply-without-hi = reading-refuses reply-without-hi 2 2 .0 (readings .of-reply-without-hi);
+  fault-field-after-hi = reading-refuses field-after-hi 2 2 .0 (readings .of-field-after-hi);
+  fault-gap-first = reading-refuses gap-first 5 1 .0 (readings .of-gap-first);
+  fault-gap-1 = reading-refuses gap-1 3 2 .0 (readings .of-gap-1);
+  fault-gap-33 = reading-refuses gap-33 3 2 .0 (readings .of-gap-33);
+  fault-gap-no-event = reading-refuses gap-no-event 3 2 .0 (readings .of-gap-no-event);
+  fault-reply-no-event = reading-refuses reply-no-event 3 2 .0 (readings .of-reply-no-event);
+  fault-reply-lo-0 = reading-refuses reply-lo-0 3 2 .0 (readings .of-reply-lo-0);
+  fault-reply-hi-32 = reading-refuses reply-hi-32 3 2 .0 (readings .of-reply-hi-32);
+  fault-reply-lo-over-hi = reading-refuses reply-lo-over-hi 3 2 .0 (readings .of-reply-lo-over-hi);
+  fault-reply-equal = reading-refuses reply-equal 17 2 .0 (readings .of-reply-equal);
+  fault-equal-and-too-many = reading-refuses equal-and-too-many 17 4 .0 (readings .of-equal-and-too-many);
+  fault-equal-and-fifth = reading-refuses equal-and-fifth 3 6 .0 (readings .of-equal-and-fifth);
+  fault-gap-too-many = reading-refuses gap-too-many 6 4 .0 (readings .of-gap-too-many);
+  fault-go-after-gap = reading-refuses go-after-gap 5 4 .0 (readings .of-go-after-gap);
+  fault-stop-after-reply = reading-refuses stop-after-reply 5 3 .0 (readings .of-stop-after-reply);
   fault-nothing = reading-refuses nothing 5 1 .0 (readings .of-nothing);
   fault-rig-alone = reading-refuses rig-alone 5 2 .0 (readings .of-rig-alone);
   fault-rig-later = reading-refuses rig-later 5 2 .0 (readings .of-rig-later);

@@ -48,4 +48,12 @@ starred = record {
   may-close-1 = refl;
   may-close-2 = refl;
   may-close-index = refl;
+  gap-1 = refl;
+  gap-2 = refl;
+  reply-3 = refl;
+  reply-bytes = refl;
+  reply-again = refl;
+  reply-late = refl;
+  unanswerable-2 = refl;
+  unanswerable-index = refl;
 }

@@ -53,6 +53,28 @@ both-marked = bytes "rig\t1\nmon\t2\ngo\t0\t0\t1\nstop\t1\nmon\t2\nstop\t1\ngo\t
 abbrev pub may-close : List ℕ
 may-close = bytes "rig\t2\nmon\t4\ngo\t0\t0\t1\ngo\t0\t1\t2\ngo\t2\t1\t2\nstop\t1\n"
 
+-- ---- gaps and replies (02 no. 5)
+
+-- a `gap` on the only event, and no `mon`
+abbrev pub gap-alone : List ℕ
+gap-alone = bytes "rig\t1\ngap\t0\t2\n"
+
+-- event 1 comes 2 or 3 steps after event 0
+abbrev pub reply-alone : List ℕ
+reply-alone = bytes "rig\t3\nreply\t0\t1\t2\t3\n"
+
+-- after event 1 it is barred for longer than a reply to event 0 can wait
+abbrev pub unanswerable : List ℕ
+unanswerable = bytes "rig\t2\ngap\t1\t4\nreply\t0\t1\t1\t2\n"
+
+-- a `go` and a `stop` of a `mon` between other kinds
+abbrev pub every-kind : List ℕ
+every-kind = bytes "rig\t2\ngap\t0\t2\nmon\t1\ngo\t0\t0\t0\nstop\t0\nreply\t0\t1\t1\t1\n"
+
+-- 'n from 2 to 32', '1 ≤ lo ≤ hi ≤ 31': 32 states each, P 1,024
+abbrev pub widest-kinds : List ℕ
+widest-kinds = bytes "rig\t2\ngap\t1\t32\nreply\t0\t1\t31\t31\n"
+
 -- ---- the largest rigs
 
 -- 'E from 1 to 16'
@@ -175,6 +197,78 @@ stop-S = bytes "rig\t1\nmon\t2\nstop\t2\n"
 abbrev pub stop-again : List ℕ
 stop-again = bytes "rig\t1\nmon\t1\nstop\t0\ngo\t0\t0\t0\nstop\t0\n"
 
+-- 2, place 2: `gap` has two numbers
+abbrev pub gap-without-n : List ℕ
+gap-without-n = bytes "rig\t1\ngap\t0\n"
+
+-- 2, place 2: and no more
+abbrev pub field-after-n : List ℕ
+field-after-n = bytes "rig\t1\ngap\t0\t2\t2\n"
+
+-- 2, place 2: `reply` has four
+abbrev pub reply-without-hi : List ℕ
+reply-without-hi = bytes "rig\t2\nreply\t0\t1\t1\n"
+
+-- 2, place 2: and no more
+abbrev pub field-after-hi : List ℕ
+field-after-hi = bytes "rig\t2\nreply\t0\t1\t1\t1\t1\n"
+
+-- 5, place 1: 'first line not `rig`'
+abbrev pub gap-first : List ℕ
+gap-first = bytes "gap\t0\t2\n"
+
+-- 3, place 2: 'n from 2 to 32'
+abbrev pub gap-1 : List ℕ
+gap-1 = bytes "rig\t1\ngap\t0\t1\n"
+
+-- 3, place 2: 'n from 2 to 32'
+abbrev pub gap-33 : List ℕ
+gap-33 = bytes "rig\t1\ngap\t0\t33\n"
+
+-- 3, place 2: e not below E
+abbrev pub gap-no-event : List ℕ
+gap-no-event = bytes "rig\t1\ngap\t1\t2\n"
+
+-- 3, place 2: b not below E
+abbrev pub reply-no-event : List ℕ
+reply-no-event = bytes "rig\t2\nreply\t0\t2\t1\t1\n"
+
+-- 3, place 2: '1 ≤ lo'
+abbrev pub reply-lo-0 : List ℕ
+reply-lo-0 = bytes "rig\t2\nreply\t0\t1\t0\t1\n"
+
+-- 3, place 2: 'hi ≤ 31'
+abbrev pub reply-hi-32 : List ℕ
+reply-hi-32 = bytes "rig\t2\nreply\t0\t1\t1\t32\n"
+
+-- 3, place 2: 'lo ≤ hi', though a equals b
+abbrev pub reply-lo-over-hi : List ℕ
+reply-lo-over-hi = bytes "rig\t2\nreply\t0\t0\t2\t1\n"
+
+-- 17, place 2: 'a equals b'
+abbrev pub reply-equal : List ℕ
+reply-equal = bytes "rig\t2\nreply\t1\t1\t1\t1\n"
+
+-- 17, place 4: 'after 3', so before 6: P would be over 1,024
+abbrev pub equal-and-too-many : List ℕ
+equal-and-too-many = bytes "rig\t1\nmon\t32\nmon\t32\nreply\t0\t0\t1\t1\n"
+
+-- 3, place 6: the fifth monitor, though a equals b
+abbrev pub equal-and-fifth : List ℕ
+equal-and-fifth = bytes "rig\t1\nmon\t1\ngap\t0\t2\nmon\t1\ngap\t0\t2\nreply\t0\t0\t1\t1\n"
+
+-- 6, place 4: it 'counts as a `mon` in .. 6'
+abbrev pub gap-too-many : List ℕ
+gap-too-many = bytes "rig\t1\nmon\t32\nmon\t32\ngap\t0\t2\n"
+
+-- 5, place 4: 'A `go` .. is 5 if the latest monitor isn't a `mon`', though out of range
+abbrev pub go-after-gap : List ℕ
+go-after-gap = bytes "rig\t1\nmon\t1\ngap\t0\t2\ngo\t9\t9\t9\n"
+
+-- 5, place 3: nor a `stop`, though its state is marked already
+abbrev pub stop-after-reply : List ℕ
+stop-after-reply = bytes "rig\t2\nreply\t0\t1\t1\t1\nstop\t0\n"
+
 -- 5, place 1: 'empty text, place 1'
 abbrev pub nothing : List ℕ
 nothing = []
@@ -209,6 +303,11 @@ pub record Words : Type 0 where
   pub readable-one-unmarked : Readable one-unmarked
   pub readable-both-marked : Readable both-marked
   pub readable-may-close : Readable may-close
+  pub readable-gap-alone : Readable gap-alone
+  pub readable-reply-alone : Readable reply-alone
+  pub readable-unanswerable : Readable unanswerable
+  pub readable-every-kind : Readable every-kind
+  pub readable-widest-kinds : Readable widest-kinds
   pub readable-most-events : Readable most-events
   pub readable-most-joint-states : Readable most-joint-states
   -- A's scenario of index 4 belongs; '0 1 1' does not
@@ -228,6 +327,17 @@ pub record Words : Type 0 where
   -- it may close if every monitor's state is marked
   pub belongs-both : Belongs both-marked 1 (0 ∷ [])
   pub not-belongs-one : Belongs one-unmarked 1 (0 ∷ []) → ⊥
+  -- an earlier 1 settles nothing, the next one does; then event 0 may come again
+  pub belongs-replied : Belongs reply-alone 4 (0 ∷ 1 ∷ 1 ∷ 0 ∷ [])
+  -- before that it may not; nor may the steps go by; a reply still due at the end is no fault
+  pub not-belongs-again : Belongs reply-alone 3 (0 ∷ 1 ∷ 0 ∷ []) → ⊥
+  pub not-belongs-late : Belongs reply-alone 4 (0 ∷ 2 ∷ 2 ∷ 2 ∷ []) → ⊥
+  pub belongs-due : Belongs reply-alone 3 (0 ∷ 2 ∷ 2 ∷ [])
+  -- after its only event the depot may close, and no other event is there
+  pub belongs-once : Belongs gap-alone 1 (0 ∷ [])
+  pub none-twice : (w : List ℕ) → Belongs gap-alone 2 w → ⊥
+  -- both sentences admit 1 0, and no reply can follow
+  pub not-belongs-unanswered : Belongs unanswerable 2 (1 ∷ 0 ∷ []) → ⊥
   pub fault-too-long : Fault too-long 1 0
   -- 'At most 65,535 bytes.'
   pub never-too-long : (t : List ℕ) → length t ≡ 65535 → Fault t 1 0 → ⊥
@@ -256,6 +366,24 @@ pub record Words : Type 0 where
   pub fault-stop-before-mon : Fault stop-before-mon 5 2
   pub fault-stop-S : Fault stop-S 3 3
   pub fault-stop-again : Fault stop-again 4 5
+  pub fault-gap-without-n : Fault gap-without-n 2 2
+  pub fault-field-after-n : Fault field-after-n 2 2
+  pub fault-reply-without-hi : Fault reply-without-hi 2 2
+  pub fault-field-after-hi : Fault field-after-hi 2 2
+  pub fault-gap-first : Fault gap-first 5 1
+  pub fault-gap-1 : Fault gap-1 3 2
+  pub fault-gap-33 : Fault gap-33 3 2
+  pub fault-gap-no-event : Fault gap-no-event 3 2
+  pub fault-reply-no-event : Fault reply-no-event 3 2
+  pub fault-reply-lo-0 : Fault reply-lo-0 3 2
+  pub fault-reply-hi-32 : Fault reply-hi-32 3 2
+  pub fault-reply-lo-over-hi : Fault reply-lo-over-hi 3 2
+  pub fault-reply-equal : Fault reply-equal 17 2
+  pub fault-equal-and-too-many : Fault equal-and-too-many 17 4
+  pub fault-equal-and-fifth : Fault equal-and-fifth 3 6
+  pub fault-gap-too-many : Fault gap-too-many 6 4
+  pub fault-go-after-gap : Fault go-after-gap 5 4
+  pub fault-stop-after-reply : Fault stop-after-reply 5 3
   pub fault-nothing : Fault nothing 5 1
   pub fault-rig-alone : Fault rig-alone 5 2
   pub fault-rig-later : Fault rig-later 5 2

@@ -7,7 +7,7 @@ use lib.ListN.{replicate}
 use Rattle.promises.specs.Answer.{served, refused}
 use Rattle.promises.specs.Rig.{start}
 use Rattle.promises.specs.Calls.{count, scenarios, written, index, shuffle, shuffled}
-use Rattle.promises.specs.Examples.{A, B, A-from-1, A-exchanged, two-starts, A-ordered, closes, one-unmarked, both-marked, may-close}
+use Rattle.promises.specs.Examples.{A, B, A-from-1, A-exchanged, two-starts, A-ordered, closes, one-unmarked, both-marked, may-close, gap-alone, reply-alone, unanswerable}
 
 -- n numbers to lend
 abbrev pub lent : ℕ → List ℕ
@@ -55,3 +55,15 @@ pub record Starred : Type 0 where
   pub may-close-1 : count may-close 1 (lent 8) ≡ served (2 ∷ 2 ∷ [])
   pub may-close-2 : count may-close 2 (lent 12) ≡ served (1 ∷ 2 ∷ [])
   pub may-close-index : index may-close (0 ∷ 1 ∷ []) (lent 12) ≡ refused 14 1
+  -- 02 no. 5. A `gap` on the only event: once, and then nothing more, though all its states are live
+  pub gap-1 : count gap-alone 1 (lent 4) ≡ served (1 ∷ 1 ∷ [])
+  pub gap-2 : count gap-alone 2 (lent 6) ≡ refused 9 0
+  -- 'after a, some b comes lo to hi steps later'; 'an earlier b is admitted'; 'A reply still due at the horizon is no fault'
+  pub reply-3 : count reply-alone 3 (lent 16) ≡ served (20 ∷ 1 ∷ [])
+  pub reply-bytes : written reply-alone 3 (0 ∷ 1 ∷ 2 ∷ 3 ∷ []) (lent 16) (lent 12) ≡ 0 ∷ 1 ∷ 1 ∷ 0 ∷ 1 ∷ 2 ∷ 0 ∷ 2 ∷ 1 ∷ 0 ∷ 2 ∷ 2 ∷ []
+  -- 'Until the first such b a further a isn't admitted', and after hi steps nothing but b
+  pub reply-again : index reply-alone (0 ∷ 1 ∷ 0 ∷ []) (lent 16) ≡ refused 14 2
+  pub reply-late : index reply-alone (0 ∷ 2 ∷ 2 ∷ 2 ∷ []) (lent 20) ≡ refused 14 3
+  -- what both sentences admit and no reply can follow is not live
+  pub unanswerable-2 : count unanswerable 2 (lent 36) ≡ served (1 ∷ 2 ∷ [])
+  pub unanswerable-index : index unanswerable (1 ∷ 0 ∷ []) (lent 36) ≡ refused 14 1
