@@ -1,5 +1,6 @@
 -- Numbers read digit by digit, and the forms of a line's fields read field by field. Assumes nothing.
 use mathlib.Core.Path.{_≡_, refl, sym, ap, _∙_}
+use mathlib.Core.Logic.{⊎-elim}
 use mathlib.Core.Bool.{Bool, true, false}
 use mathlib.Core.List.{List, [], _∷_}
 use mathlib.Core.Option.{Option, none, some}
@@ -10,14 +11,17 @@ use lib.ListN.{length, getD, take, drop, drop-of-length-le, length-drop}
 use lib.Seq.{drop-cons, take-all}
 use lib.Dec.{eqb, leb, ltb}
 use borrow.Author.Tests.{eq-eqb, ne-eqb, le-leb, lt-leb, lt-ltb, le-ltb, ltb-true, ltb-false}
+use types.Run.{OneOf}
+use denote.Enum.Declared.{tagOf}
 use Rattle.lists.specs.Lists.{pick, indexOf}
 use Rattle.lists.proofs.Tests.{case}
-use Rattle.promises.specs.Text.{Line, rig, ord, begins, continues, other, mon, go, stop, bytes, splitOn, same, fields, digitsValue, number, field, endOr, end, one, two, three, oneOrTwo, anyNumber, form, decode}
+use Rattle.promises.specs.Text.{Line, rig, ord, begins, continues, other, mon, gap, reply, go, stop, bytes, splitOn, same, fields, digitsValue, number, field, endOr, end, one, two, three, four, oneOrTwo, anyNumber, form, decode}
 use Rattle.promises.proofs.Pieces.{splitOn-some}
 use Rattle.promises.proofs.Spelling.{same-tells}
 use Rattle.decoding.specs.declared.Field.the-variants.{Last, More, Bad}
 use Rattle.decoding.specs.declared.Field.{Field}
 use Rattle.decoding.specs.Forms.{asField, fieldOf, fieldsFrom, fieldBy, orOther, leading, listedIn}
+use Rattle.decoding.proofs.Field.{the-type}
 use Rattle.decoding.proofs.Parts.{splitOn-whole, splitOn-first}
 
 -- ---- digits
@@ -147,6 +151,12 @@ Short (Last n) = Unit {0}
 Short (More n next) = ⊥
 Short Bad = Unit {0}
 
+-- a field that is not More
+pub short : (f : Field) → OneOf (0 ∷ (2 ∷ [])) (tagOf the-type f) → Short f
+short (Last n) h = tt
+short (More n next) h = ⊎-elim (λ q. omega arith) (λ q. omega arith) h
+short Bad h = tt
+
 short-by : (rest : ℕ → List (List ℕ) → Line) → ((n : ℕ) → rest n [] ≡ other) → (l : List ℕ) (x : Field) → x ≡ fieldOf l → Short x → field number rest (fields l) ≡ other
 short-by rest e l (Last n) q h = field-by rest l (Last n) q ∙ e n
 short-by rest e l (More n next) q h = absurd h
@@ -186,6 +196,15 @@ module _ (f : ℕ → ℕ → ℕ → Line) where
   unfolding three
   three-next = next-by (λ a. two (f a))
 
+module _ (f : ℕ → ℕ → ℕ → ℕ → Line) where
+  pub four-short : (l : List ℕ) (x : Field) → x ≡ fieldOf l → Short x → four f (fields l) ≡ other
+  unfolding four three field
+  four-short = short-by (λ a. three (f a)) (λ a. refl)
+
+  pub four-next : (l : List ℕ) (n next : ℕ) → More n next ≡ fieldOf l → four f (fields l) ≡ three (f n) (fields (take (length l - next) (drop next l)))
+  unfolding four
+  four-next = next-by (λ a. three (f a))
+
 -- ---- forms, by their word
 
 -- the word is the first field
@@ -211,10 +230,10 @@ module _ (l : List ℕ) (end : ℕ) (e : end ≡ indexOf l 9) where
 
   -- a word alone is no form but `ord`
   pub decode-alone : length l ≤ end → same (take end l) (bytes "ord") ≡ false → decode l ≡ other
-  unfolding fieldsFrom form one two three oneOrTwo field
+  unfolding fieldsFrom form one two three four oneOrTwo field
   decode-alone h p =
       decode-first ∙ rw (le-ltb end (length l) h, p)
-      (either (same (take end l) (bytes "rig")) (either (same (take end l) (bytes "mon")) (either (same (take end l) (bytes "go")) (either (same (take end l) (bytes "stop")) refl))))
+      (either (same (take end l) (bytes "rig")) (either (same (take end l) (bytes "mon")) (either (same (take end l) (bytes "go")) (either (same (take end l) (bytes "stop")) (either (same (take end l) (bytes "gap")) (either (same (take end l) (bytes "reply")) refl))))))
     where
       either : (b : Bool) {k : Line} → k ≡ other → pick b other k ≡ other
       either true q = refl
@@ -254,7 +273,15 @@ module _ (w : List ℕ) (fs : List (List ℕ)) where
   unfolding form same
   form-stop p = named (bytes "stop") p
 
+  pub form-gap : same w (bytes "gap") ≡ true → form (w ∷ fs) ≡ two (λ e n. begins (gap e n)) fs
+  unfolding form same
+  form-gap p = named (bytes "gap") p
+
+  pub form-reply : same w (bytes "reply") ≡ true → form (w ∷ fs) ≡ four (λ a b lo hi. begins (reply a b lo hi)) fs
+  unfolding form same
+  form-reply p = named (bytes "reply") p
+
   pub form-other : same w (bytes "rig") ≡ false → same w (bytes "mon") ≡ false → same w (bytes "go") ≡ false → same w (bytes "ord") ≡ false → same w (bytes "stop") ≡ false
-      → form (w ∷ fs) ≡ other
+      → same w (bytes "gap") ≡ false → same w (bytes "reply") ≡ false → form (w ∷ fs) ≡ other
   unfolding form
-  form-other p q r o s = rw (p, q, r, o, s)
+  form-other p q r o s g y = rw (p, q, r, o, s, g, y)

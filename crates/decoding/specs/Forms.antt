@@ -5,6 +5,7 @@
 --   formOf l         == the line form l, likewise; of an `ord` line, how many events it lists
 --   over es os       == the numbers es as bytes, 255 for a larger one, written over the front of os as far as that goes
 --   orOther f n      == the form of the number n, or `other` where there is none
+--   pairOr f p       == the form of the two numbers of p, likewise
 --   asField n more i == the field that is the number n, the next one starting at i where there is more
 --   fieldOf l        == the first field of what is left of a line
 --   fieldsFrom l k   == the fields after the byte 9 at k, none where the line l ends there
@@ -19,7 +20,7 @@ use Prim.Native.Nat.{ℕ, _+_, min}
 use lib.ListN.{length, take, drop}
 use lib.Dec.{ltb}
 use Rattle.lists.specs.Lists.{pick, indexOf}
-use Rattle.promises.specs.Text.{Line, rig, ord, begins, continues, other, mon, go, stop, number, fields, same, bytes}
+use Rattle.promises.specs.Text.{Line, rig, ord, begins, continues, other, mon, gap, reply, go, stop, number, fields, same, bytes}
 use Rattle.promises.specs.Text as text
 use Rattle.decoding.specs.declared.Decimal.{Decimal}
 use Rattle.decoding.specs.declared.Decimal.the-variants.{Value, Wrong}
@@ -28,6 +29,9 @@ use Rattle.decoding.specs.declared.Field.the-variants.{Last, More, Bad}
 use Rattle.decoding.specs.declared.Form.{Form}
 use Rattle.decoding.specs.declared.Form.the-variants.{Rig, Ord, Begins, Continues, Other}
 use Rattle.decoding.specs.declared.Kind.{Kind}
+use Rattle.decoding.specs.declared.Kind.the-variants.{Mon, Gap, Reply}
+use Rattle.decoding.specs.declared.Pair.{Pair}
+use Rattle.decoding.specs.declared.Pair.the-variants.{Both, Neither}
 use Rattle.decoding.specs.declared.Part.{Part}
 use Rattle.decoding.specs.declared.Part.the-variants.{Go, Stop}
 
@@ -36,7 +40,9 @@ valueOf (Value n) = some n
 valueOf Wrong = none
 
 abbrev pub kindOf : text.Kind → Kind
-kindOf (mon S a) = record { states = S; start = a }
+kindOf (mon S a) = Mon S a
+kindOf (gap e n) = Gap e n
+kindOf (reply a b lo hi) = Reply a b lo hi
 
 abbrev pub partOf : text.Part → Part
 partOf (go s e t) = Go s e t
@@ -58,6 +64,10 @@ over (e ∷ es) (o ∷ os) = min e 255 ∷ over es os
 abbrev pub orOther : (ℕ → Line) → Option ℕ → Line
 orOther f none = other
 orOther f (some n) = f n
+
+abbrev pub pairOr : (ℕ → ℕ → Line) → Pair → Line
+pairOr f (Both a b) = f a b
+pairOr f Neither = other
 
 abbrev pub asField : Option ℕ → Bool → ℕ → Field
 asField none more next = Bad

@@ -3,9 +3,9 @@ ghost use mathlib.Core.Path.{_≡_};
 ghost use Prim.Native.Nat.{ℕ, _≤_, min};
 ghost use lib.ListN.{length};
 ghost use Rattle.lists.specs.Lists.{indexOf};
-ghost use Rattle.promises.specs.Text.{Line, ord, begins, mon, continues, go, stop, one, oneOrTwo, three, anyNumber, fields};
+ghost use Rattle.promises.specs.Text.{Line, ord, begins, mon, gap, reply, continues, go, stop, one, two, three, four, oneOrTwo, anyNumber, fields};
 ghost use Rattle.promises.specs.Text as text;
-ghost use Rattle.decoding.specs.Forms.{valueOf, fieldOf, orOther, fieldsFrom, leading, listedIn, over, formOf};
+ghost use Rattle.decoding.specs.Forms.{valueOf, fieldOf, orOther, pairOr, fieldsFrom, leading, listedIn, over, formOf};
 
 // What a field is: a number of paper 01, or none.
 pub enum Decimal {
@@ -13,10 +13,11 @@ pub enum Decimal {
     Wrong,
 }
 
-// A line that begins a monitor: `mon`, S and the start. (A struct, as an enum of one variant can't be matched on; a second kind makes it an enum.)
-pub struct Kind {
-    pub states: usize,
-    pub start: usize,
+// A line that begins a monitor, with its numbers: `mon`, S and the start; `gap`, e, n; `reply`, a, b, lo, hi.
+pub enum Kind {
+    Mon(usize, usize),
+    Gap(usize, usize),
+    Reply(usize, usize, usize, usize),
 }
 
 // A line of the latest monitor, with its numbers: `go`, s, e, t; `stop`, s.
@@ -39,6 +40,12 @@ enum Field {
     Last(usize),
     More(usize, usize),
     Bad,
+}
+
+// The two last fields of a line, or that there are not two numbers left.
+enum Pair {
+    Both(usize, usize),
+    Neither,
 }
 
 // Where byte b first stands in s; the length of s where it does not.
@@ -141,17 +148,27 @@ fn only_number(rest: &[u8]) -> Decimal
     }
 }
 
+// The two numbers that are the only fields left of a line.
+fn only_pair(rest: &[u8]) -> Pair
+    ensures { λ r. ⌜ ((f : ℕ → ℕ → Line) → two f (fields (now (rest .entry))) ≡ pairOr f r) ⌝ }
+{
+    let Field::More(a, next) = read_field(rest) else {
+        return Pair::Neither;
+    };
+    match only_number(&rest[next..]) {
+        Decimal::Value(b) => Pair::Both(a, b),
+        Decimal::Wrong => Pair::Neither,
+    }
+}
+
 // `mon`, S, start; or `mon`, S, which starts in 0
 fn mon_form(rest: &[u8]) -> Form
     ensures { λ r. ⌜ r ≡ formOf (oneOrTwo (λ S. begins (mon S 0)) (λ S a. begins (mon S a)) (fields (now (rest .entry)))) ⌝ }
 {
     match read_field(rest) {
-        Field::Last(s) => Form::Begins(Kind {
-            states: s,
-            start: 0,
-        }),
+        Field::Last(s) => Form::Begins(Kind::Mon(s, 0)),
         Field::More(s, a) => match only_number(&rest[a..]) {
-            Decimal::Value(start) => Form::Begins(Kind { states: s, start }),
+            Decimal::Value(start) => Form::Begins(Kind::Mon(s, start)),
             Decimal::Wrong => Form::Other,
         },
         Field::Bad => Form::Other,
@@ -162,18 +179,40 @@ fn mon_form(rest: &[u8]) -> Form
 fn go_form(rest: &[u8]) -> Form
     ensures { λ r. ⌜ r ≡ formOf (three (λ s e t. continues (go s e t)) (fields (now (rest .entry)))) ⌝ }
 {
-    let Field::More(s, a) = read_field(rest) else {
+    let Field::More(s, next) = read_field(rest) else {
         return Form::Other;
     };
-    let second = &rest[a..];
-    let Field::More(e, b) = read_field(second) else {
+    match only_pair(&rest[next..]) {
+        Pair::Both(e, t) => Form::Continues(Part::Go(s, e, t)),
+        Pair::Neither => Form::Other,
+    }
+}
+
+// `gap`, e, n
+fn gap_form(rest: &[u8]) -> Form
+    ensures { λ r. ⌜ r ≡ formOf (two (λ e n. begins (gap e n)) (fields (now (rest .entry)))) ⌝ }
+{
+    match only_pair(rest) {
+        Pair::Both(e, n) => Form::Begins(Kind::Gap(e, n)),
+        Pair::Neither => Form::Other,
+    }
+}
+
+// `reply`, a, b, lo, hi
+fn reply_form(rest: &[u8]) -> Form
+    ensures { λ r. ⌜ r ≡ formOf (four (λ a b lo hi. begins (reply a b lo hi)) (fields (now (rest .entry)))) ⌝ }
+{
+    let Field::More(a, i) = read_field(rest) else {
         return Form::Other;
     };
-    let third = &second[b..];
-    let Field::Last(t) = read_field(third) else {
+    let second = &rest[i..];
+    let Field::More(b, j) = read_field(second) else {
         return Form::Other;
     };
-    Form::Continues(Part::Go(s, e, t))
+    match only_pair(&second[j..]) {
+        Pair::Both(lo, hi) => Form::Begins(Kind::Reply(a, b, lo, hi)),
+        Pair::Neither => Form::Other,
+    }
 }
 
 // `stop`, s
@@ -239,6 +278,12 @@ pub fn decode(line: &[u8], order: &mut [u8]) -> Form
         }
         if same(word, b"stop") {
             return stop_form(rest);
+        }
+        if same(word, b"gap") {
+            return gap_form(rest);
+        }
+        if same(word, b"reply") {
+            return reply_form(rest);
         }
     }
     if same(word, b"ord") {

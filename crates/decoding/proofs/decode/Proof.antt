@@ -12,7 +12,7 @@ use Rattle.promises.specs.Text.{rig, other, bytes}
 use Rattle.promises.specs.Text as text
 use Rattle.decoding.specs.Forms.{valueOf, orOther, over, listedIn}
 use Rattle.decoding.proofs.Parts.{indexOf-le}
-use Rattle.decoding.proofs.Numbers.{decode-more, decode-ord, decode-alone, form-rig, form-mon, form-go, form-stop, form-other, other-word, listed-ord, listed-none}
+use Rattle.decoding.proofs.Numbers.{decode-more, decode-ord, decode-alone, form-rig, form-mon, form-go, form-stop, form-gap, form-reply, form-other, other-word, listed-ord, listed-none}
 use borrow.Author.Needs.{needs}
 use Rattle.decoding.proofs.decode.Statement.{statement}
 use Rattle.decoding.proofs.decode.Tie as tie
@@ -137,29 +137,65 @@ slice-aggregate-same-5 c = search needs
 same-requires-5 : tie.Need-same-requires-5
 same-requires-5 c κs = search needs
 
+gap-form-requires : tie.Need-gap-form-requires
+gap-form-requires c κs = search needs
+
+returns-6 : tie.Need-returns-6
+returns-6 c =
+    let l = c .before .before .before .before .before .before .before .before .before .before .before .before .before .before .before .before .before .before .before .before .before .before .args .line .now in
+    let u = c .before .before .before .before .before .before .before .before .before .before .before .before .before .before .before .before .before .before .before .until in
+    let q =
+    decode-more l (u .result) (u .ensures) (c .before .before .before .before .before .before .before .before .before .before .before .before .before .before .before .before .before .if1 .taken)
+    ∙ form-gap (take (u .result) l) _ (sym (c .before .before .same5 .ensures) ∙ c .before .if6 .taken) in
+    (rw q (c .gap-form .ensures), not-listed l (u .result) (u .ensures) (bytes "gap") (sym (c .before .before .same5 .ensures) ∙ c .before .if6 .taken) (unfold text.same in refl) _)
+
+slice-aggregate-same-6 : tie.Need-slice-aggregate-same-6
+slice-aggregate-same-6 c = search needs
+
+same-requires-6 : tie.Need-same-requires-6
+same-requires-6 c κs = search needs
+
+reply-form-requires : tie.Need-reply-form-requires
+reply-form-requires c κs = search needs
+
+returns-7 : tie.Need-returns-7
+returns-7 c =
+    let l = c .before .before .before .before .before .before .before .before .before .before .before .before .before .before .before .before .before .before .before .before .before .before .before .before .before .args .line .now in
+    let u = c .before .before .before .before .before .before .before .before .before .before .before .before .before .before .before .before .before .before .before .before .before .before .until in
+    let q =
+    decode-more l (u .result) (u .ensures) (c .before .before .before .before .before .before .before .before .before .before .before .before .before .before .before .before .before .before .before .before .if1 .taken)
+    ∙ form-reply (take (u .result) l) _ (sym (c .before .before .same6 .ensures) ∙ c .before .if7 .taken) in
+    (rw q (c .reply-form .ensures), not-listed l (u .result) (u .ensures) (bytes "reply") (sym (c .before .before .same6 .ensures) ∙ c .before .if7 .taken) (unfold text.same in refl) _)
+
+slice-aggregate-same-7 : tie.Need-slice-aggregate-same-7
+slice-aggregate-same-7 c = search needs
+
+same-requires-7 : tie.Need-same-requires-7
+same-requires-7 c κs = search needs
+
 ord-form-requires : tie.Need-ord-form-requires
 ord-form-requires c κs = search needs
 
 same-length : tie.Need-same-length
 same-length c = search needs
 
-returns-6 : tie.Need-returns-6
-returns-6 c =
+returns-8 : tie.Need-returns-8
+returns-8 c =
     let l = c .before .before .before .before .before .before .before .before .before .before .before .before .args .line .now in
     let u = c .before .before .before .before .before .before .before .before .before .until in
-    let p = sym (c .before .before .before .before .before .same5 .ensures) ∙ c .before .before .before .before .if6 .taken in
+    let p = sym (c .before .before .before .before .before .same7 .ensures) ∙ c .before .before .before .before .if8 .taken in
     let f = c .before .before .ord-form .ensures in
     (rw (decode-ord l (u .result) (u .ensures) p) (f .0), rw (listed-ord l (u .result) (u .ensures) p) (f .1))
 
-returns-7 : tie.Need-returns-7
-returns-7 c =
+returns-9 : tie.Need-returns-9
+returns-9 c =
     let l = c .before .before .before .before .before .before .before .before .args .line .now in
     let u = c .before .before .before .before .before .until in
-    let not-ord = sym (c .before .same5 .ensures) ∙ c .if6 .left in
+    let not-ord = sym (c .before .same7 .ensures) ∙ c .if8 .left in
     let q : text.decode l ≡ other = ⊎-elim
-    (λ (x, rest, a, is-rig, not-rig, b, is-mon, not-mon, d, is-go, not-go, e, is-stop, not-stop).
+    (λ (x, rest, a, is-rig, not-rig, b, is-mon, not-mon, d, is-go, not-go, e, is-stop, not-stop, f, is-gap, not-gap, g, is-reply, not-reply).
     decode-more l (u .result) (u .ensures) (x .taken)
-    ∙ form-other (take (u .result) l) _ (sym (is-rig .ensures) ∙ not-rig .left) (sym (is-mon .ensures) ∙ not-mon .left) (sym (is-go .ensures) ∙ not-go .left) not-ord (sym (is-stop .ensures) ∙ not-stop .left))
+    ∙ form-other (take (u .result) l) _ (sym (is-rig .ensures) ∙ not-rig .left) (sym (is-mon .ensures) ∙ not-mon .left) (sym (is-go .ensures) ∙ not-go .left) not-ord (sym (is-stop .ensures) ∙ not-stop .left) (sym (is-gap .ensures) ∙ not-gap .left) (sym (is-reply .ensures) ∙ not-reply .left))
     (λ x. decode-alone l (u .result) (u .ensures) (x .left) not-ord)
     (c .before .before .before .if1 .came) in
     (rw q, rw (listed-none l (u .result) (u .ensures) not-ord) (unfold over in refl))
@@ -195,7 +231,15 @@ decode-spec =
     returns-5
     slice-aggregate-same-5
     same-requires-5
+    gap-form-requires
+    returns-6
+    slice-aggregate-same-6
+    same-requires-6
+    reply-form-requires
+    returns-7
+    slice-aggregate-same-7
+    same-requires-7
     ord-form-requires
     same-length
-    returns-6
-    returns-7)
+    returns-8
+    returns-9)
