@@ -7,9 +7,9 @@ use native.Mathlib.Nat.{eq-or-lt-of-le, le-of-suc-le-suc, not-suc-le-zero, suc-m
 use native.Mathlib.Numerals.{add-one}
 use native.Mathlib.Omega.{arith}
 use native.Mathlib.Decide.{le-ind}
-use lib.ListN.{length, getD, set, take, drop, length-append, List·getD-append}
-use lib.Seq.{take-all, take-append-le, drop-cons, set-at, append-snoc, getD-at, getD-append-add}
-use Rattle.lists.specs.Lists.{tabulate, stack, range}
+use lib.ListN.{length, getD, set, take, drop, length-append, length-set, List·getD-append}
+use lib.Seq.{take-all, take-append-le, drop-cons, set-at, append-snoc, getD-at, getD-append-add, getD-set-same, getD-set-other}
+use Rattle.lists.specs.Lists.{tabulate, stack, overwrite, range}
 
 pub length-tabulate : {A : Type 0} (f : ℕ → A) (n : ℕ) → length (tabulate f n) ≡ n
 unfolding tabulate
@@ -84,3 +84,30 @@ module _ {A : Type 0} (f : ℕ → List A) (w : ℕ) (wide : (r : ℕ) → lengt
     where
       before : r < n → r * w + x < length (stack f n)
       before l = let a : suc r * w ≤ n * w = mul-le-mul-right w l in omega (arith, suc-mul r w, length-stack n)
+
+-- ---- entries written over others
+
+module _ {A : Type 0} (l : List A) (i : ℕ) (f : ℕ → A) where
+  pub length-overwrite : (n : ℕ) → length (overwrite l i f n) ≡ length l
+  unfolding overwrite
+  length-overwrite zero = refl
+  length-overwrite (suc n) = length-set (overwrite l i f n) (i + n) (f n) ∙ length-overwrite n
+
+  pub overwrite-at : (n u : ℕ) (d : A) → u < n → i + n ≤ length l → getD (overwrite l i f n) (i + u) d ≡ f u
+  unfolding overwrite
+  overwrite-at zero u d h w = absurd (not-suc-le-zero h)
+  overwrite-at (suc n) u d h w =
+      ⊎-elim
+      (λ e. rw e (getD-set-same (overwrite l i f n) (i + n) (f n) d (omega (arith, length-overwrite n))))
+      (λ k. getD-set-other (overwrite l i f n) (i + n) (i + u) (f n) d (λ q. omega arith) ∙ overwrite-at n u d k (omega arith))
+      (eq-or-lt-of-le (le-of-suc-le-suc h))
+
+  pub overwrite-beside : (n j : ℕ) (d : A) → ((u : ℕ) → u < n → j ≡ i + u → ⊥) → getD (overwrite l i f n) j d ≡ getD l j d
+  unfolding overwrite
+  overwrite-beside zero j d h = refl
+  overwrite-beside (suc n) j d h = getD-set-other (overwrite l i f n) (i + n) j (f n) d (h n (omega arith)) ∙ overwrite-beside n j d (λ u k. h u (omega arith))
+
+  -- one entry more
+  pub overwrite-more : (n : ℕ) (v : A) → v ≡ f n → set (overwrite l i f n) (i + n) v ≡ overwrite l i f (n + 1)
+  unfolding overwrite
+  overwrite-more n v q = rw (add-one n, q)

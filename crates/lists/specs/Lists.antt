@@ -9,6 +9,7 @@
 --   count f n       == how many of the numbers below n pass the test f
 --   tabulate f n    == f 0, f 1, … f (n−1)
 --   stack f n       == the lists f 0, f 1, … f (n−1), one after the other
+--   overwrite l i f n == l with f 0, f 1, … f (n−1) from place i on
 --   range n         == the numbers below n, in order
 --   indexOf l x     == where x first stands in l, from 0
 -- Membership `In` is the library's List·Memᴰ, indexing its getD. Assumes nothing.
@@ -16,6 +17,7 @@ use mathlib.Core.Logic.{_↔_, _≢_}
 use mathlib.Core.Bool.{Bool, true, false, _||_}
 use mathlib.Core.List.{List, [], _∷_, _++_, List·Memᴰ as In}
 use Prim.Native.Nat.{ℕ, zero, suc, _+_, _<_}
+use lib.ListN.{set}
 use lib.Dec.{eqb}
 
 abbrev pub pick {ℓ} : {A : Type ℓ} → Bool → A → A → A
@@ -57,6 +59,10 @@ tabulate f (suc n) = tabulate f n ++ f n ∷ []
 unfoldable pub stack : {A : Type 0} → (ℕ → List A) → ℕ → List A
 stack f zero = []
 stack f (suc n) = stack f n ++ f n
+
+unfoldable pub overwrite : {A : Type 0} → List A → ℕ → (ℕ → A) → ℕ → List A
+overwrite l i f zero = l
+overwrite l i f (suc n) = set (overwrite l i f n) (i + n) (f n)
 
 unfoldable pub range : ℕ → List ℕ
 range zero = []

@@ -19,7 +19,7 @@ use Rattle.automaton.proofs.Ranking.{index-belongs, firstViolation-none}
 use Rattle.promises.specs.Text.{onto, splitOn, init, lastOf, lines, unended, fields, digitsValue, number, ahead, numbers, same, field, endOr, end, one, two, three, four, oneOrTwo, anyNumber, form, decode, decoded, addPart, extended, monitorsFrom, monitors, statesOf, startOf, latest, product, eventsOf, reordered, orderFrom, orderOf, Readable, Fault, Case1}
 use Rattle.promises.specs.Answer.{served, refused, Served}
 use Rattle.promises.specs.Meaning.{Belongs, Earlier, Comes}
-use Rattle.promises.specs.Reading.{leadsTo, moveBy, marks, markedBy, isMon, outOfRange, equal, testBeginning, ofLatest, testContinuing, tests, lineCase, readingFrom, reading}
+use Rattle.promises.specs.Reading.{leadsTo, moveBy, marks, markedBy, testBeginning, ofLatest, testContinuing, tests, lineCase, readingFrom, reading}
 use Rattle.promises.specs.Rig.{gapNext, replyNext, nextOf, markedOf, monitorOf, standing, linesAutomaton, linesStart, rigAutomaton, start}
 use Rattle.promises.specs.Examples.{A, B, A-from-1, A-exchanged, most-events, most-joint-states, Words, closes, one-unmarked, both-marked, may-close, gap-alone, reply-alone, unanswerable, every-kind, widest-kinds, gap-without-n, field-after-n, reply-without-hi, field-after-hi, gap-first, gap-1, gap-33, gap-no-event, reply-no-event, reply-lo-0, reply-hi-32, reply-lo-over-hi, reply-equal, equal-and-too-many, equal-and-fifth, gap-too-many, go-after-gap, stop-after-reply, stop-without-state, field-after-stop, stop-before-mon, stop-S, stop-again, start-S, field-after-start, empty-start, A-ordered, ord-too-short, ord-not-below, ord-twice, ord-third, ord-first, ord-no-number, ord-alone, mon-without-S, last-line-unended, leading-zero, six-digits, empty-field, seventeen-events, five-digits, fifth-monitor, go-again-out-of-range, go-again, nothing, rig-alone, rig-later, go-before-mon, too-many-joint-states}
 use Rattle.promises.proofs.Reading.{reading-refuses, reading-serves}
@@ -93,7 +93,7 @@ record Readings : Type 0 where
   of-too-many-joint-states : reading too-many-joint-states ≡ refused 6 4
 
 readings : Readings
-unfolding reading readingFrom lineCase tests testBeginning isMon outOfRange equal testContinuing ofLatest moveBy leadsTo markedBy marks orElse decoded lines unended splitOn onto init lastOf decode fields form one two three four oneOrTwo anyNumber field endOr end number numbers ahead digitsValue same monitors monitorsFrom extended addPart latest statesOf product eventsOf orderOf orderFrom reordered
+unfolding reading readingFrom lineCase tests testBeginning testContinuing ofLatest moveBy leadsTo markedBy marks orElse decoded lines unended splitOn onto init lastOf decode fields form one two three four oneOrTwo anyNumber field endOr end number numbers ahead digitsValue same monitors monitorsFrom extended addPart latest statesOf product eventsOf orderOf orderFrom reordered
 readings = record {
   of-A = refl;
   of-B = refl;

@@ -8,10 +8,11 @@ use mathlib.Core.Logic.{_⊎_, inl, inr, _≢_, _↔_, ⊎-elim, ⊎-map}
 use mathlib.Core.Bool.{_&&_}
 use mathlib.Core.List.{List, [], _∷_}
 use Prim.Native.Nat.{ℕ, zero, suc, _+_, _≤_, _<_}
+use native.Mathlib.Numerals.{add-one}
 use native.Mathlib.Omega.{arith}
 use lib.ListN.{length, drop}
 use lib.Dec.{eqb, leb}
-use borrow.Author.Tests.{eqb-true, eqb-false, eq-eqb, leb-true, le-leb}
+use borrow.Author.Tests.{eqb-true, eqb-false, eq-eqb, ne-eqb, leb-true, le-leb}
 use Rattle.lists.proofs.Tests.{case, contra, and-left, and-right, and-intro}
 use Rattle.automaton.proofs.Sentences.{Steps}
 use Rattle.promises.specs.Text.{reply, Part, statesOf}
@@ -92,6 +93,7 @@ module _ (a b lo hi : ℕ) where
         ))
     step pos le ne (suc s) u w h =
         let (to, from) = places u w in
+        rw (ne-eqb (suc s) 0 (λ q. omega arith), add-one (suc s)) (
         case (eqb u a)
         (λ t. rw t (
           λ (k, r). absurd (kept-later (suc s) u w (λ (q, l). ne (sym (eqb-true u a t) ∙ q)) .0 (k (omega arith)) .0 (eqb-true u a t)),
@@ -110,7 +112,7 @@ module _ (a b lo hi : ℕ) where
         rw v (
           λ (k, r). let next = on (k (omega arith)) .1 in (omega (arith, kept-in-time (suc (suc s)) w next), (λ z. next, to r .1)),
           λ (l, (k, m)). (λ z. off (eqb-false u a t, k (omega arith)), from (λ q. absurd (eqb-false u a t q), m)),
-        ))))
+        )))))
 
   -- ---- the sentence, and where none is due
 

@@ -60,17 +60,17 @@ outside lo hi n = ltb n lo || ltb hi n
 abbrev pub noClash : ℕ → Bool
 noClash n = false
 
-unfoldable pub isMon : Kind → Bool
+abbrev pub isMon : Kind → Bool
 isMon (mon S a) = true
 isMon (gap e n) = false
 isMon (reply a b lo hi) = false
 
-unfoldable pub outOfRange : ℕ → Kind → Bool
+abbrev pub outOfRange : ℕ → Kind → Bool
 outOfRange E (mon S a) = outside 1 32 S || leb S a
 outOfRange E (gap e n) = leb E e || outside 2 32 n
 outOfRange E (reply a b lo hi) = leb E a || (leb E b || (ltb lo 1 || (ltb hi lo || ltb 31 hi)))
 
-unfoldable pub equal : Kind → Bool
+abbrev pub equal : Kind → Bool
 equal (mon S a) = false
 equal (gap e n) = false
 equal (reply a b lo hi) = eqb a b

@@ -10,7 +10,7 @@
 use mathlib.Core.Bool.{Bool, true, _&&_}
 use mathlib.Core.List.{List, map}
 use mathlib.Core.Option.{Option·getD}
-use Prim.Native.Nat.{ℕ, zero, suc, _+_, _-_}
+use Prim.Native.Nat.{ℕ, _+_, _-_}
 use lib.Dec.{eqb, leb}
 use Rattle.lists.specs.Lists.{pick}
 use Rattle.automaton.specs.Automaton.{Automaton, bounded}
@@ -24,8 +24,7 @@ gapNext e n s u = pick (eqb u e) (pick (eqb s 0) (n - 1) n) (s - 1)
 
 -- 'that of `reply` is 0 with nothing due, 1 just after a, and one more each step' (02 no. 5): in state s the coming event is s steps after a
 unfoldable pub replyNext : ℕ → ℕ → ℕ → ℕ → ℕ → ℕ → ℕ
-replyNext a b lo hi zero u = pick (eqb u a) 1 0
-replyNext a b lo hi (suc s) u = pick (eqb u a) (hi + 1) (pick (eqb u b && leb lo (suc s)) 0 (suc (suc s)))
+replyNext a b lo hi s u = pick (eqb s 0) (pick (eqb u a) 1 0) (pick (eqb u a) (hi + 1) (pick (eqb u b && leb lo s) 0 (s + 1)))
 
 -- '`mon`, S: a new monitor with states 0 to S−1'; S itself is the number that is no state. 'Without such a line it doesn't admit e in s.'
 unfoldable pub nextOf : Kind → List Part → ℕ → ℕ → ℕ

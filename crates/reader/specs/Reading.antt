@@ -14,6 +14,7 @@ use Rattle.promises.specs.Text.{Part, go, stop, Line, rig, ord, begins, continu
 use Rattle.promises.specs.Reading.{reading}
 use Rattle.rig.specs.declared.Rig.{Rig}
 use Rattle.rig.specs.Record.{moveIndex, stopIndex, emptyRig}
+use Rattle.kinds.specs.Kinds.{kindMoves, kindStops}
 use Rattle.reader.specs.declared.Verdict.{Verdict}
 use Rattle.reader.specs.declared.Verdict.the-variants.{Readable, Refused}
 
@@ -27,13 +28,13 @@ unfoldable pub withPart : Rig → Part → Rig
 withPart r (go s e t) = record { moves = set (r .moves) (moveIndex (r .monitors - 1) s e) t; stops = r .stops; counts = r .counts; starts = r .starts; order = r .order; monitors = r .monitors; events = r .events }
 withPart r (stop s) = record { moves = r .moves; stops = set (r .stops) (stopIndex (r .monitors - 1) s) 1; counts = r .counts; starts = r .starts; order = r .order; monitors = r .monitors; events = r .events }
 
--- '`rig`, E'; `ord` 'lists all E events, first to last' (02 no. 2); '`mon`, S: a new monitor'; 'The rig record keeps one start for each monitor' (02 no. 1)
+-- '`rig`, E'; `ord` 'lists all E events, first to last' (02 no. 2); '`mon`, S: a new monitor', as are `gap` and `reply` (02 no. 5); 'The rig record keeps one start for each monitor' (02 no. 1)
 unfoldable pub withLine : Rig → Line → Rig
 withLine r (rig E) = record { moves = r .moves; stops = r .stops; counts = r .counts; starts = r .starts; order = r .order; monitors = r .monitors; events = E }
 withLine r (ord es) = record { moves = r .moves; stops = r .stops; counts = r .counts; starts = r .starts; order = es ++ drop (length es) (r .order); monitors = r .monitors; events = r .events }
 withLine r (begins k) = record {
-  moves = r .moves;
-  stops = r .stops;
+  moves = kindMoves (r .moves) (r .monitors) (r .events) k;
+  stops = kindStops (r .stops) (r .monitors) k;
   counts = set (r .counts) (r .monitors) (statesOf k);
   starts = set (r .starts) (r .monitors) (startOf k);
   order = r .order;

@@ -3,25 +3,27 @@
 --   onlyIf n a b       == a where the number n is 0, else b
 --   taken n z          == Next z where the number n is 0, else Bad n
 --   refusal n p        == the answer to a text that is refused
---   rigCase, ordCase, monCase, goCase, stopCase == the number of the first case that holds of such a line, 0 where none does
---   rigSizes, monSizes, monCounts, monStarts, goMoves, stopStops == what such a line changes, where no case holds of it
---   kindCase, kindSizes, kindCounts, kindStarts == the same for any line that begins a monitor
+--   rigCase, ordCase, kindCase, goCase, stopCase == the number of the first case that holds of such a line, 0 where none does
+--   rigSizes, kindSizes, kindCounts, kindStarts, goMoves, stopStops == what such a line changes, where no case holds of it
 --   partCase, partMoves, partStops == the same for any line of the latest monitor
 --   caseOf, sizesAfter, movesAfter, stopsAfter, countsAfter, startsAfter == the same for any line; os is the list that its decoding leaves, l its number
--- A new line form is one section and its clauses of those for its group. Assumes nothing.
+-- A new line form that begins no monitor is one section and its clauses of those for its group. Assumes nothing.
+use mathlib.Core.Path.{_≡_}
 use mathlib.Core.Bool.{not, _||_}
 use mathlib.Core.List.{List}
 use Prim.Native.Nat.{ℕ, _+_, _-_, _*_, _≤_}
 use lib.ListN.{take, set}
 use lib.Dec.{ltb, leb, eqb}
 use Rattle.lists.specs.Lists.{pick, any}
-use Rattle.promises.specs.Reading.{outside, repeats}
+use Rattle.promises.specs.Text.{statesOf, startOf}
+use Rattle.promises.specs.Reading.{outside, outOfRange, equal, repeats}
 use Rattle.rig.specs.Record.{moveIndex, moveAt, stopIndex, stopAt, emptyRig}
 use Rattle.decoding.specs.declared.Form.{Form}
 use Rattle.decoding.specs.declared.Form.the-variants.{Rig, Ord, Begins, Continues, Other}
 use Rattle.decoding.specs.declared.Kind.{Kind}
 use Rattle.decoding.specs.declared.Part.{Part}
 use Rattle.decoding.specs.declared.Part.the-variants.{Go, Stop}
+use Rattle.kinds.specs.Kinds.{asKind, monStates, kindMoves, kindStops}
 use Rattle.reader.specs.declared.Reading.{Reading}
 use Rattle.reader.specs.declared.Sizes.{Sizes}
 use Rattle.reader.specs.declared.Taken.{Taken}
@@ -31,7 +33,8 @@ use Rattle.reader.specs.declared.Verdict.the-variants.{Refused}
 pub record Allowed (z : Sizes) : Type 0 where
   pub few-events : z .events ≤ 16
   pub few-monitors : z .monitors ≤ 4
-  pub few-latest : z .latest ≤ 32
+  pub few-latest : monStates (z .latest) ≤ 32
+  pub none-latest : z .monitors ≡ 0 → monStates (z .latest) ≡ 0
   pub few-joint : z .joint ≤ 1024
 
 abbrev pub onlyIf : {A : Type 0} → ℕ → A → A → A
@@ -61,26 +64,31 @@ ordCase os z l n =
     (pick (repeats (take n os)) 16
     0)))
 
--- ---- `mon`, S and the start a
+-- ---- a line that begins a monitor of the kind k
 
-unfoldable pub monCase : Sizes → ℕ → ℕ → ℕ
-monCase z s a = pick (eqb (z .events) 0) 5 (pick ((outside 1 32 s || leb s a) || leb 4 (z .monitors)) 3 (pick (ltb 1024 (z .joint * s)) 6 0))
+unfoldable pub kindCase : Sizes → Kind → ℕ
+kindCase z k =
+    pick (eqb (z .events) 0) 5
+    (pick (outOfRange (z .events) (asKind k) || leb 4 (z .monitors)) 3
+    (pick (equal (asKind k)) 17
+    (pick (ltb 1024 (z .joint * statesOf (asKind k))) 6
+    0)))
 
-abbrev pub monSizes : Sizes → ℕ → Sizes
-monSizes z s = record { events = z .events; monitors = z .monitors + 1; latest = s; joint = z .joint * s }
+abbrev pub kindSizes : Sizes → Kind → Sizes
+kindSizes z k = record { events = z .events; monitors = z .monitors + 1; latest = k; joint = z .joint * statesOf (asKind k) }
 
-abbrev pub monCounts : List ℕ → Sizes → ℕ → List ℕ
-monCounts ct z s = set ct (z .monitors) s
+abbrev pub kindCounts : List ℕ → Sizes → Kind → List ℕ
+kindCounts ct z k = set ct (z .monitors) (statesOf (asKind k))
 
-abbrev pub monStarts : List ℕ → Sizes → ℕ → List ℕ
-monStarts st z a = set st (z .monitors) a
+abbrev pub kindStarts : List ℕ → Sizes → Kind → List ℕ
+kindStarts st z k = set st (z .monitors) (startOf (asKind k))
 
 -- ---- `go`, s, e, t
 
 unfoldable pub goCase : List ℕ → Sizes → ℕ → ℕ → ℕ → ℕ
 goCase mv z s e t =
-    pick (eqb (z .monitors) 0) 5
-    (pick (leb (z .latest) s || (leb (z .events) e || leb (z .latest) t)) 3
+    pick (eqb (monStates (z .latest)) 0) 5
+    (pick (leb (monStates (z .latest)) s || (leb (z .events) e || leb (monStates (z .latest)) t)) 3
     (pick (not (eqb (moveAt mv (z .monitors - 1) s e) 255)) 4
     0))
 
@@ -90,24 +98,12 @@ goMoves mv z s e t = set mv (moveIndex (z .monitors - 1) s e) t
 -- ---- `stop`, s
 
 unfoldable pub stopCase : List ℕ → Sizes → ℕ → ℕ
-stopCase sp z s = pick (eqb (z .monitors) 0) 5 (pick (leb (z .latest) s) 3 (pick (not (eqb (stopAt sp (z .monitors - 1) s) 0)) 4 0))
+stopCase sp z s = pick (eqb (monStates (z .latest)) 0) 5 (pick (leb (monStates (z .latest)) s) 3 (pick (not (eqb (stopAt sp (z .monitors - 1) s) 0)) 4 0))
 
 abbrev pub stopStops : List ℕ → Sizes → ℕ → List ℕ
 stopStops sp z s = set sp (stopIndex (z .monitors - 1) s) 1
 
 -- ---- any line
-
-abbrev pub kindCase : Sizes → Kind → ℕ
-kindCase z k = monCase z (k .states) (k .start)
-
-abbrev pub kindSizes : Sizes → Kind → Sizes
-kindSizes z k = monSizes z (k .states)
-
-abbrev pub kindCounts : List ℕ → Sizes → Kind → List ℕ
-kindCounts ct z k = monCounts ct z (k .states)
-
-abbrev pub kindStarts : List ℕ → Sizes → Kind → List ℕ
-kindStarts st z k = monStarts st z (k .start)
 
 abbrev pub partCase : List ℕ → List ℕ → Sizes → Part → ℕ
 partCase mv sp z (Go s e t) = goCase mv z s e t
@@ -138,14 +134,14 @@ sizesAfter z Other = z
 abbrev pub movesAfter : List ℕ → Sizes → Form → List ℕ
 movesAfter mv z (Rig e) = mv
 movesAfter mv z (Ord n) = mv
-movesAfter mv z (Begins k) = mv
+movesAfter mv z (Begins k) = kindMoves mv (z .monitors) (z .events) (asKind k)
 movesAfter mv z (Continues p) = partMoves mv z p
 movesAfter mv z Other = mv
 
 abbrev pub stopsAfter : List ℕ → Sizes → Form → List ℕ
 stopsAfter sp z (Rig e) = sp
 stopsAfter sp z (Ord n) = sp
-stopsAfter sp z (Begins k) = sp
+stopsAfter sp z (Begins k) = kindStops sp (z .monitors) (asKind k)
 stopsAfter sp z (Continues p) = partStops sp z p
 stopsAfter sp z Other = sp
 

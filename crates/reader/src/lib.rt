@@ -1,13 +1,15 @@
-// Reading a rig's text: its record, or the first of the refusals 1 to 6 and 16. One pass over the text, line by line; the tables are filled in place.
+// Reading a rig's text: its record, or the first of the refusals 1 to 6, 16 and 17. One pass over the text, line by line; the tables are filled in place.
 use decoding::Form;
+use decoding::Kind;
 use decoding::Part;
 use rig::Rig;
 ghost use mathlib.Core.Path.{_≡_};
 ghost use Prim.Native.Nat.{_<_};
 ghost use lib.ListN.{length};
 ghost use Rattle.promises.specs.Reading as promised;
+ghost use Rattle.kinds.specs.Kinds.{asKind, kindMoves, kindStops};
 ghost use Rattle.reader.specs.Reading.{answerOf, recordOf};
-ghost use Rattle.reader.specs.Taking.{Allowed, taken, rigCase, rigSizes, ordCase, monCase, monSizes, monCounts, monStarts, goCase, goMoves, stopCase, stopStops, caseOf, sizesAfter, movesAfter, stopsAfter, countsAfter, startsAfter, onlyIf};
+ghost use Rattle.reader.specs.Taking.{Allowed, taken, rigCase, rigSizes, ordCase, kindCase, kindSizes, kindCounts, kindStarts, goCase, goMoves, stopCase, stopStops, caseOf, sizesAfter, movesAfter, stopsAfter, countsAfter, startsAfter, onlyIf};
 ghost use Rattle.reader.specs.Taking as taking;
 
 // What reading answers: the text is readable, or a number and a place.
@@ -22,11 +24,11 @@ pub struct Reading {
     pub rig: Rig,
 }
 
-// What the lines so far say: E, how many monitors there are, the latest one's S, and P.
+// What the lines so far say: E, how many monitors there are, the kind of the latest one, which is a `mon` without states where there is none, and P.
 struct Sizes {
     events: usize,
     monitors: usize,
-    latest: usize,
+    latest: Kind,
     joint: usize,
 }
 
@@ -59,10 +61,11 @@ fn take_rig(z: Sizes, e: usize) -> Taken
     if 16 < e {
         return Taken::Bad(3); // more than 16 events
     }
+    let latest = z.latest;
     Taken::Next(Sizes {
         events: e,
         monitors: z.monitors,
-        latest: z.latest,
+        latest,
         joint: z.joint,
     })
 }
@@ -101,39 +104,47 @@ fn take_ord(order: &[u8], z: Sizes, line: u64, n: usize) -> Taken
     Taken::Next(z)
 }
 
-// `mon`, S and the start a: 'S from 1 to 32', 'One to four monitors', P 'at most 1,024', and a below S.
-fn take_mon(counts: &mut [u8], starts: &mut [u8], z: Sizes, s: usize, a: usize) -> Taken
-    requires { ⌜ (length (now counts) ≡ 4) × (length (now starts) ≡ 4) × Allowed z ⌝ }
-    ensures { λ r. ⌜ r ≡ taken (monCase z s a) (monSizes z s) ⌝ }
-    ensures { λ _. ⌜ now (counts .exit) ≡ onlyIf (monCase z s a) (monCounts (now (counts .entry)) z s) (now (counts .entry)) ⌝ }
-    ensures { λ _. ⌜ now (starts .exit) ≡ onlyIf (monCase z s a) (monStarts (now (starts .entry)) z a) (now (starts .entry)) ⌝ }
+// A line that begins a monitor, of any kind: 'counts as a `mon` in 3, 5 and 6'; 'One to four monitors', P 'at most 1,024'.
+fn take_kind(
+    moves: &mut [u8],
+    stops: &mut [u8],
+    counts: &mut [u8],
+    starts: &mut [u8],
+    z: Sizes,
+    k: Kind,
+) -> Taken
+    requires { ⌜ (length (now moves) ≡ 2048) × (length (now stops) ≡ 128) × (length (now counts) ≡ 4) × (length (now starts) ≡ 4) × Allowed z ⌝ }
+    ensures { λ r. ⌜ r ≡ taken (kindCase z k) (kindSizes z k) ⌝ }
+    ensures { λ _. ⌜ now (moves .exit) ≡ onlyIf (kindCase z k) (kindMoves (now (moves .entry)) (z .monitors) (z .events) (asKind k)) (now (moves .entry)) ⌝ }
+    ensures { λ _. ⌜ now (stops .exit) ≡ onlyIf (kindCase z k) (kindStops (now (stops .entry)) (z .monitors) (asKind k)) (now (stops .entry)) ⌝ }
+    ensures { λ _. ⌜ now (counts .exit) ≡ onlyIf (kindCase z k) (kindCounts (now (counts .entry)) z k) (now (counts .entry)) ⌝ }
+    ensures { λ _. ⌜ now (starts .exit) ≡ onlyIf (kindCase z k) (kindStarts (now (starts .entry)) z k) (now (starts .entry)) ⌝ }
 {
     if z.events == 0 {
         return Taken::Bad(5); // first line not `rig`
     }
-    if s < 1 {
-        return Taken::Bad(3); // no state
-    }
-    if 32 < s {
-        return Taken::Bad(3); // more than 32 states
-    }
-    if s <= a {
-        return Taken::Bad(3); // the start is no state
+    if kinds::out_of_range(k, z.events) {
+        return Taken::Bad(3); // a number out of its range
     }
     if 4 <= z.monitors {
         return Taken::Bad(3); // a fifth monitor
     }
-    let joint = z.joint * s;
+    if kinds::equal(k) {
+        return Taken::Bad(17); // a equals b
+    }
+    let n = kinds::states(k);
+    let joint = z.joint * n;
     if 1024 < joint {
         return Taken::Bad(6); // P over 1,024
     }
     let m = z.monitors;
-    counts[m] = s as u8;
-    starts[m] = a as u8;
+    kinds::fill_tables(moves, stops, m, z.events, k);
+    counts[m] = n as u8;
+    starts[m] = kinds::start(k) as u8;
     Taken::Next(Sizes {
         events: z.events,
         monitors: m + 1,
-        latest: s,
+        latest: k,
         joint,
     })
 }
@@ -144,16 +155,18 @@ fn take_go(moves: &mut [u8], z: Sizes, s: usize, e: usize, t: usize) -> Taken
     ensures { λ r. ⌜ r ≡ taken (goCase (now (moves .entry)) z s e t) z ⌝ }
     ensures { λ _. ⌜ now (moves .exit) ≡ onlyIf (goCase (now (moves .entry)) z s e t) (goMoves (now (moves .entry)) z s e t) (now (moves .entry)) ⌝ }
 {
-    if z.monitors == 0 {
-        return Taken::Bad(5); // `go` before `mon`
+    let latest = z.latest;
+    let states = kinds::mon_states(latest);
+    if states == 0 {
+        return Taken::Bad(5); // the latest monitor is no `mon`, or there is none
     }
-    if z.latest <= s {
+    if states <= s {
         return Taken::Bad(3); // s is no state
     }
     if z.events <= e {
         return Taken::Bad(3); // e is no event
     }
-    if z.latest <= t {
+    if states <= t {
         return Taken::Bad(3); // t is no state
     }
     let at = ((z.monitors - 1) * 32 + s) * 16 + e;
@@ -170,10 +183,12 @@ fn take_stop(stops: &mut [u8], z: Sizes, s: usize) -> Taken
     ensures { λ r. ⌜ r ≡ taken (stopCase (now (stops .entry)) z s) z ⌝ }
     ensures { λ _. ⌜ now (stops .exit) ≡ onlyIf (stopCase (now (stops .entry)) z s) (stopStops (now (stops .entry)) z s) (now (stops .entry)) ⌝ }
 {
-    if z.monitors == 0 {
-        return Taken::Bad(5); // `stop` before any `mon`
+    let latest = z.latest;
+    let states = kinds::mon_states(latest);
+    if states == 0 {
+        return Taken::Bad(5); // the latest monitor is no `mon`, or there is none
     }
-    if z.latest <= s {
+    if states <= s {
         return Taken::Bad(3); // s is no state
     }
     let at = (z.monitors - 1) * 32 + s;
@@ -205,7 +220,7 @@ fn take_line(
     match form {
         Form::Rig(e) => take_rig(z, e),
         Form::Ord(n) => take_ord(order, z, line, n),
-        Form::Begins(k) => take_mon(counts, starts, z, k.states, k.start),
+        Form::Begins(k) => take_kind(moves, stops, counts, starts, z, k),
         Form::Continues(p) => match p {
             Part::Go(s, e, t) => take_go(moves, z, s, e, t),
             Part::Stop(s) => take_stop(stops, z, s),
@@ -230,7 +245,7 @@ pub fn read(text: &[u8]) -> Reading
     let mut sizes = Sizes {
         events: 0,
         monitors: 0,
-        latest: 0,
+        latest: Kind::Mon(0, 0),
         joint: 1,
     };
     let mut line = 1;

@@ -1,0 +1,26 @@
+-- Of the kinds, `reply` has an a and a b.
+-- Assumes nothing.
+use borrow.Author.Needs.{needs}
+use Rattle.kinds.proofs.equal.Statement.{statement}
+use Rattle.kinds.proofs.equal.Tie as tie
+
+enum-told : tie.Need-enum-told
+enum-told c = search needs
+
+enum-told-2 : tie.Need-enum-told-2
+enum-told-2 c = search needs
+
+enum-known-k : tie.Need-enum-known-k
+enum-known-k c = search needs
+
+returns : tie.Need-returns
+returns c = search needs
+
+returns-2 : tie.Need-returns-2
+returns-2 c = search needs
+
+returns-3 : tie.Need-returns-3
+returns-3 c = rw (c .before .k .given .1)
+
+pub equal-spec : {M : Type 1} → statement M
+equal-spec = tie.close (tie.spec enum-told enum-told-2 enum-known-k returns returns-2 returns-3)

@@ -1,0 +1,2 @@
+-- The kinds of monitor and their tables.
+pub mod Kinds
