@@ -1,6 +1,6 @@
 -- The tables after a line that begins a monitor: the monitor's own part holds its kind's automaton, the other parts are as they were. Assumes nothing.
 --   Blank mv sp m      == part m of the tables has no move and no mark
---   Holds mv sp m E k ps == it has the moves and marks of a monitor of the kind k with the further lines ps
+--   OfKind mv sp m E k ps == it has the moves and marks of a monitor of the kind k with the further lines ps
 use mathlib.Core.Path.{_≡_, refl, sym, ap, _∙_}
 use mathlib.Core.Logic.{_≢_, ⊎-elim}
 use mathlib.Core.Bool.{true}
@@ -25,7 +25,7 @@ pub record Blank (mv sp : List ℕ) (m : ℕ) : Type 0 where
   pub no-move : (s u : ℕ) → s < 32 → u < 16 → moveAt mv m s u ≡ 255
   pub no-mark : (s : ℕ) → s < 32 → stopAt sp m s ≡ 0
 
-pub record Holds (mv sp : List ℕ) (m E : ℕ) (k : Kind) (ps : List Part) : Type 0 where
+pub record OfKind (mv sp : List ℕ) (m E : ℕ) (k : Kind) (ps : List Part) : Type 0 where
   pub moves : (s u : ℕ) → s < statesOf k → u < E → moveAt mv m s u ≡ entryOf (statesOf k) (nextOf k ps s u)
   pub marks : (s : ℕ) → s < statesOf k → stopAt sp m s ≡ pick (markedOf k ps s) 1 0
 
@@ -86,14 +86,14 @@ module _ (mv sp : List ℕ) (m E : ℕ) (k : Kind) (hm : m < 4) (fewE : E ≤ 16
   stops-beside i x ne hx = case (isMon k) (λ q. rw q) (λ q. rw q (overwrite-beside sp (stopIndex m 0) (λ s. pick (markedOf k [] s) 1 0) (statesOf k) (stopIndex i x) 0 (λ u l e. ne (omega arith))))
 
   -- the part was blank, and holds the kind's automaton
-  pub fills : Blank mv sp m → Holds (kindMoves mv m E k) (kindStops sp m k) m E k []
+  pub fills : Blank mv sp m → OfKind (kindMoves mv m E k) (kindStops sp m k) m E k []
   unfolding kindMoves kindStops
   fills b = case (isMon k) (λ q. rw q (no-line k q b few)) (λ q. rw q (record {
     moves = λ s u hs hu. rows-at mv m E (statesOf k) (nextOf k []) fewE (statesOf k) s u few hm long hs hu;
     marks = λ s hs. let at : stopIndex m s ≡ stopIndex m 0 + s = omega arith in rw at (overwrite-at sp (stopIndex m 0) (λ s. pick (markedOf k [] s) 1 0) (statesOf k) s 0 hs (omega arith));
   }))
     where
-      no-line : (k : Kind) → isMon k ≡ true → Blank mv sp m → statesOf k ≤ 32 → Holds mv sp m E k []
+      no-line : (k : Kind) → isMon k ≡ true → Blank mv sp m → statesOf k ≤ 32 → OfKind mv sp m E k []
       no-line (mon S a) q b few = unfold nextOf markedOf moveBy markedBy statesOf in record {
         moves = λ s u hs hu. b .no-move s u (omega arith) (omega arith) ∙ sym (ap (λ t. pick t S 255) (le-ltb S S (omega arith)));
         marks = λ s hs. b .no-mark s (omega arith);

@@ -130,7 +130,7 @@ few-states E (reply a b lo hi) (x, y, one, le, h, ne) = omega arith
 within : (a b : ℕ) → ((b < a) → ⊥) → a ≤ b
 within a b h = ⊎-elim (λ k. k) (λ k. absurd (h k)) (split a b)
 
-in-range : (E : ℕ) (k : Kind) → (OutOfRange E k → ⊥) → (Equal k → ⊥) → Ranged E k
+pub in-range : (E : ℕ) (k : Kind) → (OutOfRange E k → ⊥) → (Equal k → ⊥) → Ranged E k
 unfolding OutOfRange Equal Ranged
 in-range E (mon S a) r d = (within 1 S (λ h. r (inl (inl h))), within S 32 (λ h. r (inl (inr h))), within (suc a) S (λ h. r (inr (omega arith))))
 in-range E (gap e n) r d = (within (suc e) E (λ h. r (inl (omega arith))), within 2 n (λ h. r (inr (inl h))), within n 32 (λ h. r (inr (inr h))))
@@ -143,7 +143,7 @@ in-range E (reply a b lo hi) r d = (
   d,
 )
 
-begun : (ls : List Line) (k : Kind) → Sound ls (begins k) → Ranged (eventsOf ls) k × (length (monitors ls) < 4) × (product (monitors ls) * statesOf k ≤ 1024)
+pub begun : (ls : List Line) (k : Kind) → Sound ls (begins k) → Ranged (eventsOf ls) k × (length (monitors ls) < 4) × (product (monitors ls) * statesOf k ≤ 1024)
 unfolding Case3 Case17 Case6 cases beginning
 begun ls k s = (
   in-range (eventsOf ls) k (λ o. s .ranged (inl o)) (λ q. s .unequal (refl, q)),

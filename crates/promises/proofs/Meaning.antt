@@ -157,7 +157,7 @@ module _ (t : List ℕ) (r : Readable t) where
   events-ordered = rw rig-events (indexOf-ordered (order-permutes .once))
 
   -- the events in their order are the numbers below E
-  over-iff : (w : List ℕ) → Over (orderOf (decoded t)) w ↔ BelowE t w
+  pub over-iff : (w : List ℕ) → Over (orderOf (decoded t)) w ↔ BelowE t w
   unfolding Over BelowE
   over-iff w = (λ o e i. order-permutes .just e .0 (o e i), λ b e i. order-permutes .just e .1 (b e i))
 

@@ -128,13 +128,13 @@ tells-mon (mon S a) = record { yes = λ q. (S, a, refl); no = λ q. contra refl 
 tells-mon (gap e n) = record { yes = λ q. contra q refl; no = λ q (S, a, r). let z : _≡_ {A = ℕ} 0 1 = cc in omega arith }
 tells-mon (reply a b lo hi) = record { yes = λ q. contra q refl; no = λ q (S, x, r). let z : _≡_ {A = ℕ} 0 1 = cc in omega arith }
 
-tells-out : (E : ℕ) (k : Kind) → Tells (outOfRange E k) (OutOfRange E k)
+pub tells-out : (E : ℕ) (k : Kind) → Tells (outOfRange E k) (OutOfRange E k)
 unfolding OutOfRange
 tells-out E (mon S a) = tells-or (tells-outside 1 32 S) (tells-le S a)
 tells-out E (gap e n) = tells-or (tells-le E e) (tells-outside 2 32 n)
 tells-out E (reply a b lo hi) = tells-or (tells-le E a) (tells-or (tells-le E b) (tells-or (tells-lt lo 1) (tells-or (tells-lt hi lo) (tells-lt 31 hi))))
 
-tells-equal : (k : Kind) → Tells (equal k) (Equal k)
+pub tells-equal : (k : Kind) → Tells (equal k) (Equal k)
 unfolding Equal
 tells-equal (mon S a) = tells-never
 tells-equal (gap e n) = tells-never

@@ -1,67 +1,58 @@
 -- What the reader's state says of the lines that it has read, none of them bad: every test that the reader makes is the paper's, and a line more keeps it so.
---   OfKind k c s          == c is the number of states and s the start of the kind k, both in range
+--   Tabled ms E mv sp ct st == the tables are those of the monitors ms over E events; past the last they are blank
 --   Holds r ls z mv sp ct st os == the sizes z, the tables mv, sp, ct and st and the list os are those of the lines ls, read into the record r
 -- Assumes nothing.
-use mathlib.Core.Path.{_≡_, refl, sym, ap, ap₂, _∙_}
-use mathlib.Core.Logic.{_⊎_, ⊎-elim}
+use mathlib.Core.Path.{_≡_, refl, sym, ap, ap₂, _∙_, subst}
+use mathlib.Core.Logic.{_⊎_, inl, inr, _≢_, ⊎-elim}
 use mathlib.Core.Bool.{Bool, true, false, not, _||_}
-use mathlib.Core.List.{List, [], _∷_, _++_}
-use mathlib.Core.Option.{some, Option·getD}
-use Prim.Native.Nat.{ℕ, suc, _+_, _-_, _*_, _≤_, _<_}
+use mathlib.Core.List.{List, [], _∷_, _++_, List·Memᴰ as In}
+use mathlib.Core.Option.{some}
+use Prim.Native.Nat.{ℕ, zero, suc, _+_, _-_, _*_, _≤_, _<_}
 use native.Mathlib.Nat.{eq-or-lt-of-le}
 use native.Mathlib.Omega.{arith}
-use lib.ListN.{length, getD, take, drop, set, length-set, length-append, List·getD-eq-default}
+use lib.ListN.{length, getD, take, drop, set, length-set, length-append, length-replicate}
 use lib.Seq.{getD-set-same, getD-set-other, take-at}
 use lib.Dec.{eqb, ltb, leb}
-use borrow.Author.Tests.{eq-eqb, ne-eqb, eqb-true, eqb-false, ltb-false, leb-false, not-false}
+use borrow.Author.Tests.{eq-eqb, ne-eqb, eqb-true, eqb-false, leb-false, not-false}
 use Rattle.lists.specs.Lists.{pick, any}
 use Rattle.lists.proofs.Tables.{length-range, take-range}
-use Rattle.lists.proofs.Tests.{contra, case, or-left, or-rest, ℕ-trichotomy}
-use Rattle.promises.specs.Text.{Kind, mon, Part, go, stop, Line, rig, ord, begins, continues, other, Monitor, addPart, extended, monitorsFrom, monitors, statesOf, startOf, latest, product, eventsOf, reordered, orderFrom, orderOf}
-use Rattle.promises.specs.Reading.{empty, isSome, moveBy, markedBy, outside, testBeginning, ofLatest, testContinuing, tests, lineCase}
-use Rattle.promises.proofs.Lines.{monitors-more, order-more, length-addPart, product-addPart, product-append}
+use Rattle.lists.proofs.Tests.{contra, case, or-left, or-rest}
+use Rattle.lists.proofs.Members.{getD-in}
+use Rattle.promises.specs.Text.{Kind, mon, gap, reply, Part, go, stop, Line, rig, ord, begins, continues, other, Monitor, addPart, extended, monitorsFrom, monitors, statesOf, startOf, latest, product, eventsOf, reordered, orderFrom, orderOf, beginning, continuing, OfLatest, IsMon, cases, Case5, Case3}
+use Rattle.promises.specs.Reading.{empty, isSome, moveBy, markedBy, isMon, testBeginning, ofLatest, testContinuing, tests, lineCase}
+use Rattle.promises.proofs.Lines.{monitors-more, order-more, length-addPart, product-addPart, product-append, Ranged, PartRanged, Kept, WellFormed, Headed, Formed, start-below, few-states, begun, sound-formed, nothing-formed}
+use Rattle.promises.proofs.Reading.{moved, case-sound}
 use Rattle.rig.specs.declared.Rig.{Rig}
 use Rattle.rig.specs.Record.{moveIndex, moveAt, stopIndex, stopAt, lowerFirst}
-use Rattle.decoding.specs.Forms.{over, formOf}
+use Rattle.decoding.specs.declared.Kind.the-variants.{Mon}
+use Rattle.decoding.specs.Forms.{over, kindOf, formOf}
 use Rattle.decoding.proofs.Listed.{length-over, Leaves}
+use Rattle.kinds.specs.Kinds.{asKind, monStates, kindMoves, kindStops}
+use Rattle.kinds.proofs.Tables.{Blank, OfKind, length-moves, length-stops, moves-beside, stops-beside, fills}
 use Rattle.reader.specs.declared.Sizes.{Sizes}
 use Rattle.reader.specs.Reading.{withPart, withLine, recordFrom}
 use Rattle.reader.specs.Record.{nobody}
-use Rattle.reader.specs.Taking.{Allowed, rigCase, rigSizes, ordCase, monCase, monSizes, monCounts, monStarts, goCase, goMoves, stopCase, stopStops, caseOf, sizesAfter, movesAfter, stopsAfter, countsAfter, startsAfter}
-use Rattle.reader.proofs.Monitors.{monitorAt, events-snoc, empty-nil, empty-snoc, empty-length, addPart-at, addPart-beside, latest-at, new-before, new-at, new-after}
+use Rattle.reader.specs.Taking.{Allowed, rigCase, rigSizes, ordCase, kindCase, kindSizes, kindCounts, kindStarts, goCase, goMoves, stopCase, stopStops, caseOf, sizesAfter, movesAfter, stopsAfter, countsAfter, startsAfter}
+use Rattle.reader.proofs.Monitors.{monitorAt, events-snoc, empty-nil, empty-snoc, empty-length, addPart-at, addPart-beside, latest-at, new-before, new-at}
 use Rattle.reader.proofs.Listed.{over-events, front-any, ord-case}
-use Rattle.reader.proofs.Tables.{Table, Marks, seen, seen-mark, table-blank, table-beside, table-go, table-stop, marks-blank, marks-beside, marks-go, marks-stop}
+use Rattle.reader.proofs.Tables.{Same, same-blank, same-kind, go-beside, stop-beside, seen, seen-mark, with-go, with-stop}
 
-abbrev pub statesAt : List Monitor → ℕ → ℕ
-statesAt ms k = statesOf (monitorAt ms k .kind)
-
-pub record OfKind (k : Kind) (c s : ℕ) : Type 0 where
-  pub count-is : c ≡ statesOf k
-  pub start-is : s ≡ startOf k
-  pub few-states : statesOf k ≤ 32
-  pub start-below : startOf k < statesOf k
-
--- the monitor m, as part k of the tables mv and sp
-pub record OfMonitor (mv sp : List ℕ) (k E : ℕ) (m : Monitor) : Type 0 where
-  pub table : Table mv k (m .parts) E (statesOf (m .kind))
-  pub marks : Marks sp k (m .parts) (statesOf (m .kind))
-
--- the monitors ms, as counts, starts and tables: what holds of the first n of them and of their parts of the tables
-pub record Tabled (ms : List Monitor) (n E : ℕ) (mv sp ct st : List ℕ) : Type 0 where
-  pub tables : (k : ℕ) → k < 4 → OfMonitor mv sp k E (monitorAt ms k)
-  pub kinds : (k : ℕ) → k < n → OfKind (monitorAt ms k .kind) (getD ct k 0) (getD st k 0)
+pub record Tabled (ms : List Monitor) (E : ℕ) (mv sp ct st : List ℕ) : Type 0 where
+  pub tables : (k : ℕ) → k < length ms → OfKind mv sp k E (monitorAt ms k .kind) (monitorAt ms k .parts)
+  pub blank : (k : ℕ) → length ms ≤ k → k < 4 → Blank mv sp k
+  pub counts : (k : ℕ) → k < length ms → getD ct k 0 ≡ statesOf (monitorAt ms k .kind)
+  pub starts : (k : ℕ) → k < length ms → getD st k 0 ≡ startOf (monitorAt ms k .kind)
 
 pub record Holds (r : Rig) (ls : List Line) (z : Sizes) (mv sp ct st os : List ℕ) : Type 0 where
+  pub formed : Formed ls
   pub events-are : eventsOf ls ≡ z .events
-  pub begun : empty ls ≡ eqb (z .events) 0
   pub monitors-are : length (monitors ls) ≡ z .monitors
   pub joint-is : product (monitors ls) ≡ z .joint
-  pub latest-is : (k : ℕ) → suc k ≡ z .monitors → statesAt (monitors ls) k ≡ z .latest
-  pub tabled : Tabled (monitors ls) (z .monitors) (z .events) mv sp ct st
+  pub latest-is : kindOf (monitorAt (monitors ls) (z .monitors - 1) .kind) ≡ z .latest
+  pub tabled : Tabled (monitors ls) (z .events) mv sp ct st
   pub ordered : take (z .events) os ≡ orderOf ls
   pub unordered : z .events ≡ 0 → os ≡ lowerFirst
   pub recorded : recordFrom r ls ≡ record { moves = mv; stops = sp; counts = ct; starts = st; order = os; monitors = z .monitors; events = z .events }
-  pub room : Allowed z
   pub long : length mv ≡ 2048
   pub wide-stops : length sp ≡ 128
   pub wide : length ct ≡ 4
@@ -76,22 +67,23 @@ recordFrom-snoc r (k ∷ ls) l = recordFrom-snoc (withLine r k) ls l
 -- ---- no line yet
 
 pub holds-none : (mv sp ct st : List ℕ) → ((i : ℕ) → i < 2048 → getD mv i 0 ≡ 255) → ((i : ℕ) → i < 128 → getD sp i 0 ≡ 0) → length mv ≡ 2048 → length sp ≡ 128 → length ct ≡ 4 → length st ≡ 4
-    → Holds (record { moves = mv; stops = sp; counts = ct; starts = st; order = lowerFirst; monitors = 0; events = 0 }) [] (record { events = 0; monitors = 0; latest = 0; joint = 1 }) mv sp ct st lowerFirst
+    → Holds (record { moves = mv; stops = sp; counts = ct; starts = st; order = lowerFirst; monitors = 0; events = 0 }) [] (record { events = 0; monitors = 0; latest = Mon 0 0; joint = 1 }) mv sp ct st lowerFirst
 unfolding eventsOf orderOf orderFrom monitors monitorsFrom product recordFrom
 holds-none mv sp ct st blank unmarked long wide-stops wide wide-starts = record {
+  formed = nothing-formed;
   events-are = refl;
-  begun = refl;
   monitors-are = refl;
   joint-is = refl;
-  latest-is = λ k q. absurd (omega arith);
+  latest-is = refl;
   tabled = record {
-    tables = λ k h. record { table = table-blank mv k 0 _ (λ s e hs he. blank (moveIndex k s e) (omega arith)); marks = marks-blank sp k _ (λ s hs. unmarked (stopIndex k s) (omega arith)) };
-    kinds = λ k h. absurd (omega arith);
+    tables = λ k h. absurd (omega arith);
+    blank = λ k h l. record { no-move = λ s e hs he. blank (moveIndex k s e) (omega arith); no-mark = λ s hs. unmarked (stopIndex k s) (omega arith) };
+    counts = λ k h. absurd (omega arith);
+    starts = λ k h. absurd (omega arith);
   };
   ordered = refl;
   unordered = λ q. refl;
   recorded = refl;
-  room = record { few-events = omega arith; few-monitors = omega arith; few-latest = omega arith; few-joint = omega arith };
   long = long;
   wide-stops = wide-stops;
   wide = wide;
@@ -112,131 +104,228 @@ pick-zero : (b : Bool) (n m : ℕ) → 0 < n → pick b n m ≡ 0 → (b ≡ fal
 pick-zero true n m h q = absurd (omega arith)
 pick-zero false n m h q = (refl, q)
 
+-- ---- formed lines
+
+pub few-events : (ls : List Line) → Formed ls → eventsOf ls ≤ 16
+few-events ls f = few (f .headed)
+  where
+    few : Headed ls → eventsOf ls ≤ 16
+    few h = unfold Headed in by h
+      where
+        by : (ls ≡ []) ⊎ ((E : ℕ) × (rest : List Line) × (ls ≡ rig E ∷ rest) × (1 ≤ E) × (E ≤ 16)) → eventsOf ls ≤ 16
+        by (inl q) = unfold eventsOf in rw q (omega arith)
+        by (inr (E, rest, q, low, high)) = unfold eventsOf in rw q high
+
+-- there is an event if there is a line
+some-event : (ls : List Line) → Formed ls → empty ls ≡ eqb (eventsOf ls) 0
+some-event ls f = some (f .headed)
+  where
+    some : Headed ls → empty ls ≡ eqb (eventsOf ls) 0
+    some h = unfold Headed in by h
+      where
+        by : (ls ≡ []) ⊎ ((E : ℕ) × (rest : List Line) × (ls ≡ rig E ∷ rest) × (1 ≤ E) × (E ≤ 16)) → empty ls ≡ eqb (eventsOf ls) 0
+        by (inl q) = unfold eventsOf in rw q
+        by (inr (E, rest, q, low, high)) = unfold eventsOf in rw q (sym (ne-eqb E 0 (λ e. omega arith)))
+
+-- and no monitor if there is none
+no-monitor : (ls : List Line) → empty ls ≡ true → length (monitors ls) ≡ 0
+unfolding monitors monitorsFrom
+no-monitor [] e = refl
+no-monitor (l ∷ ls) e = contra e refl
+
+-- ---- kinds
+
+pub as-kind : (k : Kind) → asKind (kindOf k) ≡ k
+as-kind (mon S a) = refl
+as-kind (gap e n) = refl
+as-kind (reply a b lo hi) = refl
+
+-- in range, a kind that a `go` or `stop` line can be of has states to name, and no other has
+mon-named : (E : ℕ) (k : Kind) → Ranged E k → not (isMon k) ≡ eqb (monStates (kindOf k)) 0
+unfolding Ranged
+mon-named E (mon S a) r = sym (ne-eqb S 0 (λ q. omega arith))
+mon-named E (gap e n) r = refl
+mon-named E (reply a b lo hi) r = refl
+
+few-named : (E : ℕ) (k : Kind) → Ranged E k → monStates (kindOf k) ≤ 32
+unfolding Ranged
+few-named E (mon S a) r = omega arith
+few-named E (gap e n) r = omega arith
+few-named E (reply a b lo hi) r = omega arith
+
+is-mon : (k : Kind) → eqb (monStates (kindOf k)) 0 ≡ false → (S : ℕ) × (a : ℕ) × (k ≡ mon S a) × (monStates (kindOf k) ≡ S)
+is-mon (mon S a) p = (S, a, refl, refl)
+is-mon (gap e n) p = contra refl p
+is-mon (reply a b lo hi) p = contra refl p
+
 -- ---- the tables with one line more
 
--- the first line: no monitor has a move yet
-more-events : (ms : List Monitor) (n E F : ℕ) (mv sp ct st : List ℕ) → E ≡ 0 → Tabled ms n E mv sp ct st → Tabled ms n F mv sp ct st
-more-events ms n E F mv sp ct st q T = record {
-  tables = λ k h. let U = T .tables k h .table in record { table = record { entry = U .entry; within = λ s e u m. let w = U .within s e u m in absurd (omega arith) }; marks = T .tables k h .marks };
-  kinds = T .kinds;
-}
+-- the first line: no monitor is there yet
+more-events : (ms : List Monitor) (E F : ℕ) (mv sp ct st : List ℕ) → length ms ≡ 0 → Tabled ms E mv sp ct st → Tabled ms F mv sp ct st
+more-events ms E F mv sp ct st q T = record { tables = λ k h. absurd (omega arith); blank = T .blank; counts = T .counts; starts = T .starts }
 
 -- a monitor more, of the kind k
 abbrev fresh : Kind → Monitor
 fresh k = record { kind = k; parts = [] }
 
-module _ (ms : List Monitor) (n E : ℕ) (k : Kind) (mv sp ct st : List ℕ) (ln : length ms ≡ n) (wide : length ct ≡ 4) (wide-starts : length st ≡ 4) (few : n < 4) (high : statesOf k ≤ 32) (below : startOf k < statesOf k)
-    (T : Tabled ms n E mv sp ct st) where
-  one-more : Tabled (ms ++ (fresh k ∷ [])) (n + 1) E mv sp (set ct n (statesOf k)) (set st n (startOf k))
-  unfolding moveBy markedBy
+module _ (ms : List Monitor) (E : ℕ) (k : Kind) (mv sp mv′ sp′ ct st : List ℕ) (wide : length ct ≡ 4) (wide-starts : length st ≡ 4) (fewE : E ≤ 16) (few : length ms < 4)
+    (ranged : (m : Monitor) → In m ms → statesOf (m .kind) ≤ 32) (beside : (i : ℕ) → i ≢ length ms → Same mv sp mv′ sp′ i)
+    (filled : Blank mv sp (length ms) → OfKind mv′ sp′ (length ms) E k []) (T : Tabled ms E mv sp ct st) where
+  abbrev more : List Monitor
+  more = ms ++ (fresh k ∷ [])
+
+  one-more : Tabled more E mv′ sp′ (set ct (length ms) (statesOf k)) (set st (length ms) (startOf k))
   one-more = record {
-    tables = λ i h. ⊎-elim (before i h) (⊎-elim (at i h) (after i h)) (ℕ-trichotomy i (length ms));
-    kinds = λ i h. ⊎-elim (new i) (old i) (eq-or-lt-of-le (within i h));
+    tables = λ i h. ⊎-elim (λ q. table-at i q) (table-before i) (eq-or-lt-of-le (within i h));
+    blank = λ i h l. same-blank mv sp mv′ sp′ i (beside i (λ q. omega (arith, longer))) (T .blank i (omega (arith, longer)) l);
+    counts = λ i h. ⊎-elim (λ q. ap (λ j. getD (set ct (length ms) (statesOf k)) j 0) q ∙ getD-set-same ct (length ms) (statesOf k) 0 (omega arith) ∙ ap (λ m. statesOf (m .kind)) (sym (new-at ms (fresh k) i q)))
+        (λ l. rw (new-before ms (fresh k) i l) (getD-set-other ct (length ms) i (statesOf k) 0 (λ q. omega arith) ∙ T .counts i l)) (eq-or-lt-of-le (within i h));
+    starts = λ i h. ⊎-elim (λ q. ap (λ j. getD (set st (length ms) (startOf k)) j 0) q ∙ getD-set-same st (length ms) (startOf k) 0 (omega arith) ∙ ap (λ m. startOf (m .kind)) (sym (new-at ms (fresh k) i q)))
+        (λ l. rw (new-before ms (fresh k) i l) (getD-set-other st (length ms) i (startOf k) 0 (λ q. omega arith) ∙ T .starts i l)) (eq-or-lt-of-le (within i h));
   }
     where
-      within : (i : ℕ) → i < n + 1 → i ≤ n
-      within i h = omega arith
+      longer : length more ≡ length ms + 1
+      longer = length-append ms (fresh k ∷ [])
 
-      new : (i : ℕ) → i ≡ n → OfKind (monitorAt (ms ++ (fresh k ∷ [])) i .kind) (getD (set ct n (statesOf k)) i 0) (getD (set st n (startOf k)) i 0)
-      new i q = rw (new-at ms (fresh k) i (q ∙ sym ln), q) (record {
-        count-is = getD-set-same ct n (statesOf k) 0 (omega arith);
-        start-is = getD-set-same st n (startOf k) 0 (omega arith);
-        few-states = high;
-        start-below = below;
-      })
+      within : (i : ℕ) → i < length more → i ≤ length ms
+      within i h = omega (arith, longer)
 
-      old : (i : ℕ) → i < n → OfKind (monitorAt (ms ++ (fresh k ∷ [])) i .kind) (getD (set ct n (statesOf k)) i 0) (getD (set st n (startOf k)) i 0)
-      old i l = rw (new-before ms (fresh k) i (omega arith), getD-set-other ct n i (statesOf k) 0 (λ q. omega arith), getD-set-other st n i (startOf k) 0 (λ q. omega arith)) (T .kinds i l)
+      table-at : (i : ℕ) → i ≡ length ms → OfKind mv′ sp′ i E (monitorAt more i .kind) (monitorAt more i .parts)
+      table-at i q = rw (q, new-at ms (fresh k) (length ms) refl) (filled (T .blank (length ms) (omega arith) few))
 
-      before : (i : ℕ) → i < 4 → i < length ms → OfMonitor mv sp i E (monitorAt (ms ++ (fresh k ∷ [])) i)
-      before i h l = rw (new-before ms (fresh k) i l) (T .tables i h)
-
-      -- there was no monitor, so no line
-      at : (i : ℕ) → i < 4 → i ≡ length ms → OfMonitor mv sp i E (monitorAt (ms ++ (fresh k ∷ [])) i)
-      at i h q =
-          let none : monitorAt ms i ≡ nobody = List·getD-eq-default ms nobody {n = i} (omega arith) in
-          rw (new-at ms (fresh k) i q) (record {
-            table = table-blank mv i E (statesOf k) (λ x y hx hy. T .tables i h .table .entry x y hx hy ∙ ap (λ m. Option·getD (moveBy (m .parts) x y) 255) none);
-            marks = marks-blank sp i (statesOf k) (λ x hx. T .tables i h .marks .entry x hx ∙ ap (λ m. pick (markedBy (m .parts) x) 1 0) none);
-          })
-
-      after : (i : ℕ) → i < 4 → length ms < i → OfMonitor mv sp i E (monitorAt (ms ++ (fresh k ∷ [])) i)
-      after i h l = rw (new-after ms (fresh k) i l) (T .tables i h)
+      table-before : (i : ℕ) → i < length ms → OfKind mv′ sp′ i E (monitorAt more i .kind) (monitorAt more i .parts)
+      table-before i l = rw (new-before ms (fresh k) i l) (same-kind mv sp mv′ sp′ i (beside i (λ q. omega arith)) E (monitorAt ms i .kind) (monitorAt ms i .parts) fewE (ranged (monitorAt ms i) (getD-in ms i nobody l)) (T .tables i l))
 
 kind-addPart : (p : Part) (ms : List Monitor) (i : ℕ) → monitorAt (addPart p ms) i .kind ≡ monitorAt ms i .kind
 kind-addPart p ms i = case (eqb (suc i) (length ms)) (λ q. ap (λ m. m .kind) (addPart-at p ms i (eqb-true (suc i) (length ms) q))) (λ q. ap (λ m. m .kind) (addPart-beside p ms i (eqb-false (suc i) (length ms) q)))
 
 -- a line p more of the monitor m, which is the last: what it makes of that monitor's part of the tables, and that it leaves the others' parts
-module _ (p : Part) (ms : List Monitor) (n E m : ℕ) (mv sp mv′ sp′ ct st : List ℕ) (last : suc m ≡ length ms) (hm : m < 4)
-    (at : OfMonitor mv sp m E (monitorAt ms m) → OfMonitor mv′ sp′ m E (record { kind = monitorAt ms m .kind; parts = monitorAt ms m .parts ++ (p ∷ []) }))
-    (beside : (k : ℕ) → (k ≡ m → ⊥) → (x : Monitor) → OfMonitor mv sp k E x → OfMonitor mv′ sp′ k E x) where
-  one-part : Tabled ms n E mv sp ct st → Tabled (addPart p ms) n E mv′ sp′ ct st
+module _ (p : Part) (ms : List Monitor) (E m : ℕ) (mv sp mv′ sp′ ct st : List ℕ) (last : suc m ≡ length ms) (fewE : E ≤ 16) (ranged : (m : Monitor) → In m ms → statesOf (m .kind) ≤ 32)
+    (at : OfKind mv sp m E (monitorAt ms m .kind) (monitorAt ms m .parts) → OfKind mv′ sp′ m E (monitorAt ms m .kind) (monitorAt ms m .parts ++ (p ∷ [])))
+    (beside : (i : ℕ) → i ≢ m → Same mv sp mv′ sp′ i) where
+  one-part : Tabled ms E mv sp ct st → Tabled (addPart p ms) E mv′ sp′ ct st
   one-part T = record {
-    tables = λ k h. case (eqb k m) (λ q. here k (eqb-true k m q)) (λ q. there k h (eqb-false k m q));
-    kinds = λ k h. rw (kind-addPart p ms k) (T .kinds k h);
+    tables = λ k h. case (eqb k m) (λ q. here k (eqb-true k m q)) (λ q. there k (omega (arith, length-addPart p ms)) (eqb-false k m q));
+    blank = λ k h l. same-blank mv sp mv′ sp′ k (beside k (λ q. omega (arith, length-addPart p ms))) (T .blank k (omega (arith, length-addPart p ms)) l);
+    counts = λ k h. rw (kind-addPart p ms k) (T .counts k (omega (arith, length-addPart p ms)));
+    starts = λ k h. rw (kind-addPart p ms k) (T .starts k (omega (arith, length-addPart p ms)));
   }
     where
-      here : (k : ℕ) → k ≡ m → OfMonitor mv′ sp′ k E (monitorAt (addPart p ms) k)
-      here k q = rw (q, addPart-at p ms m last) (at (T .tables m hm))
+      here : (k : ℕ) → k ≡ m → OfKind mv′ sp′ k E (monitorAt (addPart p ms) k .kind) (monitorAt (addPart p ms) k .parts)
+      here k q = rw (q, addPart-at p ms m last) (at (T .tables m (omega arith)))
 
-      there : (k : ℕ) → k < 4 → (k ≡ m → ⊥) → OfMonitor mv′ sp′ k E (monitorAt (addPart p ms) k)
-      there k h ne = rw (addPart-beside p ms k (λ q. ne (omega arith))) (beside k ne (monitorAt ms k) (T .tables k h))
+      there : (k : ℕ) → k < length ms → (k ≡ m → ⊥) → OfKind mv′ sp′ k E (monitorAt (addPart p ms) k .kind) (monitorAt (addPart p ms) k .parts)
+      there k h ne = rw (addPart-beside p ms k (λ q. ne (omega arith))) (same-kind mv sp mv′ sp′ k (beside k ne) E (monitorAt ms k .kind) (monitorAt ms k .parts) fewE (ranged (monitorAt ms k) (getD-in ms k nobody h)) (T .tables k h))
 
 module _ (r : Rig) (ls : List Line) (z : Sizes) (mv sp ct st os : List ℕ) (H : Holds r ls z mv sp ct st os) where
+  kept : (m : Monitor) → In m (monitors ls) → Kept (eventsOf ls) m
+  kept = H .formed .monitored .each
+
+  ranged : (m : Monitor) → In m (monitors ls) → statesOf (m .kind) ≤ 32
+  ranged m i = few-states (eventsOf ls) (m .kind) (kept m i .ranged)
+
+  few-z : z .events ≤ 16
+  few-z = rw (← H .events-are) (few-events ls (H .formed))
+
+  pub begun-z : empty ls ≡ eqb (z .events) 0
+  begun-z = some-event ls (H .formed) ∙ ap (λ n. eqb n 0) (H .events-are)
+
+  -- the latest monitor, where there is one
+  abbrev last : Monitor
+  last = monitorAt (monitors ls) (z .monitors - 1)
+
+  last-kept : 1 ≤ z .monitors → Kept (eventsOf ls) last
+  last-kept h = kept last (getD-in (monitors ls) (z .monitors - 1) nobody (omega (arith, H .monitors-are)))
+
+  none-named : z .monitors ≡ 0 → monStates (z .latest) ≡ 0
+  none-named q = rw (← H .latest-is, q) (nothing (monitors ls) (H .monitors-are ∙ q))
+    where
+      nothing : (ms : List Monitor) → length ms ≡ 0 → monStates (kindOf (monitorAt ms (0 - 1) .kind)) ≡ 0
+      nothing [] e = refl
+      nothing (m ∷ ms) e = absurd (omega arith)
+
+  pub room : Allowed z
+  room = record {
+    few-events = few-z;
+    few-monitors = rw (← H .monitors-are) (H .formed .monitored .few);
+    few-latest = case (eqb (z .monitors) 0) (λ q. omega (arith, none-named (eqb-true _ 0 q)))
+        (λ q. rw (← H .latest-is) (few-named (eventsOf ls) (last .kind) (last-kept (omega (arith, eqb-false (z .monitors) 0 q)) .ranged)));
+    none-latest = none-named;
+    few-joint = rw (← H .joint-is) (H .formed .monitored .small);
+  }
+
   -- ---- the reader's tests are the paper's
 
   rig-case : (e : ℕ) → rigCase z e ≡ lineCase ls (rig e)
   unfolding rigCase lineCase tests
-  rig-case e = rw (H .begun)
+  rig-case e = rw begun-z
 
-  mon-case : (s a : ℕ) → monCase z s a ≡ lineCase ls (begins (mon s a))
-  unfolding monCase lineCase tests testBeginning statesOf
-  mon-case s a = rw (H .begun, H .monitors-are, H .joint-is)
+  kind-case : (k : Kind) → kindCase z (kindOf k) ≡ lineCase ls (begins k)
+  unfolding kindCase lineCase tests testBeginning
+  kind-case k = rw (as-kind k, begun-z, H .events-are, H .monitors-are, H .joint-is)
 
-  none-yet : empty ls ≡ true → z .monitors ≡ 0
-  unfolding monitors monitorsFrom
-  none-yet p = sym (H .monitors-are) ∙ ap (λ l. length (monitors l)) (empty-nil ls p)
+  misplaced : not (ofLatest (λ m. isMon (m .kind)) (latest (monitors ls))) ≡ eqb (monStates (z .latest)) 0
+  unfolding ofLatest
+  misplaced = case (eqb (z .monitors) 0)
+      (λ q. rw (none-named (eqb-true (z .monitors) 0 q)) (nothing (monitors ls) (H .monitors-are ∙ eqb-true (z .monitors) 0 q)))
+      (λ q. let h = eqb-false (z .monitors) 0 q in rw (latest-at (monitors ls) (z .monitors - 1) (omega (arith, H .monitors-are)), ← H .latest-is) (mon-named (eventsOf ls) (last .kind) (last-kept (omega arith) .ranged)))
+    where
+      nothing : (ms : List Monitor) → length ms ≡ 0 → not (ofLatest (λ m. isMon (m .kind)) (latest ms)) ≡ true
+      nothing [] e = unfold latest ofLatest in refl
+      nothing (m ∷ ms) e = absurd (omega arith)
 
-  misplaced : (empty ls || empty (monitors ls)) ≡ eqb (z .monitors) 0
-  misplaced = case (empty ls) (λ p. rw p (sym (eq-eqb _ _ (none-yet p)))) (λ p. rw p (empty-length (monitors ls) ∙ ap (λ n. eqb n 0) (H .monitors-are)))
+  -- the latest monitor, which is a `mon`
+  module _ (placed : eqb (monStates (z .latest)) 0 ≡ false) where
+    some-monitor : 1 ≤ z .monitors
+    some-monitor = case (eqb (z .monitors) 0) (λ q. absurd (eqb-false (monStates (z .latest)) 0 placed (none-named (eqb-true _ 0 q)))) (λ q. omega (arith, eqb-false (z .monitors) 0 q))
 
-  -- the latest monitor
-  module _ (some-monitor : eqb (z .monitors) 0 ≡ false) where
-    last : suc (z .monitors - 1) ≡ length (monitors ls)
-    last = let h = eqb-false (z .monitors) 0 some-monitor in let k : z .monitors ≡ length (monitors ls) = sym (H .monitors-are) in positive (z .monitors) h ∙ k
-      where
-        positive : (n : ℕ) → (n ≡ 0 → ⊥) → suc (n - 1) ≡ n
-        positive n h = omega arith
+    last-at : suc (z .monitors - 1) ≡ length (monitors ls)
+    last-at = omega (arith, some-monitor, H .monitors-are)
 
-    latest-is-last : latest (monitors ls) ≡ some (monitorAt (monitors ls) (z .monitors - 1))
-    latest-is-last = latest-at (monitors ls) (z .monitors - 1) last
+    latest-is-last : latest (monitors ls) ≡ some last
+    latest-is-last = latest-at (monitors ls) (z .monitors - 1) last-at
 
-    last-states : statesAt (monitors ls) (z .monitors - 1) ≡ z .latest
-    last-states = H .latest-is (z .monitors - 1) (last ∙ H .monitors-are)
+    last-mon : (S : ℕ) × (a : ℕ) × (last .kind ≡ mon S a) × (monStates (z .latest) ≡ S)
+    last-mon = let (S, a, q, e) = is-mon (last .kind) (rw (H .latest-is) placed) in (S, a, q, ap monStates (sym (H .latest-is)) ∙ e)
+
+    last-states : statesOf (last .kind) ≡ monStates (z .latest)
+    unfolding statesOf
+    last-states = let (S, a, q, e) = last-mon in rw (q, e)
+
+    -- its lines move to its states
+    moves-within : (s e u : ℕ) → moveBy (last .parts) s e ≡ some u → u < monStates (z .latest)
+    unfolding PartRanged
+    moves-within s e u q = rw (← last-states) (last-kept some-monitor .parts-ranged (go s e u) (moved (last .parts) s e u q) .2)
+
+    last-table : OfKind mv sp (z .monitors - 1) (z .events) (last .kind) (last .parts)
+    last-table = H .tabled .tables (z .monitors - 1) (omega (arith, last-at))
 
     out-of-range : (s e t : ℕ)
-        → ofLatest (λ m. leb (statesOf (m .kind)) s || (leb (eventsOf ls) e || leb (statesOf (m .kind)) t)) (latest (monitors ls)) ≡ (leb (z .latest) s || (leb (z .events) e || leb (z .latest) t))
+        → ofLatest (λ m. leb (statesOf (m .kind)) s || (leb (eventsOf ls) e || leb (statesOf (m .kind)) t)) (latest (monitors ls))
+        ≡ (leb (monStates (z .latest)) s || (leb (z .events) e || leb (monStates (z .latest)) t))
     unfolding ofLatest
     out-of-range s e t = rw (latest-is-last, last-states, H .events-are)
 
-    again : (s e t : ℕ) → (leb (z .latest) s || (leb (z .events) e || leb (z .latest) t)) ≡ false → ofLatest (λ m. isSome (moveBy (m .parts) s e)) (latest (monitors ls)) ≡ not (eqb (moveAt mv (z .monitors - 1) s e) 255)
+    again : (s e t : ℕ) → (leb (monStates (z .latest)) s || (leb (z .events) e || leb (monStates (z .latest)) t)) ≡ false
+        → ofLatest (λ m. isSome (moveBy (m .parts) s e)) (latest (monitors ls)) ≡ not (eqb (moveAt mv (z .monitors - 1) s e) 255)
     unfolding ofLatest
     again s e t p =
-        let a = leb-false (z .latest) s (or-left (leb (z .latest) s) _ p) in
-        let b = leb-false (z .events) e (or-left (leb (z .events) e) _ (or-rest (leb (z .latest) s) _ p)) in
-        let room = H .room in
-        ap (ofLatest (λ m. isSome (moveBy (m .parts) s e))) latest-is-last ∙ seen mv (z .monitors - 1) _ _ _ (H .tabled .tables (z .monitors - 1) (omega (arith, room .few-monitors)) .table) (rw last-states (room .few-latest)) s e (omega (arith, room .few-latest)) (omega (arith, room .few-events))
+        let (S, a, q, n) = last-mon in
+        let hs = leb-false (monStates (z .latest)) s (or-left (leb (monStates (z .latest)) s) _ p) in
+        let he = leb-false (z .events) e (or-left (leb (z .events) e) _ (or-rest (leb (monStates (z .latest)) s) _ p)) in
+        rw latest-is-last (seen mv sp (z .monitors - 1) (z .events) S a (last .parts) (subst (λ k. OfKind mv sp (z .monitors - 1) (z .events) k (last .parts)) q last-table)
+        (rw (← n) (room .few-latest)) (λ s e u m. rw (← n) (moves-within s e u m)) s e (rw (← n) hs) he)
 
-    state-out-of-range : (s : ℕ) → ofLatest (λ m. leb (statesOf (m .kind)) s) (latest (monitors ls)) ≡ leb (z .latest) s
+    state-out-of-range : (s : ℕ) → ofLatest (λ m. leb (statesOf (m .kind)) s) (latest (monitors ls)) ≡ leb (monStates (z .latest)) s
     unfolding ofLatest
     state-out-of-range s = rw (latest-is-last, last-states)
 
-    marked-again : (s : ℕ) → leb (z .latest) s ≡ false → ofLatest (λ m. markedBy (m .parts) s) (latest (monitors ls)) ≡ not (eqb (stopAt sp (z .monitors - 1) s) 0)
+    marked-again : (s : ℕ) → leb (monStates (z .latest)) s ≡ false → ofLatest (λ m. markedBy (m .parts) s) (latest (monitors ls)) ≡ not (eqb (stopAt sp (z .monitors - 1) s) 0)
     unfolding ofLatest
     marked-again s p =
-        let a = leb-false (z .latest) s p in
-        let room = H .room in
-        ap (ofLatest (λ m. markedBy (m .parts) s)) latest-is-last ∙ seen-mark sp (z .monitors - 1) _ _ (H .tabled .tables (z .monitors - 1) (omega (arith, room .few-monitors)) .marks) s (omega (arith, room .few-latest))
+        let (S, a, q, n) = last-mon in
+        rw latest-is-last (seen-mark mv sp (z .monitors - 1) (z .events) S a (last .parts) (subst (λ k. OfKind mv sp (z .monitors - 1) (z .events) k (last .parts)) q last-table)
+        (rw (← n) (room .few-latest)) s (rw (← n) (leb-false (monStates (z .latest)) s p)))
 
   go-case : (s e t : ℕ) → goCase mv z s e t ≡ lineCase ls (continues (go s e t))
   unfolding goCase lineCase tests testContinuing
@@ -250,8 +339,8 @@ module _ (r : Rig) (ls : List Line) (z : Sizes) (mv sp ct st os : List ℕ) (H :
   pub case-is : (l : Line) (line : ℕ) (left : List ℕ) → suc (length ls) ≡ line → Leaves l os left → caseOf mv sp left z line (formOf l) ≡ lineCase ls l
   unfolding lineCase tests
   case-is (rig e) line left n q = rig-case e
-  case-is (ord es) line left n q = rw q (ord-case ls z line es os (H .events-are) (H .room .few-events) n (H .wide-order))
-  case-is (begins (mon s a)) line left n q = mon-case s a
+  case-is (ord es) line left n q = rw q (ord-case ls z line es os (H .events-are) few-z n (H .wide-order))
+  case-is (begins k) line left n q = kind-case k
   case-is (continues (go s e t)) line left n q = go-case s e t
   case-is (continues (stop s)) line left n q = stop-case s
   case-is other line left n q = refl
@@ -261,27 +350,28 @@ module _ (r : Rig) (ls : List Line) (z : Sizes) (mv sp ct st os : List ℕ) (H :
   recorded-more : (l : Line) → recordFrom r (ls ++ (l ∷ [])) ≡ withLine (record { moves = mv; stops = sp; counts = ct; starts = st; order = os; monitors = z .monitors; events = z .events }) l
   recorded-more l = recordFrom-snoc r ls l ∙ ap (λ q. withLine q l) (H .recorded)
 
+  formed-more : (l : Line) → lineCase ls l ≡ 0 → Formed (ls ++ (l ∷ []))
+  formed-more l q = sound-formed ls l (H .formed) (case-sound ls l q)
+
   holds-rig : (e : ℕ) → rigCase z e ≡ 0 → Holds r (ls ++ (rig e ∷ [])) (rigSizes z e) mv sp ct st os
   unfolding rigCase withLine extended eventsOf reordered
   holds-rig e q =
       let (p, q₁) = pick-zero (not (eqb (z .events) 0)) 5 _ (omega arith) q in
-      let (o, q₂) = pick-zero (outside 1 16 e) 3 0 (omega arith) q₁ in
-      let low : 1 ≤ e = ltb-false e 1 (or-left (ltb e 1) (ltb 16 e) o) in
-      let high : e ≤ 16 = ltb-false 16 e (or-rest (ltb e 1) (ltb 16 e) o) in
       let first : eqb (z .events) 0 ≡ true = not-false _ p in
-      let none : ls ≡ [] = empty-nil ls (H .begun ∙ first) in
+      let none : ls ≡ [] = empty-nil ls (begun-z ∙ first) in
       let ms : monitors (ls ++ (rig e ∷ [])) ≡ monitors ls = monitors-more ls (rig e) in
+      let formed : Formed (ls ++ (rig e ∷ [])) = formed-more (rig e) (sym (rig-case e) ∙ q) in
+      let events : eventsOf (ls ++ (rig e ∷ [])) ≡ e = rw none in
       record {
-        events-are = rw none;
-        begun = empty-snoc ls (rig e) ∙ sym (ne-eqb e 0 (λ n. omega arith));
+        formed = formed;
+        events-are = events;
         monitors-are = rw ms (H .monitors-are);
         joint-is = rw ms (H .joint-is);
         latest-is = rw ms (H .latest-is);
-        tabled = rw ms (more-events (monitors ls) (z .monitors) (z .events) e mv sp ct st (eqb-true (z .events) 0 first) (H .tabled));
-        ordered = ap (take e) (H .unordered (eqb-true (z .events) 0 first)) ∙ take-range e 16 high ∙ sym (order-more ls (rig e));
-        unordered = λ n. absurd (omega arith);
+        tabled = rw ms (more-events (monitors ls) (z .events) e mv sp ct st (no-monitor ls (begun-z ∙ first)) (H .tabled));
+        ordered = ap (take e) (H .unordered (eqb-true (z .events) 0 first)) ∙ take-range e 16 (rw (← events) (few-events _ formed)) ∙ sym (order-more ls (rig e));
+        unordered = λ n. contra (eq-eqb e 0 n) (ap (λ n. eqb n 0) (sym events) ∙ sym (some-event _ formed) ∙ empty-snoc ls (rig e));
         recorded = recorded-more (rig e);
-        room = record { few-events = high; few-monitors = H .room .few-monitors; few-latest = H .room .few-latest; few-joint = H .room .few-joint };
         long = H .long;
         wide-stops = H .wide-stops;
         wide = H .wide;
@@ -290,112 +380,103 @@ module _ (r : Rig) (ls : List Line) (z : Sizes) (mv sp ct st os : List ℕ) (H :
       }
 
   -- a line that begins a monitor of the kind k
-  holds-begins : (k : Kind) → eqb (z .events) 0 ≡ false → z .monitors < 4 → statesOf k ≤ 32 → startOf k < statesOf k → z .joint * statesOf k ≤ 1024
-      → Holds r (ls ++ (begins k ∷ [])) (record { events = z .events; monitors = z .monitors + 1; latest = statesOf k; joint = z .joint * statesOf k }) mv sp (set ct (z .monitors) (statesOf k)) (set st (z .monitors) (startOf k)) os
+  holds-begins : (k : Kind) → kindCase z (kindOf k) ≡ 0
+      → Holds r (ls ++ (begins k ∷ [])) (record { events = z .events; monitors = z .monitors + 1; latest = kindOf k; joint = z .joint * statesOf k })
+      (kindMoves mv (z .monitors) (z .events) k) (kindStops sp (z .monitors) k) (set ct (z .monitors) (statesOf k)) (set st (z .monitors) (startOf k)) os
   unfolding withLine extended reordered
-  holds-begins k p few high below small =
+  holds-begins k q =
+      let sound = case-sound ls (begins k) (sym (kind-case k) ∙ q) in
+      let (range, few, small) = begun ls k sound in
+      let fewS : statesOf k ≤ 32 = few-states (eventsOf ls) k range in
+      let few-m : z .monitors < 4 = rw (← H .monitors-are) few in
       let ms : monitors (ls ++ (begins k ∷ [])) ≡ monitors ls ++ (fresh k ∷ []) = monitors-more ls (begins k) in
+      let not-empty : empty ls ≡ false = case (empty ls) (λ e. absurd (sound .placed (unfold Case5 cases beginning in empty-nil ls e))) (λ e. e) in
       record {
-        events-are = events-snoc ls (begins k) (H .begun ∙ p) ∙ H .events-are;
-        begun = empty-snoc ls (begins k) ∙ sym p;
+        formed = sound-formed ls (begins k) (H .formed) sound;
+        events-are = events-snoc ls (begins k) not-empty ∙ H .events-are;
         monitors-are = rw (ms, length-append, H .monitors-are);
         joint-is = rw (ms, product-append, H .joint-is);
-        latest-is = λ i l. rw (ms, new-at (monitors ls) (fresh k) i (omega (arith, H .monitors-are)));
-        tabled = rw ms (one-more (monitors ls) (z .monitors) (z .events) k mv sp ct st (H .monitors-are) (H .wide) (H .wide-starts) few high below (H .tabled));
+        latest-is = rw ms (ap (λ m. kindOf (m .kind)) (new-at (monitors ls) (fresh k) (z .monitors + 1 - 1) (omega (arith, H .monitors-are))));
+        tabled = rw (ms, ← H .monitors-are) (one-more (monitors ls) (z .events) k mv sp (kindMoves mv (length (monitors ls)) (z .events) k) (kindStops sp (length (monitors ls)) k) ct st (H .wide) (H .wide-starts) few-z few ranged
+            (λ i ne. record {
+              moves = λ x y hx hy. moves-beside mv sp (length (monitors ls)) (z .events) k few few-z fewS (H .long) (H .wide-stops) i x y ne hx hy;
+              stops = λ x hx. stops-beside mv sp (length (monitors ls)) (z .events) k few few-z fewS (H .long) (H .wide-stops) i x ne hx;
+            })
+            (fills mv sp (length (monitors ls)) (z .events) k few few-z fewS (H .long) (H .wide-stops)) (H .tabled));
         ordered = H .ordered ∙ sym (order-more ls (begins k));
         unordered = H .unordered;
         recorded = recorded-more (begins k);
-        room = record { few-events = H .room .few-events; few-monitors = omega arith; few-latest = high; few-joint = small };
-        long = H .long;
-        wide-stops = H .wide-stops;
+        long = length-moves mv sp (z .monitors) (z .events) k few-m few-z fewS (H .long) (H .wide-stops);
+        wide-stops = length-stops mv sp (z .monitors) (z .events) k few-m few-z fewS (H .long) (H .wide-stops);
         wide = length-set ct (z .monitors) (statesOf k) ∙ H .wide;
         wide-starts = length-set st (z .monitors) (startOf k) ∙ H .wide-starts;
         wide-order = H .wide-order;
       }
 
-  holds-mon : (s a : ℕ) → monCase z s a ≡ 0 → Holds r (ls ++ (begins (mon s a) ∷ [])) (monSizes z s) mv sp (monCounts ct z s) (monStarts st z a) os
-  unfolding monCase statesOf startOf
-  holds-mon s a q =
-      let (p, q₁) = pick-zero (eqb (z .events) 0) 5 _ (omega arith) q in
-      let (o, q₂) = pick-zero ((outside 1 32 s || leb s a) || leb 4 (z .monitors)) 3 _ (omega arith) q₁ in
-      let (j, q₃) = pick-zero (ltb 1024 (z .joint * s)) 6 0 (omega arith) q₂ in
-      let range = or-left (outside 1 32 s || leb s a) _ o in
-      holds-begins (mon s a) p
-      (leb-false 4 (z .monitors) (or-rest (outside 1 32 s || leb s a) _ o))
-      (ltb-false 32 s (or-rest (ltb s 1) _ (or-left (outside 1 32 s) _ range)))
-      (leb-false s a (or-rest (outside 1 32 s) _ range))
-      (ltb-false 1024 (z .joint * s) j)
-
   -- a line p of the latest monitor, with what it makes of the tables
-  holds-continues : (p : Part) (mv′ sp′ : List ℕ) → eqb (z .monitors) 0 ≡ false → length mv′ ≡ 2048 → length sp′ ≡ 128
+  holds-continues : (p : Part) (mv′ sp′ : List ℕ) → 1 ≤ z .monitors → lineCase ls (continues p) ≡ 0 → length mv′ ≡ 2048 → length sp′ ≡ 128
       → withPart (record { moves = mv; stops = sp; counts = ct; starts = st; order = os; monitors = z .monitors; events = z .events }) p
       ≡ record { moves = mv′; stops = sp′; counts = ct; starts = st; order = os; monitors = z .monitors; events = z .events }
-      → Tabled (addPart p (monitors ls)) (z .monitors) (z .events) mv′ sp′ ct st
+      → Tabled (addPart p (monitors ls)) (z .events) mv′ sp′ ct st
       → Holds r (ls ++ (continues p ∷ [])) z mv′ sp′ ct st os
   unfolding withLine extended reordered
-  holds-continues p mv′ sp′ some-monitor long wide-stops made tabled =
-      let begun : empty ls ≡ false = case (empty ls) (λ w. contra (eq-eqb (z .monitors) 0 (none-yet w)) some-monitor) (λ w. w) in
+  holds-continues p mv′ sp′ some-monitor sound long wide-stops made tabled =
       let ms : monitors (ls ++ (continues p ∷ [])) ≡ addPart p (monitors ls) = monitors-more ls (continues p) in
       record {
-        events-are = events-snoc ls (continues p) begun ∙ H .events-are;
-        begun = empty-snoc ls (continues p) ∙ sym begun ∙ H .begun;
+        formed = formed-more (continues p) sound;
+        events-are = events-snoc ls (continues p) not-empty ∙ H .events-are;
         monitors-are = rw (ms, length-addPart) (H .monitors-are);
         joint-is = rw (ms, product-addPart) (H .joint-is);
-        latest-is = λ k l. rw ms (ap statesOf (kind-addPart p (monitors ls) k) ∙ H .latest-is k l);
+        latest-is = rw ms (ap kindOf (kind-addPart p (monitors ls) (z .monitors - 1)) ∙ H .latest-is);
         tabled = rw ms tabled;
         ordered = H .ordered ∙ sym (order-more ls (continues p));
         unordered = H .unordered;
         recorded = recorded-more (continues p) ∙ made;
-        room = H .room;
         long = long;
         wide-stops = wide-stops;
         wide = H .wide;
         wide-starts = H .wide-starts;
         wide-order = H .wide-order;
       }
+    where
+      not-empty : empty ls ≡ false
+      not-empty = case (empty ls) (λ e. absurd (omega (arith, no-monitor ls e, H .monitors-are))) (λ e. e)
 
   holds-go : (s e t : ℕ) → goCase mv z s e t ≡ 0 → Holds r (ls ++ (continues (go s e t) ∷ [])) z (goMoves mv z s e t) sp ct st os
   unfolding goCase withPart
   holds-go s e t q =
-      let (p, q₁) = pick-zero (eqb (z .monitors) 0) 5 _ (omega arith) q in
-      let (o, q₂) = pick-zero (leb (z .latest) s || (leb (z .events) e || leb (z .latest) t)) 3 _ (omega arith) q₁ in
-      let (a, q₃) = pick-zero (not (eqb (moveAt mv (z .monitors - 1) s e) 255)) 4 0 (omega arith) q₂ in
-      let rest = or-rest (leb (z .latest) s) _ o in
-      let hs : s < z .latest = leb-false (z .latest) s (or-left (leb (z .latest) s) _ o) in
+      let (p, q₁) = pick-zero (eqb (monStates (z .latest)) 0) 5 _ (omega arith) q in
+      let (o, q₂) = pick-zero (leb (monStates (z .latest)) s || (leb (z .events) e || leb (monStates (z .latest)) t)) 3 _ (omega arith) q₁ in
+      let (f, q₃) = pick-zero (not (eqb (moveAt mv (z .monitors - 1) s e) 255)) 4 0 (omega arith) q₂ in
+      let rest = or-rest (leb (monStates (z .latest)) s) _ o in
+      let hs : s < monStates (z .latest) = leb-false (monStates (z .latest)) s (or-left (leb (monStates (z .latest)) s) _ o) in
       let he : e < z .events = leb-false (z .events) e (or-left (leb (z .events) e) _ rest) in
-      let ht : t < z .latest = leb-false (z .latest) t (or-rest (leb (z .events) e) _ rest) in
-      let free : moveAt mv (z .monitors - 1) s e ≡ 255 = eqb-true _ 255 (not-false _ a) in
-      let few : z .latest ≤ 32 = H .room .few-latest in
-      let fewE : z .events ≤ 16 = H .room .few-events in
-      let hm : z .monitors - 1 < 4 = omega (arith, H .room .few-monitors) in
-      let S = statesAt (monitors ls) (z .monitors - 1) in
-      let ps = monitorAt (monitors ls) (z .monitors - 1) .parts in
-      holds-continues (go s e t) (goMoves mv z s e t) sp p (length-set mv (moveIndex (z .monitors - 1) s e) t ∙ H .long) (H .wide-stops) refl
-      (one-part (go s e t) (monitors ls) (z .monitors) (z .events) (z .monitors - 1) mv sp (goMoves mv z s e t) sp ct st (last p) hm
-      (λ T. record {
-        table = table-go mv (z .monitors - 1) s e t ps (z .events) S (T .table) hm (H .long) (rw (last-states p) few) fewE (rw (last-states p) hs) he (rw (last-states p) ht) free;
-        marks = marks-go sp (z .monitors - 1) s e t ps S (T .marks);
-      })
-      (λ k ne x T. record { table = table-beside mv k (z .monitors - 1) s e t (x .parts) (z .events) (statesOf (x .kind)) ne (omega arith) (omega arith) (T .table); marks = T .marks })
+      let ht : t < monStates (z .latest) = leb-false (monStates (z .latest)) t (or-rest (leb (z .events) e) _ rest) in
+      let few : monStates (z .latest) ≤ 32 = room .few-latest in
+      let hm : z .monitors - 1 < 4 = omega (arith, room .few-monitors, some-monitor p) in
+      let (S, a, k, n) = last-mon p in
+      holds-continues (go s e t) (goMoves mv z s e t) sp (some-monitor p) (sym (go-case s e t) ∙ q) (length-set mv (moveIndex (z .monitors - 1) s e) t ∙ H .long) (H .wide-stops) refl
+      (one-part (go s e t) (monitors ls) (z .events) (z .monitors - 1) mv sp (goMoves mv z s e t) sp ct st (last-at p) few-z ranged
+      (λ T. subst (λ k. OfKind (goMoves mv z s e t) sp (z .monitors - 1) (z .events) k (last .parts ++ (go s e t ∷ []))) (sym k)
+      (with-go mv sp (z .monitors - 1) (z .events) S a (last .parts) (subst (λ k. OfKind mv sp (z .monitors - 1) (z .events) k (last .parts)) k T) (rw (← n) few) s e t hm (H .long) few-z (rw (← n) hs) he (rw (← n) ht)
+      (λ s e u m. rw (← n) (moves-within p s e u m)) (eqb-true _ 255 (not-false _ f))))
+      (λ i ne. go-beside mv sp i (z .monitors - 1) s e t ne (omega arith) (omega (arith, few-z)))
       (H .tabled))
 
   holds-stop : (s : ℕ) → stopCase sp z s ≡ 0 → Holds r (ls ++ (continues (stop s) ∷ [])) z mv (stopStops sp z s) ct st os
   unfolding stopCase withPart
   holds-stop s q =
-      let (p, q₁) = pick-zero (eqb (z .monitors) 0) 5 _ (omega arith) q in
-      let (o, q₂) = pick-zero (leb (z .latest) s) 3 _ (omega arith) q₁ in
-      let hs : s < z .latest = leb-false (z .latest) s o in
-      let few : z .latest ≤ 32 = H .room .few-latest in
-      let hm : z .monitors - 1 < 4 = omega (arith, H .room .few-monitors) in
-      let S = statesAt (monitors ls) (z .monitors - 1) in
-      let ps = monitorAt (monitors ls) (z .monitors - 1) .parts in
-      holds-continues (stop s) mv (stopStops sp z s) p (H .long) (length-set sp (stopIndex (z .monitors - 1) s) 1 ∙ H .wide-stops) refl
-      (one-part (stop s) (monitors ls) (z .monitors) (z .events) (z .monitors - 1) mv sp mv (stopStops sp z s) ct st (last p) hm
-      (λ T. record {
-        table = table-stop mv (z .monitors - 1) s ps (z .events) S (T .table);
-        marks = marks-stop sp (z .monitors - 1) s ps S (T .marks) hm (H .wide-stops) (rw (last-states p) few) (rw (last-states p) hs);
-      })
-      (λ k ne x T. record { table = T .table; marks = marks-beside sp k (z .monitors - 1) s (x .parts) (statesOf (x .kind)) ne (omega arith) (T .marks) })
+      let (p, q₁) = pick-zero (eqb (monStates (z .latest)) 0) 5 _ (omega arith) q in
+      let (o, q₂) = pick-zero (leb (monStates (z .latest)) s) 3 _ (omega arith) q₁ in
+      let hs : s < monStates (z .latest) = leb-false (monStates (z .latest)) s o in
+      let few : monStates (z .latest) ≤ 32 = room .few-latest in
+      let hm : z .monitors - 1 < 4 = omega (arith, room .few-monitors, some-monitor p) in
+      let (S, a, k, n) = last-mon p in
+      holds-continues (stop s) mv (stopStops sp z s) (some-monitor p) (sym (stop-case s) ∙ q) (H .long) (length-set sp (stopIndex (z .monitors - 1) s) 1 ∙ H .wide-stops) refl
+      (one-part (stop s) (monitors ls) (z .events) (z .monitors - 1) mv sp mv (stopStops sp z s) ct st (last-at p) few-z ranged
+      (λ T. subst (λ k. OfKind mv (stopStops sp z s) (z .monitors - 1) (z .events) k (last .parts ++ (stop s ∷ []))) (sym k)
+      (with-stop mv sp (z .monitors - 1) (z .events) S a (last .parts) (subst (λ k. OfKind mv sp (z .monitors - 1) (z .events) k (last .parts)) k T) (rw (← n) few) s hm (H .wide-stops) (rw (← n) hs)))
+      (λ i ne. stop-beside mv sp i (z .monitors - 1) s ne (omega arith))
       (H .tabled))
 
   holds-ord : (es : List ℕ) (line : ℕ) → suc (length ls) ≡ line → ordCase (over es os) z line (length es) ≡ 0 → Holds r (ls ++ (ord es ∷ [])) z mv sp ct st (over es os)
@@ -405,22 +486,20 @@ module _ (r : Rig) (ls : List Line) (z : Sizes) (mv sp ct st os : List ℕ) (H :
       let (w, q₂) = pick-zero (not (eqb (length es) (z .events))) 2 _ (omega arith) q₁ in
       let (o, q₃) = pick-zero (any (leb (z .events)) (take (length es) (over es os))) 3 _ (omega arith) q₂ in
       let full : length es ≡ z .events = eqb-true (length es) (z .events) (not-false _ w) in
-      let few : z .events ≤ 16 = H .room .few-events in
-      let room : length es ≤ length os = omega (arith, H .wide-order) in
-      let left : over es os ≡ es ++ drop (length es) os = over-events (z .events) few es os room (sym (front-any (z .events) few es os room) ∙ o) in
-      let begun : empty ls ≡ false = empty-length ls ∙ ne-eqb (length ls) 0 (λ e. omega (arith, eqb-true line 2 (not-false _ p))) in
+      let enough : length es ≤ length os = omega (arith, few-z, H .wide-order) in
+      let left : over es os ≡ es ++ drop (length es) os = over-events (z .events) few-z es os enough (sym (front-any (z .events) few-z es os enough) ∙ o) in
+      let not-empty : empty ls ≡ false = empty-length ls ∙ ne-eqb (length ls) 0 (λ e. omega (arith, eqb-true line 2 (not-false _ p))) in
       let ms : monitors (ls ++ (ord es ∷ [])) ≡ monitors ls = monitors-more ls (ord es) in
       record {
-        events-are = events-snoc ls (ord es) begun ∙ H .events-are;
-        begun = empty-snoc ls (ord es) ∙ sym begun ∙ H .begun;
+        formed = formed-more (ord es) (sym (ord-case ls z line es os (H .events-are) few-z n (H .wide-order)) ∙ (unfold ordCase in q));
+        events-are = events-snoc ls (ord es) not-empty ∙ H .events-are;
         monitors-are = rw ms (H .monitors-are);
         joint-is = rw ms (H .joint-is);
         latest-is = rw ms (H .latest-is);
         tabled = rw ms (H .tabled);
         ordered = ap₂ take (sym full) left ∙ take-at es (drop (length es) os) (length es) refl ∙ sym (order-more ls (ord es));
-        unordered = λ e. contra (eq-eqb (z .events) 0 e) (sym (H .begun) ∙ begun);
+        unordered = λ e. contra (eq-eqb (z .events) 0 e) (sym begun-z ∙ not-empty);
         recorded = recorded-more (ord es) ∙ rw left;
-        room = H .room;
         long = H .long;
         wide-stops = H .wide-stops;
         wide = H .wide;
@@ -432,7 +511,7 @@ module _ (r : Rig) (ls : List Line) (z : Sizes) (mv sp ct st os : List ℕ) (H :
       → Holds r (ls ++ (l ∷ [])) (sizesAfter z (formOf l)) (movesAfter mv z (formOf l)) (stopsAfter sp z (formOf l)) (countsAfter ct z (formOf l)) (startsAfter st z (formOf l)) left
   holds-more (rig e) line left n k q = rw k (holds-rig e q)
   holds-more (ord es) line left n k q = rw k (holds-ord es line n (rw k at q))
-  holds-more (begins (mon s a)) line left n k q = rw k (holds-mon s a q)
+  holds-more (begins kind) line left n k q = rw (k, as-kind kind) (holds-begins kind q)
   holds-more (continues (go s e t)) line left n k q = rw k (holds-go s e t q)
   holds-more (continues (stop s)) line left n k q = rw k (holds-stop s q)
   holds-more other line left n k q = absurd (omega arith)

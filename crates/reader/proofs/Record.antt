@@ -1,40 +1,45 @@
--- The record of a readable text: its automaton is the one that the lines describe. The tables hold the moves of the `go` lines (Held), and these
--- are the automaton's. Assumes nothing.
-use mathlib.Core.Path.{_≡_, refl, sym, ap, ap₂, _∙_, fun-ext}
+-- The record of a readable text: its automaton is the one that the lines describe. The tables hold what each monitor's kind and lines say (Held), and that is
+-- the monitor's automaton. Assumes nothing.
+use mathlib.Core.Path.{_≡_, refl, sym, ap, ap₂, _∙_, subst, fun-ext}
 use mathlib.Core.Logic.{_↔_, _≢_}
 use mathlib.Core.Bool.{Bool, true, false, _&&_}
-use mathlib.Core.Option.{Option, none, some, Option·getD}
 use mathlib.Core.List.{List, [], _∷_, _++_, map, append-nil, append-assoc}
-use mathlib.Core.List.{List·Memᴰ as In}
 use Prim.Native.Nat.{ℕ, suc, _≤_, _<_}
 use native.Mathlib.Omega.{arith}
 use lib.ListN.{length, getD, length-map, length-replicate, getD-replicate, replicate}
 use lib.Seq.{ext-getD}
 use lib.Dec.{ltb, eqb}
-use borrow.Author.Tests.{eqb-false, lt-ltb, le-ltb, ltb-true, ltb-false}
-use Rattle.lists.specs.Lists.{pick, tabulate}
-use Rattle.lists.proofs.Tests.{case}
-use Rattle.lists.proofs.Tells.{tells-true}
+use borrow.Author.Tests.{eq-eqb, eqb-true, eqb-false, lt-ltb, le-ltb, ltb-true}
+use Rattle.lists.specs.Lists.{pick, any, tabulate, Permutation}
+use Rattle.lists.proofs.Tests.{case, bool-ext}
 use Rattle.lists.proofs.Tables.{length-tabulate, getD-tabulate}
-use Rattle.lists.proofs.Members.{getD-map-lt, getD-in}
+use Rattle.lists.proofs.Members.{getD-map-lt, getD-in, any-some, any-in}
+use Rattle.automaton.specs.Automaton as automaton
+use Rattle.automaton.specs.Automaton.{bounded, walk}
 use Rattle.automaton.specs.Joint.{At, joint, jointState, sizes}
-use Rattle.promises.specs.Text.{Kind, mon, Part, go, stop, Line, rig, ord, begins, continues, other, Monitor, monitorsFrom, monitors, decoded, statesOf, startOf, eventsOf, orderOf, jointStates, AllSound, Readable}
-use Rattle.promises.specs.Reading.{empty, moveBy, markedBy, lineCase}
+use Rattle.promises.specs.Text.{Line, rig, ord, begins, continues, other, Monitor, monitorsFrom, monitors, decoded, statesOf, startOf, eventsOf, orderOf, jointStates, AllSound, Readable}
+use Rattle.promises.specs.Meaning.{Admits, MayStop, BelowE}
+use Rattle.promises.specs.Reading.{empty, lineCase}
 use Rattle.promises.specs.Rig.{nextOf, markedOf, rigAutomaton, linesAutomaton, linesStart, start}
 use Rattle.promises.specs.Rig as lines
-use Rattle.promises.proofs.Lines.{PartRanged, readable-formed}
-use Rattle.promises.proofs.Meaning.{move-is, sizes-standing, order-permutes}
-use Rattle.promises.proofs.Reading.{moved, tells-marked, sound-case, readable-said}
+use Rattle.promises.specs.Sentences.{Agrees}
+use Rattle.promises.proofs.Lines.{Ranged, Formed, start-below, few-states}
+use Rattle.promises.proofs.Meaning.{sizes-standing, order-permutes, over-iff}
+use Rattle.promises.proofs.Reading.{sound-case, readable-said}
+use Rattle.promises.proofs.Sentences.{sentences}
 use Rattle.rig.specs.declared.Rig.{Rig}
 use Rattle.rig.specs.Record.{moveAt, countOf, startAt, orderIn, moveOf, stopOf, monitorAt, standing, recordAutomaton, recordStart, WellFormed, lowerFirst, emptyRig}
+use Rattle.decoding.specs.declared.Kind.the-variants.{Mon}
 use Rattle.decoding.specs.Forms.{over, formOf}
 use Rattle.decoding.proofs.Listed.{Leaves}
+use Rattle.kinds.specs.Kinds.{entryOf}
+use Rattle.kinds.proofs.Tables.{OfKind}
 use Rattle.reader.specs.declared.Sizes.{Sizes}
 use Rattle.reader.specs.Reading.{recordFrom, whereServed, recordOf}
 use Rattle.reader.specs.Record.{nobody, monitorIn, ReadFrom}
 use Rattle.reader.specs.Taking.{caseOf, sizesAfter, movesAfter, stopsAfter, countsAfter, startsAfter}
 use Rattle.reader.proofs.Monitors.{empty-nil}
-use Rattle.reader.proofs.Held.{OfMonitor, Tabled, Holds, holds-none, case-is, holds-more}
+use Rattle.reader.proofs.Held.{Tabled, Holds, few-events, begun-z, holds-none, case-is, holds-more}
 
 -- ---- every line read
 
@@ -84,7 +89,7 @@ held-all r front (l ∷ back) H s =
 
 held-none : Held emptyRig []
 held-none = record {
-  sizes-are = record { events = 0; monitors = 0; latest = 0; joint = 1 };
+  sizes-are = record { events = 0; monitors = 0; latest = Mon 0 0; joint = 1 };
   moves-are = replicate 2048 255;
   marks-are = replicate 128 0;
   counts-are = replicate 4 0;
@@ -98,64 +103,44 @@ held-readable t R = held-all emptyRig [] (decoded t) held-none (R .sound)
 
 -- ---- one monitor
 
--- a `mon` monitor moves along its `go` lines
-next-is : (k : Kind) (ps : List Part) (s e : ℕ) → nextOf k ps s e ≡ Option·getD (moveBy ps s e) (statesOf k)
-unfolding nextOf statesOf
-next-is (mon S a) ps s e = refl
+-- an entry in range is where the monitor moves; 255 stands for no move
+entry-moves : (S t : ℕ) → S ≤ 32 → pick (ltb (entryOf S t) S) (entryOf S t) S ≡ pick (ltb t S) t S
+entry-moves S t few = case (ltb t S) (λ q. rw (q, q)) (λ q. rw (q, le-ltb 255 S (omega arith)))
 
--- and its `stop` lines mark its states
-marked-is : (k : Kind) (ps : List Part) (s : ℕ) → markedOf k ps s ≡ markedBy ps s
-unfolding markedOf
-marked-is (mon S a) ps s = refl
-
--- an entry in range is where the monitor moves; any other stands for no move
-entry-moves : (v S E s e : ℕ) → s < S → e < E → v < S → pick ((ltb s S && ltb e E) && ltb v S) v S ≡ v
-entry-moves v S E s e a b c = rw (lt-ltb _ _ a, lt-ltb _ _ b, lt-ltb _ _ c)
-
-entry-still : (v S E s e : ℕ) → (s < S → e < E → S ≤ v) → pick ((ltb s S && ltb e E) && ltb v S) v S ≡ S
-entry-still v S E s e h = go (ltb s S) (ltb e E) refl refl
-  where
-    go : (a b : Bool) → ltb s S ≡ a → ltb e E ≡ b → pick ((a && b) && ltb v S) v S ≡ S
-    go true true p q = rw (le-ltb v S (h (ltb-true s S p) (ltb-true e E q)))
-    go true false p q = refl
-    go false b p q = refl
+-- the numbers below E are the events of a list of them
+listed : (E : ℕ) (es : List ℕ) → Permutation E es → (e : ℕ) → any (eqb e) es ≡ ltb e E
+listed E es p e =
+    bool-ext (any (eqb e) es) (ltb e E)
+    (λ q. let (d, i, r) = any-some (eqb e) es q in lt-ltb e E (rw (eqb-true e d r) (p .just d .0 i)))
+    (λ q. any-in (eqb e) (p .just e .1 (ltb-true e E q)) (eq-eqb e e refl))
 
 -- monitor k of the record is the monitor m of the lines
-module _ (r : Rig) (m : Monitor) (k : ℕ) (T : OfMonitor (r .moves) (r .stops) k (r .events) m)
-    (c : countOf r k ≡ statesOf (m .kind)) (few : statesOf (m .kind) ≤ 32) (fewE : r .events ≤ 16) where
-  moves-as : (s e : ℕ) → moveOf r k s e ≡ Option·getD (moveBy (m .parts) s e) (statesOf (m .kind))
-  unfolding moveOf
-  moves-as s e = rw c (step (moveBy (m .parts) s e) refl)
+module _ (r : Rig) (m : Monitor) (k : ℕ) (T : OfKind (r .moves) (r .stops) k (r .events) (m .kind) (m .parts)) (c : countOf r k ≡ statesOf (m .kind)) (few : statesOf (m .kind) ≤ 32)
+    (order : Permutation (r .events) (orderIn r)) where
+  moves-as : (s e : ℕ) → moveOf r k s e ≡ lines.monitorOf (orderIn r) m .next s e
+  unfolding moveOf lines.monitorOf bounded
+  moves-as s e = rw (c, listed (r .events) (orderIn r) order e) (step (ltb s (statesOf (m .kind))) (ltb e (r .events)) refl refl)
     where
-      step : (o : Option ℕ) → moveBy (m .parts) s e ≡ o
-          → pick ((ltb s (statesOf (m .kind)) && ltb e (r .events)) && ltb (moveAt (r .moves) k s e) (statesOf (m .kind))) (moveAt (r .moves) k s e) (statesOf (m .kind)) ≡ Option·getD (moveBy (m .parts) s e) (statesOf (m .kind))
-      step none q =
-          entry-still (moveAt (r .moves) k s e) (statesOf (m .kind)) (r .events) s e (λ a b. large (T .table .entry s e (omega arith) (omega arith) ∙ ap (λ o. Option·getD o 255) q))
-          ∙ ap (λ o. Option·getD o (statesOf (m .kind))) (sym q)
-        where
-          large : moveAt (r .moves) k s e ≡ 255 → statesOf (m .kind) ≤ moveAt (r .moves) k s e
-          large p = omega arith
-      step (some u) q =
-          let w = T .table .within s e u q in
-          let v : moveAt (r .moves) k s e ≡ u = T .table .entry s e (omega arith) (omega arith) ∙ ap (λ o. Option·getD o 255) q in
-          entry-moves (moveAt (r .moves) k s e) (statesOf (m .kind)) (r .events) s e (w .0) (w .1) (rw v (w .2)) ∙ v ∙ ap (λ o. Option·getD o (statesOf (m .kind))) (sym q)
+      step : (a b : Bool) → ltb s (statesOf (m .kind)) ≡ a → ltb e (r .events) ≡ b
+          → pick ((a && b) && ltb (moveAt (r .moves) k s e) (statesOf (m .kind))) (moveAt (r .moves) k s e) (statesOf (m .kind))
+          ≡ pick ((a && b) && ltb (nextOf (m .kind) (m .parts) s e) (statesOf (m .kind))) (nextOf (m .kind) (m .parts) s e) (statesOf (m .kind))
+      step true true p q = rw (T .moves s e (ltb-true s _ p) (ltb-true e _ q)) (entry-moves (statesOf (m .kind)) (nextOf (m .kind) (m .parts) s e) few)
+      step true false p q = refl
+      step false b p q = refl
 
-  stops-as : (s : ℕ) → stopOf r k s ≡ markedBy (m .parts) s
-  unfolding stopOf
-  stops-as s = rw c (case (ltb s (statesOf (m .kind))) (λ p. rw (p, T .marks .entry s (omega (arith, ltb-true s _ p))) (flag (markedBy (m .parts) s))) (λ p. rw p (sym (none (ltb-false s _ p)))))
+  stops-as : (s : ℕ) → stopOf r k s ≡ lines.monitorOf (orderIn r) m .stop s
+  unfolding stopOf lines.monitorOf bounded
+  stops-as s = rw c (case (ltb s (statesOf (m .kind))) (λ p. rw (p, T .marks s (ltb-true s _ p)) (flag (markedOf (m .kind) (m .parts) s))) (λ p. rw p))
     where
       flag : (b : Bool) → eqb (pick b 1 0) 1 ≡ b
       flag true = refl
       flag false = refl
 
-      none : statesOf (m .kind) ≤ s → markedBy (m .parts) s ≡ false
-      none h = case (markedBy (m .parts) s) (λ p. absurd (omega (arith, T .marks .within s p))) (λ p. p)
-
   pub monitor-is : monitorAt r k ≡ lines.monitorOf (orderIn r) m
-  unfolding monitorAt lines.monitorOf
+  unfolding monitorAt lines.monitorOf bounded
   monitor-is =
-      let next : moveOf r k ≡ nextOf (m .kind) (m .parts) = fun-ext (λ s. fun-ext (λ e. moves-as s e ∙ sym (next-is (m .kind) (m .parts) s e))) in
-      let stop : stopOf r k ≡ markedOf (m .kind) (m .parts) = fun-ext (λ s. stops-as s ∙ sym (marked-is (m .kind) (m .parts) s)) in
+      let next : moveOf r k ≡ lines.monitorOf (orderIn r) m .next = fun-ext (λ s. fun-ext (λ e. moves-as s e)) in
+      let stop : stopOf r k ≡ lines.monitorOf (orderIn r) m .stop = fun-ext stops-as in
       rw (c, next, stop)
 
 -- ---- all monitors
@@ -165,13 +150,26 @@ pub record Recorded (ls : List Line) (r : Rig) : Type 0 where
   pub events-are : r .events ≡ eventsOf ls
   pub order-is : orderIn r ≡ orderOf ls
   pub monitors-are : r .monitors ≡ length (monitors ls)
-  pub tabled : Tabled (monitors ls) (r .monitors) (r .events) (r .moves) (r .stops) (r .counts) (r .starts)
-  pub few-events : r .events ≤ 16
-  pub few-monitors : r .monitors ≤ 4
+  pub tabled : Tabled (monitors ls) (r .events) (r .moves) (r .stops) (r .counts) (r .starts)
+  pub formed : Formed ls
 
 module _ (ls : List Line) (r : Rig) (H : Recorded ls r) where
-  at-monitor : (k : ℕ) → k < r .monitors → monitorAt r k ≡ lines.monitorOf (orderIn r) (getD (monitors ls) k nobody)
-  at-monitor k h = monitor-is r (getD (monitors ls) k nobody) k (H .tabled .tables k (omega (arith, H .few-monitors))) (H .tabled .kinds k h .count-is) (H .tabled .kinds k h .few-states) (H .few-events)
+  among : (k : ℕ) → k < r .monitors → k < length (monitors ls)
+  among k h = rw (← H .monitors-are) h
+
+  pub ranged-at : (k : ℕ) → k < r .monitors → Ranged (eventsOf ls) (getD (monitors ls) k nobody .kind)
+  ranged-at k h = H .formed .monitored .each _ (getD-in (monitors ls) k nobody (among k h)) .ranged
+
+  pub counts-of : (k : ℕ) → k < r .monitors → countOf r k ≡ statesOf (getD (monitors ls) k nobody .kind)
+  counts-of k h = H .tabled .counts k (among k h)
+
+  pub starts-of : (k : ℕ) → k < r .monitors → startAt r k ≡ startOf (getD (monitors ls) k nobody .kind)
+  starts-of k h = H .tabled .starts k (among k h)
+
+  pub at-monitor : (k : ℕ) → k < r .monitors → monitorAt r k ≡ lines.monitorOf (orderOf ls) (getD (monitors ls) k nobody)
+  at-monitor k h =
+      monitor-is r (getD (monitors ls) k nobody) k (H .tabled .tables k (among k h)) (counts-of k h) (few-states (eventsOf ls) _ (ranged-at k h)) (rw (H .order-is, H .events-are) (H .formed .ordered))
+      ∙ ap (λ es. lines.monitorOf es (getD (monitors ls) k nobody)) (H .order-is)
 
   pub standing-is : standing r ≡ lines.standing (orderOf ls) (monitors ls)
   unfolding standing lines.standing
@@ -189,7 +187,7 @@ module _ (ls : List Line) (r : Rig) (H : Recorded ls r) where
       same : (i : ℕ) → i < r .monitors → getD (tabulate inRecord (r .monitors)) i nowhere ≡ getD (map inLines (monitors ls)) i nowhere
       same i h =
           getD-tabulate inRecord (r .monitors) i nowhere h
-          ∙ ap₂ (λ a x. record { of = a; state = x }) (at-monitor i h ∙ ap (λ es. lines.monitorOf es (getD (monitors ls) i nobody)) (H .order-is)) (H .tabled .kinds i h .start-is)
+          ∙ ap₂ (λ a x. record { of = a; state = x }) (at-monitor i h) (starts-of i h)
           ∙ sym (getD-map-lt inLines (monitors ls) i nobody nowhere (rw (← H .monitors-are) h))
 
   pub automaton-of : recordAutomaton r ≡ linesAutomaton ls
@@ -216,8 +214,7 @@ module _ (t : List ℕ) (R : Readable t) where
     order-is = held .holds .ordered;
     monitors-are = sym (held .holds .monitors-are);
     tabled = held .holds .tabled;
-    few-events = held .holds .room .few-events;
-    few-monitors = held .holds .room .few-monitors;
+    formed = held .holds .formed;
   })
 
   some-monitor : 1 ≤ recordOf t .monitors
@@ -232,7 +229,7 @@ module _ (t : List ℕ) (R : Readable t) where
   begun = case (empty (decoded t)) (λ p. absurd (R .monitored (ap monitors (empty-nil (decoded t) p)))) (λ p. p)
 
   some-event : 1 ≤ recordOf t .events
-  some-event = rw recordOf-is (positive (eqb-false (held .sizes-are .events) 0 (sym (held .holds .begun) ∙ begun)))
+  some-event = rw recordOf-is (positive (eqb-false (held .sizes-are .events) 0 (sym (begun-z emptyRig (decoded t) _ _ _ _ _ _ (held .holds)) ∙ begun)))
     where
       positive : {n : ℕ} → (n ≡ 0 → ⊥) → 1 ≤ n
       positive h = omega arith
@@ -243,54 +240,36 @@ module _ (t : List ℕ) (R : Readable t) where
 
   few-joint : jointStates t ≤ 1024
   unfolding jointStates
-  few-joint = rw (held .holds .joint-is) (held .holds .room .few-joint)
+  few-joint = recorded .formed .monitored .small
 
   well-formed : WellFormed (recordOf t)
   well-formed = record {
     some-event = some-event;
-    few-events = recorded .few-events;
+    few-events = rw (recorded .events-are) (few-events (decoded t) (recorded .formed));
     some-monitor = some-monitor;
-    few-monitors = recorded .few-monitors;
-    some-state = λ m h. let k = recorded .tabled .kinds m h in rw (k .count-is) (omega (arith, k .start-below));
-    few-states = λ m h. let k = recorded .tabled .kinds m h in rw (k .count-is) (k .few-states);
-    start-below = λ m h. let k = recorded .tabled .kinds m h in rw (k .count-is, k .start-is) (k .start-below);
+    few-monitors = rw (recorded .monitors-are) (recorded .formed .monitored .few);
+    some-state = λ m h. rw (counts-of (decoded t) (recordOf t) recorded m h) (omega (arith, start-below _ _ (ranged-at (decoded t) (recordOf t) recorded m h)));
+    few-states = λ m h. rw (counts-of (decoded t) (recordOf t) recorded m h) (few-states _ _ (ranged-at (decoded t) (recordOf t) recorded m h));
+    start-below = λ m h. rw (counts-of (decoded t) (recordOf t) recorded m h, starts-of (decoded t) (recordOf t) recorded m h) (start-below _ _ (ranged-at (decoded t) (recordOf t) recorded m h));
     few-joint = rw joint-of few-joint;
     ordered = rw (recorded .order-is, recorded .events-are) (order-permutes t R);
   }
 
-  -- 'for each monitor, a move from s on e to u exactly when there is that line'
-  moves-of : (m s e u : ℕ) → m < recordOf t .monitors → ((moveOf (recordOf t) m s e ≡ u) × (u < countOf (recordOf t) m)) ↔ In (go s e u) (monitorIn t m .parts)
-  unfolding PartRanged
-  moves-of m s e u h = (to, from)
-    where
-      known : In (monitorIn t m) (monitors (decoded t))
-      known = getD-in (monitors (decoded t)) m nobody (rw (← recorded .monitors-are) h)
+  agrees : (m : ℕ) → m < recordOf t .monitors → Agrees (orderOf (decoded t)) (monitorIn t m)
+  agrees m h = sentences .each t R (monitorIn t m) (getD-in (monitors (decoded t)) m nobody (rw (← recorded .monitors-are) h))
 
-      is : moveOf (recordOf t) m s e ≡ Option·getD (moveBy (monitorIn t m .parts) s e) (statesOf (monitorIn t m .kind))
-      is =
-          moves-as (recordOf t) (monitorIn t m) m (recorded .tabled .tables m (omega (arith, recorded .few-monitors))) (recorded .tabled .kinds m h .count-is)
-          (recorded .tabled .kinds m h .few-states) (recorded .few-events) s e
+  table-of : (m : ℕ) → m < recordOf t .monitors → monitorAt (recordOf t) m ≡ lines.monitorOf (orderOf (decoded t)) (monitorIn t m)
+  table-of = at-monitor (decoded t) (recordOf t) recorded
 
-      to : (moveOf (recordOf t) m s e ≡ u) × (u < countOf (recordOf t) m) → In (go s e u) (monitorIn t m .parts)
-      to (q, l) = step (moveBy (monitorIn t m .parts) s e) refl
-        where
-          step : (o : Option ℕ) → moveBy (monitorIn t m .parts) s e ≡ o → In (go s e u) (monitorIn t m .parts)
-          step none p = let z : statesOf (monitorIn t m .kind) ≡ u = sym (is ∙ ap (λ o. Option·getD o (statesOf (monitorIn t m .kind))) p) ∙ q in absurd (omega (arith, recorded .tabled .kinds m h .count-is))
-          step (some v) p = let z : v ≡ u = sym (is ∙ ap (λ o. Option·getD o (statesOf (monitorIn t m .kind))) p) ∙ q in rw z at (moved (monitorIn t m .parts) s e v p)
+  admits-of : (m s : ℕ) (w : List ℕ) → m < recordOf t .monitors → s < countOf (recordOf t) m → automaton.Admits (monitorAt (recordOf t) m) s w ↔ (BelowE t w × Admits (monitorIn t m) s w)
+  admits-of m s w h l =
+      let (to, from) = agrees m h .admits s w (rw (← counts-of (decoded t) (recordOf t) recorded m h) l) in
+      let (below, over) = over-iff t R w in
+      rw (table-of m h) (λ a. let (o, p) = to a in (below o, p), λ (b, p). from (over b, p))
 
-      from : In (go s e u) (monitorIn t m .parts) → (moveOf (recordOf t) m s e ≡ u) × (u < countOf (recordOf t) m)
-      from i =
-          let kept = readable-formed t R .monitored .each (monitorIn t m) known in
-          let w = kept .parts-ranged (go s e u) i in
-          (is ∙ ap (λ o. Option·getD o (statesOf (monitorIn t m .kind))) (move-is (eventsOf (decoded t)) (monitorIn t m) kept s e u i), rw (recorded .tabled .kinds m h .count-is) (w .2))
-
-  -- 'a state is marked exactly when there is that line'
-  stops-of : (m s : ℕ) → m < recordOf t .monitors → (stopOf (recordOf t) m s ≡ true) ↔ In (stop s) (monitorIn t m .parts)
-  stops-of m s h =
-      let is : stopOf (recordOf t) m s ≡ markedBy (monitorIn t m .parts) s =
-      stops-as (recordOf t) (monitorIn t m) m (recorded .tabled .tables m (omega (arith, recorded .few-monitors))) (recorded .tabled .kinds m h .count-is) (recorded .tabled .kinds m h .few-states) (recorded .few-events) s in
-      let told = tells-marked (monitorIn t m .parts) s in
-      (λ q. told .yes (sym is ∙ q), λ i. is ∙ tells-true told i)
+  stops-of : (m s : ℕ) (w : List ℕ) → m < recordOf t .monitors → automaton.Admits (monitorAt (recordOf t) m) s w
+      → (monitorAt (recordOf t) m .stop (walk (monitorAt (recordOf t) m) s w) ≡ true) ↔ MayStop (monitorIn t m) s w
+  stops-of m s w h a = subst (λ A. automaton.Admits A s w → (A .stop (walk A s w) ≡ true) ↔ MayStop (monitorIn t m) s w) (sym (table-of m h)) (agrees m h .stops s w) a
 
   pub read-from : ReadFrom t (recordOf t)
   unfolding rigAutomaton start
@@ -299,9 +278,10 @@ module _ (t : List ℕ) (R : Readable t) where
     events-are = recorded .events-are;
     order-is = recorded .order-is;
     monitors-are = recorded .monitors-are;
-    counts-are = λ m h. recorded .tabled .kinds m h .count-is;
-    starts-are = λ m h. recorded .tabled .kinds m h .start-is;
-    moves-are = moves-of;
+    counts-are = counts-of (decoded t) (recordOf t) recorded;
+    starts-are = starts-of (decoded t) (recordOf t) recorded;
+    tables-are = table-of;
+    admits-are = admits-of;
     stops-are = stops-of;
     automaton-is = automaton-of (decoded t) (recordOf t) recorded;
     start-is = start-of (decoded t) (recordOf t) recorded;

@@ -1,7 +1,7 @@
 -- The invariant: the lines passed hold no case and are those of the tables, and reading the text is reading what is left after them.
 -- Each line either stops the reading with its number and place or is passed; at the end the tables are the record.
 -- Assumes nothing.
-use mathlib.Core.Path.{sym, _∙_}
+use mathlib.Core.Path.{sym, ap, _∙_}
 use Prim.Native.Nat.{ℕ, _-_, _≤_}
 use native.Mathlib.Omega.{arith}
 use lib.ListN.{length, take, drop}
@@ -11,6 +11,8 @@ use lib.Seq.{length-take-le}
 use Rattle.promises.specs.Answer.{served, refused}
 use Rattle.rig.specs.Record.{emptyRig}
 use Rattle.decoding.proofs.Parts.{indexOf-le}
+use Rattle.decoding.proofs.Listed.{length-over}
+use Rattle.reader.proofs.Held.{room}
 use Rattle.reader.proofs.Passing.{Passed, passed-none, stops-unended, stops-bad, goes-on, ends-none, ends-served, ends-record, reading-long, reading-whole, answers-refusal, answers-record}
 use borrow.Author.Needs.{needs}
 use Rattle.reader.proofs.read.Statement.{statement}
@@ -86,7 +88,10 @@ slice-aggregate-take-line-5 : tie.Need-slice-aggregate-take-line-5 Inv-loop μ-l
 slice-aggregate-take-line-5 c = search needs
 
 take-line-requires : tie.Need-take-line-requires Inv-loop μ-loop
-take-line-requires c κs = search needs
+take-line-requires c κs =
+    let h = c .before .before .before .before .before .before .before .before .before .before .before .before .before .loop .inv .holds in
+    let d = c .before .before .before .before .before .before .decode in
+    (h .long, h .wide-stops, h .wide, h .wide-starts, ap length (d .ensures .1) ∙ length-over _ _ ∙ h .wide-order, room _ _ _ _ _ _ _ _ h)
 
 enum-known-z : tie.Need-enum-known-z Inv-loop μ-loop
 enum-known-z c = search needs

@@ -2,7 +2,7 @@
 -- Assumes nothing.
 use mathlib.Core.Path.{ap, _∙_}
 use Rattle.decoding.specs.declared.Form.the-variants.{Continues}
-use Rattle.reader.specs.Taking.{rigCase, ordCase, monCase, goCase, stopCase}
+use Rattle.reader.specs.Taking.{rigCase, ordCase, goCase, stopCase}
 use Rattle.reader.proofs.Taking.{kept}
 use borrow.Author.Needs.{needs}
 use Rattle.reader.proofs.take_line.Statement.{statement}
@@ -23,8 +23,8 @@ take-ord-requires c κs = search needs
 enum-known-form-3 : tie.Need-enum-known-form-3
 enum-known-form-3 c = search needs
 
-take-mon-requires : tie.Need-take-mon-requires
-take-mon-requires c κs = search needs
+take-kind-requires : tie.Need-take-kind-requires
+take-kind-requires c κs = search needs
 
 enum-known-form-4 : tie.Need-enum-known-form-4
 enum-known-form-4 c = search needs
@@ -66,17 +66,20 @@ same-length c = search needs
 same-length-2 : tie.Need-same-length-2
 same-length-2 c = search needs
 
-returns-3 : tie.Need-returns-3
-returns-3 c =
-    let st = c .before .before .before .before .before .before .before .before .before .before .before .before .before .before .before .args in
-    let f = c .before .before .before .before .before .before .before .before .form3 .given in
-    let q = f .1 in
-    let t = c .before .before .before .before .take-mon .ensures in
-    let n = monCase (st .z) (f .0 .0 .states) (f .0 .0 .start) in
-    (rw q (t .0), (rw q (kept n (st .moves .now)), (rw q (kept n (st .stops .now)), (rw q (t .1 .0), rw q (t .1 .1)))))
-
 same-length-3 : tie.Need-same-length-3
 same-length-3 c = search needs
+
+same-length-4 : tie.Need-same-length-4
+same-length-4 c = search needs
+
+returns-3 : tie.Need-returns-3
+returns-3 c =
+    let q = c .before .before .before .before .before .before .before .before .before .before .before .before .before .before .form3 .given .1 in
+    let t = c .before .before .before .before .before .before .before .before .take-kind .ensures in
+    (rw q (t .0), (rw q (t .1 .0), (rw q (t .1 .1 .0), (rw q (t .1 .1 .1 .0), rw q (t .1 .1 .1 .1)))))
+
+same-length-5 : tie.Need-same-length-5
+same-length-5 c = search needs
 
 returns-4 : tie.Need-returns-4
 returns-4 c =
@@ -87,8 +90,8 @@ returns-4 c =
     let n = goCase (st .moves .now) (st .z) (p .0 .0) (p .0 .1 .0) (p .0 .1 .1 .0) in
     (rw q (t .0), (rw q (t .1), (rw q (kept n (st .stops .now)), (rw q (kept n (st .counts .now)), rw q (kept n (st .starts .now))))))
 
-same-length-4 : tie.Need-same-length-4
-same-length-4 c = search needs
+same-length-6 : tie.Need-same-length-6
+same-length-6 c = search needs
 
 returns-5 : tie.Need-returns-5
 returns-5 c =
@@ -111,7 +114,7 @@ take-line-spec =
     enum-known-form-2
     take-ord-requires
     enum-known-form-3
-    take-mon-requires
+    take-kind-requires
     enum-known-form-4
     enum-known-p
     take-go-requires
@@ -122,9 +125,11 @@ take-line-spec =
     returns-2
     same-length
     same-length-2
-    returns-3
     same-length-3
-    returns-4
     same-length-4
+    returns-3
+    same-length-5
+    returns-4
+    same-length-6
     returns-5
     returns-6)

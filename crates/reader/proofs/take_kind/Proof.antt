@@ -1,0 +1,147 @@
+-- Each return is one of the cases of a line that begins a monitor, in their order; only the last writes.
+-- Assumes nothing.
+use mathlib.Core.Path.{_≡_, sym, _∙_}
+use Prim.Native.Nat.{_*_, _≤_, _<_}
+use native.Mathlib.Omega.{arith}
+use native.Mathlib.Nat.{mul-le-mul}
+use borrow.Author.Tests.{le-leb, lt-leb, lt-ltb, le-ltb, eq-eqb, ne-eqb}
+use Rattle.promises.specs.Text.{statesOf, startOf}
+use Rattle.promises.proofs.Lines.{start-below, few-states}
+use Rattle.kinds.specs.Kinds.{asKind}
+use Rattle.reader.specs.Taking.{kindCase}
+use Rattle.reader.proofs.Taking.{ranged}
+use borrow.Author.Needs.{needs}
+use Rattle.reader.proofs.take_kind.Statement.{statement}
+use Rattle.reader.proofs.take_kind.Tie as tie
+
+returns : tie.Need-returns
+unfolding kindCase
+returns c =
+    let st = c .before .before .before .before .before .before .args in
+    let q : kindCase (st .z) (st .k) ≡ 5 = rw (eq-eqb _ _ (c .if1 .taken)) in
+    (rw q, (rw q, (rw q, (rw q, rw q))))
+
+out-of-range-requires : tie.Need-out-of-range-requires
+out-of-range-requires c κs = search needs
+
+returns-2 : tie.Need-returns-2
+unfolding kindCase
+returns-2 c =
+    let st = c .before .before .before .before .before .before .before .before .args in
+    let q : kindCase (st .z) (st .k) ≡ 3 = rw (ne-eqb _ _ (c .before .before .if1 .left), sym (c .before .out-of-range .ensures) ∙ c .if2 .taken) in
+    (rw q, (rw q, (rw q, (rw q, rw q))))
+
+returns-3 : tie.Need-returns-3
+unfolding kindCase
+returns-3 c =
+    let st = c .before .before .before .before .before .before .before .before .before .before .args in
+    let q : kindCase (st .z) (st .k) ≡ 3 = rw (ne-eqb _ _ (c .before .before .before .before .if1 .left), sym (c .before .before .before .out-of-range .ensures) ∙ c .before .before .if2 .left, le-leb _ _ (c .if3 .taken)) in
+    (rw q, (rw q, (rw q, (rw q, rw q))))
+
+equal-requires : tie.Need-equal-requires
+equal-requires c κs = search needs
+
+returns-4 : tie.Need-returns-4
+unfolding kindCase
+returns-4 c =
+    let st = c .before .before .before .before .before .before .before .before .before .before .before .before .args in
+    let q : kindCase (st .z) (st .k) ≡ 17 = rw (ne-eqb _ _ (c .before .before .before .before .before .before .if1 .left), sym (c .before .before .before .before .before .out-of-range .ensures) ∙ c .before .before .before .before .if2 .left, lt-leb _ _ (c .before .before .if3 .left), sym (c .before .equal .ensures) ∙ c .if4 .taken) in
+    (rw q, (rw q, (rw q, (rw q, rw q))))
+
+states-requires : tie.Need-states-requires
+states-requires c κs = let st = c .before .before .before .before .before .before .before .before .before .before .before .before in few-states _ _ (ranged (st .args .z .events) (asKind (st .args .k)) (sym (c .before .before .before .before .before .out-of-range .ensures) ∙ c .before .before .before .before .if2 .left) (sym (c .before .equal .ensures) ∙ c .if4 .left))
+
+mul-joint : tie.Need-mul-joint
+mul-joint c =
+    let st = c .before .before .before .before .before .before .before .before .before .before .before .before .before .before in
+    let few : statesOf (asKind (st .args .k)) ≤ 32 = few-states _ _ (ranged (st .args .z .events) (asKind (st .args .k)) (sym (c .before .before .before .before .before .before .before .out-of-range .ensures) ∙ c .before .before .before .before .before .before .if2 .left) (sym (c .before .before .before .equal .ensures) ∙ c .before .before .if4 .left)) in
+    let h : st .args .z .joint * c .before .states .result ≤ 1024 * 32 = mul-le-mul {m₂ = 32} (st .pre .4 .few-joint) (rw (c .before .states .ensures) few) in
+    omega arith
+
+returns-5 : tie.Need-returns-5
+unfolding kindCase
+returns-5 c =
+    let st = c .before .before .before .before .before .before .before .before .before .before .before .before .before .before .before .args in
+    let q : kindCase (st .z) (st .k) ≡ 6 = rw (← c .before .before .states .ensures, ne-eqb _ _ (c .before .before .before .before .before .before .before .before .before .if1 .left), sym (c .before .before .before .before .before .before .before .before .out-of-range .ensures) ∙ c .before .before .before .before .before .before .before .if2 .left, lt-leb _ _ (c .before .before .before .before .before .if3 .left), sym (c .before .before .before .before .equal .ensures) ∙ c .before .before .before .if4 .left, lt-ltb _ _ (c .if5 .taken)) in
+    (rw q, (rw q, (rw q, (rw q, rw q))))
+
+fill-tables-requires : tie.Need-fill-tables-requires
+fill-tables-requires c κs =
+    let st = c .before .before .before .before .before .before .before .before .before .before .before .before .before .before .before .before .before in
+    let range = ranged (st .args .z .events) (asKind (st .args .k)) (sym (c .before .before .before .before .before .before .before .before .before .before .out-of-range .ensures) ∙ c .before .before .before .before .before .before .before .before .before .if2 .left) (sym (c .before .before .before .before .before .before .equal .ensures) ∙ c .before .before .before .before .before .if4 .left) in
+    let few = few-states _ _ range in
+    let below = start-below _ _ range in
+    ((st .pre .0, st .pre .1, c .before .before .before .before .before .before .before .if3 .left, st .pre .4 .few-events), (omega arith, few))
+
+cast-counts : tie.Need-cast-counts
+cast-counts c =
+    let st = c .before .before .before .before .before .before .before .before .before .before .before .before .before .before .before .before .before .before .before .before .before .before in
+    let few : statesOf (asKind (st .args .k)) ≤ 32 = few-states _ _ (ranged (st .args .z .events) (asKind (st .args .k)) (sym (c .before .before .before .before .before .before .before .before .before .before .before .before .before .before .before .out-of-range .ensures) ∙ c .before .before .before .before .before .before .before .before .before .before .before .before .before .before .if2 .left) (sym (c .before .before .before .before .before .before .before .before .before .before .before .equal .ensures) ∙ c .before .before .before .before .before .before .before .before .before .before .if4 .left)) in
+    omega (arith, c .before .before .before .before .before .before .before .before .before .states .ensures)
+
+slice-write-counts : tie.Need-slice-write-counts
+slice-write-counts c = search needs
+
+start-requires : tie.Need-start-requires
+start-requires c κs = search needs
+
+cast-starts : tie.Need-cast-starts
+cast-starts c =
+    let st = c .before .before .before .before .before .before .before .before .before .before .before .before .before .before .before .before .before .before .before .before .before .before .before in
+    let range = ranged (st .args .z .events) (asKind (st .args .k)) (sym (c .before .before .before .before .before .before .before .before .before .before .before .before .before .before .before .before .out-of-range .ensures) ∙ c .before .before .before .before .before .before .before .before .before .before .before .before .before .before .before .if2 .left) (sym (c .before .before .before .before .before .before .before .before .before .before .before .before .equal .ensures) ∙ c .before .before .before .before .before .before .before .before .before .before .before .if4 .left) in
+    let few : statesOf (asKind (st .args .k)) ≤ 32 = few-states _ _ range in
+    let below : startOf (asKind (st .args .k)) < statesOf (asKind (st .args .k)) = start-below _ _ range in
+    omega (arith, c .start .ensures)
+
+slice-write-starts : tie.Need-slice-write-starts
+slice-write-starts c = search needs
+
+add-t20 : tie.Need-add-t20
+add-t20 c = search needs
+
+same-length : tie.Need-same-length
+same-length c = search needs
+
+same-length-2 : tie.Need-same-length-2
+same-length-2 c = search needs
+
+same-length-3 : tie.Need-same-length-3
+same-length-3 c = search needs
+
+same-length-4 : tie.Need-same-length-4
+same-length-4 c = search needs
+
+returns-6 : tie.Need-returns-6
+unfolding kindCase
+returns-6 c =
+    let st = c .before .before .before .before .before .before .before .before .before .before .before .before .before .before .before .before .before .before .before .before .before .before .before .args in
+    let n = c .before .before .before .before .before .before .before .before .before .before .states .ensures in
+    let f = c .before .before .before .before .before .fill-tables .ensures in
+    let q : kindCase (st .z) (st .k) ≡ 0 = rw (← n, ne-eqb _ _ (c .before .before .before .before .before .before .before .before .before .before .before .before .before .before .before .before .before .if1 .left), sym (c .before .before .before .before .before .before .before .before .before .before .before .before .before .before .before .before .out-of-range .ensures) ∙ c .before .before .before .before .before .before .before .before .before .before .before .before .before .before .before .if2 .left, lt-leb _ _ (c .before .before .before .before .before .before .before .before .before .before .before .before .before .if3 .left), sym (c .before .before .before .before .before .before .before .before .before .before .before .before .equal .ensures) ∙ c .before .before .before .before .before .before .before .before .before .before .before .if4 .left, le-ltb _ _ (c .before .before .before .before .before .before .before .before .if5 .left)) in
+    (rw (q, ← n), (rw q (f .0), (rw q (f .1), (rw (q, ← n), rw (q, ← c .start .ensures)))))
+
+pub take-kind-spec : {M : Type 1} → statement M
+take-kind-spec =
+    tie.close
+    (tie.spec
+    returns
+    out-of-range-requires
+    returns-2
+    returns-3
+    equal-requires
+    returns-4
+    states-requires
+    mul-joint
+    returns-5
+    fill-tables-requires
+    cast-counts
+    slice-write-counts
+    start-requires
+    cast-starts
+    slice-write-starts
+    add-t20
+    same-length
+    same-length-2
+    same-length-3
+    same-length-4
+    returns-6)
