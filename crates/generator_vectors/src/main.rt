@@ -1,5 +1,5 @@
-// Runs the four calls on the examples of paper 01 that are left to a test, on rigs that begin in other states, on rigs with another order of events and on rigs
-// that may stop, and prints what each answers and leaves. Cells, scratch and outputs begin with 7 everywhere and are lent in part, so that what is kept shows: each line ends with how many numbers of each buffer are still 7.
+// Runs the four calls on the examples of paper 01 that are left to a test, on rigs that begin in other states, on rigs with another order of events, on rigs
+// that may stop and on gaps and replies, and prints what each answers and leaves. Cells, scratch and outputs begin with 7 everywhere and are lent in part, so that what is kept shows: each line ends with how many numbers of each buffer are still 7.
 use generator::Counted;
 use generator::Indexed;
 use generator::Listed;
@@ -18,6 +18,7 @@ fn main() {
     starts();
     orders();
     stops();
+    rules();
     let again = [4u64, 4, 4];
     show_shuffle(5, &again);
     let low = [0u64, 0];
@@ -149,6 +150,26 @@ fn stops() {
         0,
         1,
     );
+}
+
+// A gap on the only event; a reply 2 or 3 steps later; an event that is barred for longer than a reply to another can wait.
+fn rules() {
+    let gap = b"rig\t1\ngap\t0\t2\n";
+    let reply = b"rig\t3\nreply\t0\t1\t2\t3\n";
+    let both = b"rig\t2\ngap\t1\t4\nreply\t0\t1\t1\t2\n";
+    let all = [2u64, 0, 1];
+    let due = [0u8, 2, 2];
+    let again = [0u8, 1, 0];
+    let unanswered = [1u8, 0];
+    show_count(b"gap h 1", gap, 1, 4);
+    show_count(b"gap h 2", gap, 2, 6);
+    show_count(b"reply h 3", reply, 3, 16);
+    show_list(b"reply h 1: 2 0 1", reply, 1, &all, 3);
+    show_index(b"reply: 0 2 2", reply, &due);
+    show_index(b"reply: 0 1 0", reply, &again);
+    show_count(b"gap and reply h 2", both, 2, 36);
+    show_index(b"gap and reply: 1 0", both, &unanswered);
+    show_count(b"a reply to itself", b"rig\t2\nreply\t1\t1\t1\t1\n", 0, 1);
 }
 
 fn say(bytes: &[u8]) {

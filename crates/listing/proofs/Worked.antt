@@ -13,7 +13,7 @@ use Rattle.promises.specs.Text.{bytes, onto, splitOn, init, lastOf, lines, unen
 use Rattle.promises.specs.Reading.{leadsTo, moveBy, marks, markedBy, testBeginning, ofLatest, testContinuing, tests, lineCase, readingFrom, reading}
 use Rattle.promises.specs.Rig.{gapNext, replyNext, nextOf, markedOf, monitorOf, standing, linesAutomaton, linesStart, rigAutomaton, start}
 use Rattle.promises.specs.Calls.{sized, total, counted, count}
-use Rattle.promises.specs.Examples.{A, A-ordered, may-close}
+use Rattle.promises.specs.Examples.{A, A-ordered, may-close, gap-alone, reply-alone}
 use Rattle.lists.specs.Decimal as decimals
 use Rattle.lists.specs.Decimal.{decimal}
 use Rattle.line.specs.Line.{lineOf, numbersOf}
@@ -42,6 +42,15 @@ closing = refl
 pub closed : listing (bytes "ask\t2\n" ++ may-close) ≡ bytes "count\t1\t2\n0\t1\t1\n"
 unfolding listing answer asked askedIn firstLine text owned horizon scenarioLine indexOf lineOf numbersOf decimal decimals.digits reading readingFrom lineCase tests testBeginning testContinuing ofLatest moveBy leadsTo markedBy marks orElse decoded lines unended splitOn onto init lastOf decode fields form one two three four oneOrTwo anyNumber field endOr end number numbers ahead digitsValue same monitors monitorsFrom extended addPart latest statesOf product eventsOf orderOf orderFrom reordered startOf jointStates gapNext replyNext nextOf markedOf bounded monitorOf standing linesAutomaton linesStart rigAutomaton start range both join idle joint sizes jointState keep prunedSet size passesFrom passes live N most choose unrank sized total counted count
 closed = refl
+
+-- a reply 2 or 3 steps after its event, or still due; and an event that bars itself, once and no more (02 no. 5)
+pub replying : listing (bytes "ask\t2\n" ++ reply-alone) ≡ bytes "count\t8\t1\n0\t0\t1\n1\t0\t2\n2\t1\t0\n3\t1\t1\n4\t1\t2\n5\t2\t0\n6\t2\t1\n7\t2\t2\n"
+unfolding listing answer asked askedIn firstLine text owned horizon scenarioLine indexOf lineOf numbersOf decimal decimals.digits reading readingFrom lineCase tests testBeginning testContinuing ofLatest moveBy leadsTo markedBy marks orElse decoded lines unended splitOn onto init lastOf decode fields form one two three four oneOrTwo anyNumber field endOr end number numbers ahead digitsValue same monitors monitorsFrom extended addPart latest statesOf product eventsOf orderOf orderFrom reordered startOf jointStates gapNext replyNext nextOf markedOf bounded monitorOf standing linesAutomaton linesStart rigAutomaton start range both join idle joint sizes jointState keep prunedSet size passesFrom passes live N most choose unrank sized total counted count
+replying = refl
+
+pub barred : listing (bytes "ask\t2\n" ++ gap-alone) ≡ bytes "no\t9\t0\n"
+unfolding listing answer asked askedIn firstLine text owned horizon scenarioLine indexOf lineOf numbersOf decimal decimals.digits reading readingFrom lineCase tests testBeginning testContinuing ofLatest moveBy leadsTo markedBy marks orElse decoded lines unended splitOn onto init lastOf decode fields form one two three four oneOrTwo anyNumber field endOr end number numbers ahead digitsValue same monitors monitorsFrom extended addPart latest statesOf product eventsOf orderOf orderFrom reordered startOf jointStates gapNext replyNext nextOf markedOf bounded monitorOf standing linesAutomaton linesStart rigAutomaton start range both join idle joint sizes jointState keep prunedSet size passesFrom passes live N most choose unrank sized total counted count
+barred = refl
 
 -- F at 10, which has 1,024 scenarios
 abbrev long : List ℕ
