@@ -10,13 +10,18 @@
  * What the buffers hold before a call does not matter.
  *
  * Rig text: at most 65,535 bytes; lines end with byte 10, fields are parted by one byte 9:
- *   rig E          first line; events are 0 to E-1, E from 1 to 16
- *   ord e e ...    second line, which may be left out: all E events, first to last, in the order of scenarios; without it lower first
- *   mon S          a new monitor with states 0 to S-1, S from 1 to 32, starting in 0; one to four monitors
- *   mon S start    the same, starting in the state given, which is below S
- *   go s e t       the latest monitor moves from s to t on event e
- *   stop s         marks state s of the latest monitor; `go` and `stop` lines may be mixed
- * P is the product of all S, at most 1,024. The horizon h is 0 to 1,000. N is the number of scenarios of h events.
+ *   rig E             first line; events are 0 to E-1, E from 1 to 16
+ *   ord e e ...       second line, which may be left out: all E events, first to last, in the order of scenarios; without it lower first
+ *   mon S             a new monitor with states 0 to S-1, S from 1 to 32, starting in 0
+ *   mon S start       the same, starting in the state given, which is below S
+ *   go s e t          the latest monitor, a `mon`, moves from s to t on event e
+ *   stop s            marks state s of the latest monitor, a `mon`; `go` and `stop` lines may be mixed
+ *   gap e n           a new monitor: two events e are at least n steps apart, n from 2 to 32
+ *   reply a b lo hi   a new monitor: after a, some b comes lo to hi steps later, lo from 1 to hi, hi up to 31; until the first such b no
+ *                     further a is admitted, and an earlier b is admitted and settles nothing; a reply may still be due at the horizon
+ * One to four monitors, of any kind. A `gap` has n states: the number of coming steps in which e is not admitted; all are marked. A `reply`
+ * has hi+1 states: 0 with nothing due, 1 just after a, and one more each step; only 0 is marked. Both start in 0.
+ * P is the product of all numbers of states, at most 1,024. The horizon h is 0 to 1,000. N is the number of scenarios of h events.
  *
  * A joint state is stoppable if every monitor's state is marked. It is live if, for every k, k events can follow, or fewer, none included,
  * that lead to a stoppable state. A scenario has exactly h events and passes live states only. In a rig without stoppable states it can be
@@ -26,12 +31,12 @@
  *    1  text over 65,535 bytes
  *    2  no such line form, a field that is no number, or the last line unended;  place: line, from 1
  *       on line 2, an `ord` with other than E events
- *    3  a number out of its range, a start or a marked state not below S, or     place: line
- *       a fifth `mon`
+ *    3  a number out of its range, a start or a marked state not below S, lo     place: line
+ *       over hi, or a fifth monitor
  *    4  s and e again in one monitor, or a state marked twice                    place: line
  *    5  first line not `rig`, `rig` later, `ord` not on line 2, `go` or `stop`   place: line; at the end, lines + 1
- *       before `mon`, or no `mon`
- *    6  P over 1,024                                                             place: `mon` line
+ *       before any `mon`, or after a `gap` or `reply`; no monitor by the end
+ *    6  P over 1,024                                                             place: line of that monitor
  *    7  h over 1,000
  *    8  cells_len below (h + 1) * P; scratch_len below 2 * draws_len
  *    9  N is 0: no scenario of this horizon
@@ -43,7 +48,8 @@
  *                                                                                state not live, from 0
  *   15  draw i not from i to n-1                                                 place: position, from 0
  *   16  an event named twice in `ord`                                            place: line
- * Checks go in the order 1, 2 to 6 and 16 line by line (on one line 2, 5, 3, 16, 4, 6), 7, 8, 12, 13, 9, 10, 11, 14, 15.
+ *   17  a equals b in `reply`                                                    place: line
+ * Checks go in the order 1, 2 to 6, 16 and 17 line by line (on one line 2, 5, 3, 16 or 17, 4, 6), 7, 8, 12, 13, 9, 10, 11, 14, 15.
  */
 #ifndef WANDUKHAI_H
 #define WANDUKHAI_H

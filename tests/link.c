@@ -7,8 +7,8 @@ enum { HORIZON = 3, STATES = 2, CELLS = (HORIZON + 1) * STATES, MOST = 8 };
 
 int main(void)
 {
-    /* No two 1s together. */
-    const char *rig = "rig\t2\nmon\t2\ngo\t0\t0\t0\ngo\t0\t1\t1\ngo\t1\t0\t0\n";
+    /* Two 1s are at least two steps apart; link.rs has the same rig as `mon` and `go` lines. */
+    const char *rig = "rig\t2\ngap\t1\t2\n";
     const uint8_t *text = (const uint8_t *)rig;
     const size_t len = strlen(rig);
     /* Draw i is from i to N-1; a real caller draws them at random. */

@@ -1,8 +1,9 @@
 //! How long the calls take beside plain Rust and plain C on the same input, in the same run: the best of some rounds, taken in turn. Buffers are
-//! lent as the round before left them. Every answer is compared.
+//! lent as the round before left them. Every answer is compared. And how long `gap` and `reply` lines take to read beside the moves they stand for.
 mod plain;
 
-use outside::{calls, random::Random};
+use outside::texts::{lower_first, written_out};
+use outside::{calls, model, random::Random};
 use plain::{prune, read};
 use std::time::Instant;
 
@@ -218,6 +219,35 @@ fn growths() {
     growth("random, of 2^64 - 1, a map", &mut map, &most, &mut random);
 }
 
+/// Best microseconds that reading takes, of `gap` and `reply` lines and of the same monitors as `mon`, `go` and `stop` lines. The horizon 1,001 is refused
+/// once the text is read, so nothing else is timed.
+fn reading(name: &str, rules: &str) {
+    let moves = lower_first(&written_out(&model::read(rules.as_bytes()).unwrap()));
+    let texts = [rules.as_bytes().to_vec(), moves];
+    let mut best = [f64::MAX; 2];
+    for _ in 0..200 {
+        for (b, t) in best.iter_mut().zip(&texts) {
+            let mut read = || (0..50).for_each(|_| assert!(calls::count(t, 1001, &mut []).number == 7));
+            *b = b.min(timed(&mut read) * 1e3 / 50.0);
+        }
+    }
+    let mut cells = [vec![0; 21 * 1024], vec![0; 21 * 1024]];
+    let told = [0, 1].map(|k| calls::count(&texts[k], 20, &mut cells[k]));
+    assert!(told[0] == told[1] && cells[0] == cells[1]);
+    println!("{name:58} {:8.3} {:8.3} {:7.2}", best[0], best[1], best[0] / best[1]);
+}
+
+fn readings() {
+    println!("\n{:58} {:>8} {:>8} {:>7}", "reading, us", "lines", "moves", "ratio");
+    reading("gap 0 2, of 1 event", "rig\t1\ngap\t0\t2\n");
+    reading("reply 0 1 1 1, of 2 events", "rig\t2\nreply\t0\t1\t1\t1\n");
+    reading("gap 1 6 and reply 0 1 8 9, of 3 events", "rig\t3\ngap\t1\t6\nreply\t0\t1\t8\t9\n");
+    reading("gap 0 32, of 1 event", "rig\t1\ngap\t0\t32\n");
+    reading("gap 0 32 and reply 1 2 1 31, of 16 events", "rig\t16\ngap\t0\t32\nreply\t1\t2\t1\t31\n");
+    let four = "rig\t16\ngap\t0\t5\ngap\t1\t6\nreply\t0\t2\t2\t4\nreply\t1\t3\t1\t4\n";
+    reading("two gaps and two replies of 5 or 6 states, of 16 events", four);
+}
+
 fn main() {
     let rng = &mut Random::seeded(1);
     println!(
@@ -251,5 +281,6 @@ fn main() {
         false,
     );
     shuffle("shuffle, 10^5 equal draws, against a map", most, vec![most - 1; 100_000], false);
+    readings();
     growths();
 }

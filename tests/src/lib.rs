@@ -6,4 +6,5 @@ pub mod guarded;
 pub mod listing;
 pub mod model;
 pub mod random;
+pub mod rules;
 pub mod texts;

@@ -1,12 +1,14 @@
 //! Compares the C functions with an independent implementation of the papers: every word told, and every element of every lent buffer and
 //! of the guards around it. The last line is the number of comparisons and of differences; the exit status is 0 only without any.
-use outside::brute::{sequences, Runs};
+use outside::brute::{sequences, Judged, Runs};
 use outside::calls::{self, Told};
 use outside::guarded::{bytes, noise_bytes, noise_words, words, Guarded};
 use outside::listing::scenario_line;
-use outside::model;
+use outside::model::{self, Kind};
 use outside::random::Random;
-use outside::texts::{self, damage, endless, from_state_0, lower_first, other_marks, other_order, other_start, text, Shape};
+use outside::rules::{self, admitted, Rule};
+use outside::texts::{self, damage, endless, from_state_0, lower_first, other_marks, other_order, other_rules, other_start, ruled};
+use outside::texts::{text, written_out, Shape};
 use std::collections::{BTreeMap, HashSet};
 
 #[derive(Default)]
@@ -19,8 +21,12 @@ struct Tally {
     begun: u64,
     /// How many random rigs were served whose events are not compared lower first.
     ordered: u64,
-    /// By number of refusal: how many random texts were refused for a `stop` line.
-    stops: BTreeMap<u64, u64>,
+    /// By word of a line and number of refusal: how many random texts were refused for such a line.
+    lines: BTreeMap<(&'static str, u64), u64>,
+    /// By word of a line and of the latest monitor: how many random texts were refused 5 for a line that isn't that monitor's.
+    others: BTreeMap<(&'static str, &'static str), u64>,
+    /// By kind of monitor: how many random rigs were served that have one. And how many that have no `mon`.
+    kinds: BTreeMap<&'static str, u64>,
     /// How many random rigs were served that have a stoppable state, and how many of these also a live state without any scenario of the horizon.
     stoppable: u64,
     vain: u64,
@@ -30,6 +36,10 @@ struct Tally {
     ending: u64,
     /// How many sequences of small rigs are refused 14 at an event before which no scenario goes on already.
     late: u64,
+    /// How many sequences of `gap` and `reply` lines are admitted and can't be carried on.
+    dropped: u64,
+    /// How many rigs of `gap` and `reply` lines were served whose long sequences were judged by their sentences.
+    admitted: u64,
     /// How many lines had too short an output, so that nothing is written.
     short: u64,
 }
@@ -122,7 +132,7 @@ fn shuffle(tally: &mut Tally, rng: &mut Random, n: u64, draws: &[u64], scratch: 
 
 /// The worked examples of the paper and of its table of refusals, with the answers written there.
 fn worked(tally: &mut Tally, rng: &mut Random) {
-    use texts::{A, A_FROM_1, A_ORDERED, B, B_STOPS, EITHER, F, LAST, ONE};
+    use texts::{A, A_FROM_1, A_GAP, A_ORDERED, B, B_STOPS, CLASH, EITHER, F, LAST, ONE, REPLY};
     let at = |t: &str, h: u64, cells: usize, number: u64, words: [u64; 2]| (t.as_bytes().to_vec(), h, cells, number, words);
     let two = "rig\t1\nmon\t32\nmon\t32\n".to_string();
     let mut counts = vec![
@@ -224,6 +234,104 @@ fn worked(tally: &mut Tally, rng: &mut Random) {
         at(&format!("{LAST}stop\t1\n"), 0, 2, 4, [5, 0]),
         at("rig\t1\nmon\t2\nstop\t1\ngo\t0\t0\t1\nstop\t0\nstop\t1\n", 0, 2, 4, [6, 0]),
         at(&format!("{LAST}go\t0\t0\t1\n"), 0, 2, 4, [5, 0]),
+        // `gap` and `reply`: counted by hand, at their longest too; beside each other and beside `mon`
+        at("rig\t1\ngap\t0\t2\n", 0, 2, 0, [1, 1]),
+        at("rig\t1\ngap\t0\t2\n", 1, 4, 0, [1, 1]),
+        at("rig\t1\ngap\t0\t2\n", 2, 6, 9, [0, 0]),
+        at(A_GAP, 3, 8, 0, [5, 1]),
+        at(A_GAP, 3, 7, 8, [0, 0]),
+        at("rig\t3\ngap\t0\t3\n", 3, 12, 0, [20, 1]),
+        at("rig\t2\ngap\t0\t32\n", 32, 1056, 0, [33, 1]),
+        at("rig\t2\ngap\t0\t32\n", 33, 1088, 0, [35, 1]),
+        at(REPLY, 2, 9, 0, [8, 1]),
+        at(REPLY, 3, 12, 0, [20, 1]),
+        at("rig\t2\nreply\t0\t1\t1\t1\n", 3, 8, 0, [5, 1]),
+        at("rig\t2\nreply\t0\t1\t2\t2\n", 3, 12, 0, [4, 1]),
+        at("rig\t2\nreply\t0\t1\t31\t31\n", 32, 1056, 0, [33, 1]),
+        at("rig\t2\nreply\t0\t1\t31\t31\n", 33, 1088, 0, [35, 1]),
+        at("rig\t2\nreply\t0\t1\t1\t31\nreply\t1\t0\t1\t31\n", 0, 1024, 0, [1, 2]),
+        at("rig\t2\nreply\t0\t1\t1\t31\nreply\t1\t0\t1\t31\n", 1000, 1_025_024, 0, [2, 2]),
+        at(CLASH, 1, 12, 0, [2, 2]),
+        at(CLASH, 2, 18, 0, [1, 2]),
+        at(CLASH, 3, 24, 9, [0, 0]),
+        at("rig\t2\nmon\t1\ngo\t0\t0\t0\ngap\t0\t2\n", 0, 2, 9, [0, 0]),
+        at("rig\t2\nmon\t1\ngo\t0\t0\t0\nstop\t0\ngap\t0\t2\n", 1, 4, 0, [1, 1]),
+        at("rig\t2\nmon\t1\ngo\t0\t0\t0\nstop\t0\ngap\t0\t2\n", 2, 6, 9, [0, 0]),
+        at("rig\t1\ngap\t0\t2\nmon\t1\ngo\t0\t0\t0\nstop\t0\n", 1, 4, 0, [1, 1]),
+        at("rig\t16\ngap\t15\t32\nreply\t15\t0\t31\t31\n", 0, 1024, 0, [1, 1]),
+        // all their cases, in their order
+        at("rig\t1\ngap\n", 0, 2, 2, [2, 0]),
+        at("rig\t1\ngap\t0\n", 0, 2, 2, [2, 0]),
+        at("rig\t1\ngap\t0\t\n", 0, 2, 2, [2, 0]),
+        at("rig\t1\ngap\t0\t2\t0\n", 0, 2, 2, [2, 0]),
+        at("rig\t1\ngap\t9\t99\t9\n", 0, 2, 2, [2, 0]),
+        at("rig\t1\ngap\t0\t02\n", 0, 2, 2, [2, 0]),
+        at("rig\t1\ngap\t00\t2\n", 0, 2, 2, [2, 0]),
+        at("rig\t1\ngap\t0\t100000\n", 0, 2, 2, [2, 0]),
+        at("rig\t1\ngap\t0\t-2\n", 0, 2, 2, [2, 0]),
+        at("rig\t1\ngap\t0\t2", 0, 2, 2, [2, 0]),
+        at("rig\t1\nGAP\t0\t2\n", 0, 2, 2, [2, 0]),
+        at("gap\t0\n", 0, 2, 2, [1, 0]),
+        at("rig\t2\nreply\n", 0, 2, 2, [2, 0]),
+        at("rig\t2\nreply\t0\t1\t1\n", 0, 2, 2, [2, 0]),
+        at("rig\t2\nreply\t0\t0\t3\n", 0, 2, 2, [2, 0]),
+        at("rig\t2\nreply\t0\t1\t1\t2\t3\n", 0, 2, 2, [2, 0]),
+        at("rig\t2\nreply\t0\t1\t1\t\n", 0, 2, 2, [2, 0]),
+        at("rig\t2\nreply\t0\t0\t1\tx\n", 0, 2, 2, [2, 0]),
+        at("rig\t2\nreply\t0\t1\t01\t2\n", 0, 2, 2, [2, 0]),
+        at("rig\t2\nreply\t0\t1\t1\t2", 0, 2, 2, [2, 0]),
+        at("rig\t2\nreply\t0\t0\t1\t2", 0, 2, 2, [2, 0]),
+        at("rig\t2\nreplies\t0\t1\t1\t2\n", 0, 2, 2, [2, 0]),
+        at("gap\t0\t2\n", 0, 2, 5, [1, 0]),
+        at("gap\t99\t99\n", 0, 2, 5, [1, 0]),
+        at("reply\t0\t0\t9\t1\n", 0, 2, 5, [1, 0]),
+        at("rig\t2\ngap\t0\t2\nrig\t2\n", 0, 2, 5, [3, 0]),
+        at("rig\t2\ngap\t0\t2\nord\t1\t0\n", 0, 2, 5, [3, 0]),
+        at("rig\t2\ngap\t0\t2\ngo\t0\t0\t0\n", 0, 2, 5, [3, 0]),
+        at("rig\t2\ngap\t0\t2\ngo\t0\t0\t1\n", 0, 2, 5, [3, 0]),
+        at("rig\t2\ngap\t0\t2\ngo\t99\t99\t99\n", 0, 2, 5, [3, 0]),
+        at("rig\t2\ngap\t0\t2\ngo\t0\t0\n", 0, 2, 2, [3, 0]),
+        at("rig\t2\ngap\t0\t2\nstop\t0\n", 0, 2, 5, [3, 0]),
+        at("rig\t2\ngap\t0\t2\nstop\t99\n", 0, 2, 5, [3, 0]),
+        at("rig\t2\nreply\t0\t1\t1\t1\ngo\t1\t0\t0\n", 0, 2, 5, [3, 0]),
+        at("rig\t2\nreply\t0\t1\t1\t1\nstop\t1\n", 0, 2, 5, [3, 0]),
+        at("rig\t2\nreply\t0\t1\t1\t1\nstop\t2\n", 0, 2, 5, [3, 0]),
+        at("rig\t1\nmon\t1\ngap\t0\t2\ngo\t0\t0\t0\n", 0, 2, 5, [4, 0]),
+        at("rig\t1\ngap\t1\t2\n", 0, 2, 3, [2, 0]),
+        at("rig\t1\ngap\t256\t2\n", 0, 2, 3, [2, 0]),
+        at("rig\t1\ngap\t0\t1\n", 0, 2, 3, [2, 0]),
+        at("rig\t1\ngap\t0\t0\n", 0, 2, 3, [2, 0]),
+        at("rig\t1\ngap\t0\t33\n", 0, 2, 3, [2, 0]),
+        at("rig\t1\ngap\t0\t258\n", 0, 2, 3, [2, 0]),
+        at("rig\t1\ngap\t0\t65538\n", 0, 2, 3, [2, 0]),
+        at("rig\t2\nreply\t2\t1\t1\t2\n", 0, 2, 3, [2, 0]),
+        at("rig\t2\nreply\t0\t2\t1\t2\n", 0, 2, 3, [2, 0]),
+        at("rig\t2\nreply\t0\t256\t1\t2\n", 0, 2, 3, [2, 0]),
+        at("rig\t2\nreply\t0\t1\t0\t2\n", 0, 2, 3, [2, 0]),
+        at("rig\t2\nreply\t0\t1\t0\t0\n", 0, 2, 3, [2, 0]),
+        at("rig\t2\nreply\t0\t1\t3\t2\n", 0, 2, 3, [2, 0]),
+        at("rig\t2\nreply\t0\t1\t1\t32\n", 0, 2, 3, [2, 0]),
+        at("rig\t2\nreply\t0\t1\t32\t32\n", 0, 2, 3, [2, 0]),
+        at("rig\t2\nreply\t0\t1\t257\t258\n", 0, 2, 3, [2, 0]),
+        at("rig\t2\nreply\t0\t1\t1\t257\n", 0, 2, 3, [2, 0]),
+        at("rig\t2\nreply\t0\t0\t1\t2\n", 0, 2, 17, [2, 0]),
+        at("rig\t1\nreply\t0\t0\t31\t31\n", 0, 2, 17, [2, 0]),
+        // a equals b: after a number out of its range and after a fifth monitor, before P over 1,024
+        at("rig\t2\nreply\t0\t0\t3\t2\n", 0, 2, 3, [2, 0]),
+        at("rig\t2\nreply\t1\t1\t1\t32\n", 0, 2, 3, [2, 0]),
+        at("rig\t2\nreply\t2\t2\t1\t2\n", 0, 2, 3, [2, 0]),
+        at(&format!("rig\t2\n{}reply\t0\t0\t1\t1\n", "mon\t1\n".repeat(4)), 0, 2, 3, [6, 0]),
+        at(&format!("rig\t2\n{}reply\t0\t1\t1\t1\n", "gap\t0\t2\n".repeat(4)), 0, 2, 3, [6, 0]),
+        at(&format!("rig\t2\n{}gap\t0\t2\n", "reply\t0\t1\t1\t1\n".repeat(4)), 0, 2, 3, [6, 0]),
+        at(&format!("rig\t2\n{}mon\t1\n", "gap\t0\t2\n".repeat(4)), 0, 2, 3, [6, 0]),
+        at(&format!("rig\t2\n{}gap\t0\t2\n", "gap\t0\t5\n".repeat(4)), 0, 2, 3, [6, 0]),
+        at(&(two.clone() + "reply\t0\t0\t1\t1\n"), 1, 2, 17, [4, 0]),
+        at(&(two.clone() + "reply\t0\t1\t1\t1\n"), 1, 2, 3, [4, 0]),
+        at(&(two.clone() + "gap\t0\t2\n"), 1, 2, 6, [4, 0]),
+        at("rig\t2\ngap\t0\t32\nmon\t32\nreply\t0\t1\t1\t1\n", 0, 2, 6, [4, 0]),
+        at("rig\t2\ngap\t0\t32\ngap\t1\t32\nmon\t2\n", 0, 2, 6, [4, 0]),
+        at("rig\t2\nreply\t0\t1\t1\t31\nreply\t0\t1\t1\t31\nreply\t1\t1\t1\t31\n", 0, 2, 17, [4, 0]),
+        at("rig\t2\ngap\t0\t31\ngap\t1\t32\nmon\t1\ngo\t1\t0\t0\n", 0, 2, 3, [5, 0]),
     ];
     let path: String = (0..31).map(|s| format!("go\t{s}\t0\t{}\n", s + 1)).collect();
     counts.push(at(&format!("rig\t1\nmon\t32\n{path}"), 0, 32, 9, [0, 0]));
@@ -242,7 +350,9 @@ fn worked(tally: &mut Tally, rng: &mut Random) {
         let want = scenarios(tally, rng, a, 3, &list, 8, out);
         assert_eq!((want.number, want.words[0]), (number, place), "the independent scenarios of a worked example");
     }
-    let sequences: [(&[u8], &[u8], u64, u64); 16] = [
+    let want = scenarios(tally, rng, REPLY.as_bytes(), 2, &[0, 1, 7], 9, 6);
+    assert_eq!((want.number, want.out), (0, vec![0, 1, 0, 2, 2, 2]));
+    let sequences: [(&[u8], &[u8], u64, u64); 25] = [
         (a, &[1, 0, 1], 0, 4),
         (A_ORDERED.as_bytes(), &[0, 1, 0], 0, 2),
         (b, &[1], 14, 0),
@@ -260,15 +370,27 @@ fn worked(tally: &mut Tally, rng: &mut Random) {
         (EITHER.as_bytes(), &[0, 0, 0], 14, 1),
         (EITHER.as_bytes(), &[1, 1, 0], 14, 2),
         (EITHER.as_bytes(), &[1, 1, 1], 0, 0),
+        (A_GAP.as_bytes(), &[1, 0, 1], 0, 4),
+        (A_GAP.as_bytes(), &[0, 1, 1], 14, 2),
+        (REPLY.as_bytes(), &[0, 2, 1], 0, 3),
+        (REPLY.as_bytes(), &[0, 2, 2], 14, 2),
+        (REPLY.as_bytes(), &[0, 2, 0], 14, 2),
+        (REPLY.as_bytes(), &[0, 0], 14, 1),
+        (CLASH.as_bytes(), &[0, 1], 0, 0),
+        // admitted, but it leads where nothing can follow
+        (CLASH.as_bytes(), &[1, 0], 14, 1),
+        (CLASH.as_bytes(), &[0, 1, 0], 9, 0),
     ];
     for (t, w, number, word) in sequences {
         let want = index(tally, rng, t, w, 300);
         assert_eq!((want.number, want.words[0]), (number, word), "the independent index of a worked example");
     }
-    for (at, byte) in (0..LAST.len()).flat_map(|at| (0..=255).map(move |byte| (at, byte))) {
-        let mut t = LAST.as_bytes().to_vec();
-        t[at] = byte;
-        count(tally, rng, &t, 1, 4);
+    for good in [LAST, A_GAP, CLASH] {
+        for (at, byte) in (0..good.len()).flat_map(|at| (0..=255).map(move |byte| (at, byte))) {
+            let mut t = good.as_bytes().to_vec();
+            t[at] = byte;
+            count(tally, rng, &t, 1, 12);
+        }
     }
     assert_eq!(shuffle(tally, rng, 5, &[4, 4, 4], 6, 3), [4, 0, 1]);
     assert_eq!(shuffle(tally, rng, 0, &[], 0, 0), []);
@@ -296,10 +418,24 @@ fn horizon(rng: &mut Random) -> u64 {
     }
 }
 
-/// The word of the line at this place, from 1, if there is such a line and it is ended.
-fn word(t: &[u8], place: u64) -> Option<&[u8]> {
+/// The words that a monitor's lines begin with.
+const WORDS: [&str; 5] = ["mon", "gap", "reply", "go", "stop"];
+
+/// The word of the line at this place, from 1, if there is such a line of a monitor and it is ended.
+fn word(t: &[u8], place: u64) -> Option<&'static str> {
     let line = t.split_inclusive(|&b| b == 10).nth((place as usize).checked_sub(1)?)?;
-    line.strip_suffix(b"\n")?.split(|&b| b == 9).next()
+    let first = line.strip_suffix(b"\n")?.split(|&b| b == 9).next()?;
+    WORDS.into_iter().find(|w| w.as_bytes() == first)
+}
+
+/// Counts the word of the line that a text is refused for; and the latest monitor's too, where that is a `go` or `stop` that doesn't belong to it.
+fn refused(tally: &mut Tally, t: &[u8], number: u64, place: u64) {
+    let Some(w) = word(t, place) else { return };
+    *tally.lines.entry((w, number)).or_default() += 1;
+    if let (5, "go" | "stop") = (number, w) {
+        let latest = (1..place).rev().filter_map(|k| word(t, k)).find(|w| WORDS[..3].contains(w));
+        *tally.others.entry((w, latest.unwrap_or("none"))).or_default() += 1;
+    }
 }
 
 /// The three calls on one text, readable or not.
@@ -319,9 +455,13 @@ fn calls_on(tally: &mut Tally, rng: &mut Random, t: &[u8]) {
             tally.ordered += !rig.order.is_sorted() as u64;
             tally.stoppable += stoppable as u64;
             tally.vain += live.iter().zip(scenarios).any(|(&live, &n)| live == 1 && n == 0) as u64;
+            let has = |kind| rig.monitors.iter().any(|m| m.kind == kind);
+            for (kind, served) in [("gap", has(Kind::Gap)), ("reply", has(Kind::Reply)), ("no mon", !has(Kind::Mon))] {
+                *tally.kinds.entry(kind).or_default() += served as u64;
+            }
         }
         (Ok(rig), 9) => tally.over += counted.cells[rig.start()],
-        (Err((number, place)), _) if word(t, *place) == Some(b"stop") => *tally.stops.entry(*number).or_default() += 1,
+        (Err((number, place)), _) => refused(tally, t, *number, *place),
         _ => (),
     }
     let n = if counted.number == 0 { counted.words[0] } else { 1 + rng.below(5) };
@@ -353,20 +493,36 @@ fn calls_on(tally: &mut Tally, rng: &mut Random, t: &[u8]) {
     index(tally, rng, t, &sequence, cells);
 }
 
-/// Demand 3 on one small rig: count, order, scenarios, indices and full shuffles against every sequence of h events. Gives back whether any belongs.
+/// Demand 3 on one small rig, by its moves. Gives back whether any sequence of h events belongs.
 fn demand(tally: &mut Tally, rng: &mut Random, t: &[u8], h: usize) -> bool {
     let rig = model::read(t).expect("a readable text");
     let runs = Runs::of(&rig);
-    let all = sequences(&rig, &runs, h);
+    let names = ["demand 3: count", "demand 3: scenarios", "demand 3: index", "demand 3: shuffle"];
+    held(tally, rng, names, t, runs.passes(), &sequences(&rig, &runs, h))
+}
+
+/// Demand 3 on one small rig of `gap` and `reply` lines alone, by their sentences.
+fn by_sentences(tally: &mut Tally, rng: &mut Random, rules: &[Rule], order: &[usize], h: usize) {
+    let t = ruled(rules, order);
+    let passes = Runs::of(&model::read(&t).expect("a readable text")).passes();
+    let all = rules::sequences(rules, order, h);
+    tally.dropped += all.iter().filter(|(w, bad)| bad.is_some() && admitted(rules, w)).count() as u64;
+    let names = ["sentences: count", "sentences: scenarios", "sentences: index", "sentences: shuffle"];
+    held(tally, rng, names, &t, passes, &all);
+}
+
+/// Demand 3: count, order, scenarios, indices and full shuffles against every sequence of some length. Gives back whether any belongs.
+fn held(tally: &mut Tally, rng: &mut Random, names: [&'static str; 4], t: &[u8], passes: u64, all: &[Judged]) -> bool {
+    let states = model::read(t).expect("a readable text").joint_states();
+    let h = all[0].0.len();
     let belong: Vec<&Vec<u8>> = all.iter().filter(|(_, bad)| bad.is_none()).map(|(w, _)| w).collect();
     let beginnings: HashSet<&[u8]> = belong.iter().flat_map(|w| (0..=h).map(|k| &w[..k])).collect();
     let n = belong.len() as u64;
-    let room = (h + 1) * rig.joint_states();
     let input = || format!("h {h}, {}", shown(t));
-    let mut cells = vec![7u64; room];
+    let mut cells = vec![7u64; (h + 1) * states];
     let number = if n == 0 { 9 } else { 0 };
-    let words = if n == 0 { [0, 0] } else { [n, runs.passes()] };
-    tally.note("demand 3: count", number, told_differs(calls::count(t, h as u64, &mut cells), number, words), input);
+    let words = if n == 0 { [0, 0] } else { [n, passes] };
+    tally.note(names[0], number, told_differs(calls::count(t, h as u64, &mut cells), number, words), input);
     let mut list: Vec<u64> = (0..n).collect();
     list.extend((0..n.min(5)).map(|_| rng.below(n)));
     let mut out = vec![0xEEu8; list.len() * h + 3];
@@ -374,9 +530,9 @@ fn demand(tally: &mut Tally, rng: &mut Random, t: &[u8], h: usize) -> bool {
     let mut want: Vec<u8> = list.iter().flat_map(|&i| belong[i as usize].clone()).collect();
     want.extend([0xEE; 3]);
     let wrong = told_differs(told, number, [0, 0]).or((out != want).then(|| "other scenarios or another order".into()));
-    tally.note("demand 3: scenarios", number, wrong, input);
+    tally.note(names[1], number, wrong, input);
     let mut i = 0;
-    for (w, bad) in &all {
+    for (w, bad) in all {
         let (number, word) = match (n, bad) {
             (0, _) => (9, 0),
             (_, Some(k)) => {
@@ -389,7 +545,7 @@ fn demand(tally: &mut Tally, rng: &mut Random, t: &[u8], h: usize) -> bool {
             }
         };
         let told = calls::index(t, w, &mut cells);
-        tally.note("demand 3: index", number, told_differs(told, number, [word, 0]), || format!("sequence {w:?}, {}", shown(t)));
+        tally.note(names[2], number, told_differs(told, number, [word, 0]), || format!("sequence {w:?}, {}", shown(t)));
     }
     for _ in 0..if n == 0 { 0 } else { 3 } {
         let draws: Vec<u64> = (0..n).map(|i| rng.from_to(i, n - 1)).collect();
@@ -404,7 +560,7 @@ fn demand(tally: &mut Tally, rng: &mut Random, t: &[u8], h: usize) -> bool {
         let once = given == each;
         let wrong =
             told_differs(told, 0, [0, 0]).or(told_differs(listed, 0, [0, 0])).or((!once).then(|| "not each scenario exactly once".into()));
-        tally.note("demand 3: shuffle", 0, wrong, input);
+        tally.note(names[3], 0, wrong, input);
     }
     n > 0
 }
@@ -486,6 +642,118 @@ fn unmarked(tally: &mut Tally, t: &[u8], h: u64) {
     let wrong = if all { theirs.iter().any(|w| !ours.contains(w)) } else { ours != theirs };
     let name = if all { "all marked: listed" } else { "some marked: listed" };
     tally.note(name, 0, wrong.then(|| format!("{ours:?} and {theirs:?}")), input);
+}
+
+/// A readable rig with `gap` or `reply` lines, and the same one with these as `mon`, `go` and `stop` lines: the library tells the same, fills the same
+/// cells and writes the same bytes.
+fn as_moves(tally: &mut Tally, rng: &mut Random, t: &[u8], h: u64) {
+    let rig = model::read(t).expect("a readable text");
+    if rig.monitors.iter().all(|m| m.kind == Kind::Mon) {
+        return;
+    }
+    let moves = written_out(&rig);
+    let need = (h as usize + 1) * rig.joint_states();
+    let input = || format!("h {h}, {} and {}", shown(t), shown(&moves));
+    let (mut cells, mut same_cells) = (vec![3u64; need + 2], vec![3u64; need + 2]);
+    let (told, same) = (calls::count(t, h, &mut cells), calls::count(&moves, h, &mut same_cells));
+    let other = |a: &[u64], b: &[u64]| (a != b).then(|| "other cells".to_string());
+    tally.note("as moves: count", same.number, told_differs(told, same.number, same.words).or(other(&cells, &same_cells)), input);
+    let n = if same.number == 0 { same.words[0] } else { 1 };
+    let list: Vec<u64> = (0..4).map(|k| if k == 3 && rng.chance(1, 8) { n } else { rng.below(n) }).collect();
+    let (mut out, mut same_out) = (vec![1u8; 4 * h as usize], vec![1u8; 4 * h as usize]);
+    let (told, same) =
+        (calls::scenarios(t, h, &list, &mut cells, &mut out), calls::scenarios(&moves, h, &list, &mut same_cells, &mut same_out));
+    let wrong = told_differs(told, same.number, same.words)
+        .or(other(&cells, &same_cells))
+        .or((out != same_out).then(|| format!("{out:?} and {same_out:?}")));
+    tally.note("as moves: scenarios", same.number, wrong, input);
+    let mut w: Vec<u8> = (0..h).map(|_| rng.below(rig.events as u64) as u8).collect();
+    if same.number == 0 && rng.chance(3, 4) {
+        w.copy_from_slice(&same_out[..h as usize]);
+    }
+    let (told, same) = (calls::index(t, &w, &mut cells), calls::index(&moves, &w, &mut same_cells));
+    let wrong = told_differs(told, same.number, same.words).or(other(&cells, &same_cells));
+    tally.note("as moves: index", same.number, wrong, || format!("sequence {w:?}, {} and {}", shown(t), shown(&moves)));
+}
+
+/// What the library says of every sequence of up to 7 events under every `gap` and `reply` line with n and hi up to 5, alone, is what its sentence says; and
+/// so of every two lines with n and hi up to 4 over two events, and of random ones.
+fn sentences(tally: &mut Tally, rng: &mut Random) {
+    for events in 1..=3 {
+        for rule in Rule::every(events, 5) {
+            (0..=7).for_each(|h| by_sentences(tally, rng, &[rule], &(0..events as usize).collect::<Vec<_>>(), h));
+        }
+    }
+    assert_eq!(tally.dropped, 0, "what one line admits can be carried on");
+    let small = Rule::every(2, 4);
+    for (a, b) in small.iter().flat_map(|a| small.iter().map(move |b| (*a, *b))) {
+        (0..=6).for_each(|h| by_sentences(tally, rng, &[a, b], &[1, 0], h));
+    }
+    for _ in 0..1_000 {
+        let ((rules, order), h) = (rules::beside(rng), rng.below(6) as usize);
+        by_sentences(tally, rng, &rules, &order, h);
+    }
+}
+
+/// A sequence that the lines admit as long as they admit any event; half of them with one event changed.
+fn walk(rng: &mut Random, rules: &[Rule], events: u64, h: usize) -> Vec<u8> {
+    let mut w = vec![];
+    for _ in 0..h {
+        w.push(rng.below(events) as u8);
+        for _ in 0..events {
+            if !admitted(rules, &w) {
+                *w.last_mut().unwrap() = (w[w.len() - 1] + 1) % events as u8;
+            }
+        }
+    }
+    if h > 0 && rng.chance(1, 2) {
+        w[rng.below(h as u64) as usize] = rng.below(events) as u8;
+    }
+    w
+}
+
+/// Long sequences under `gap` and `reply` lines with numbers of any size. Where a line is alone, a sequence is refused at the event at which its sentence fails;
+/// beside others, there or earlier. What is listed or has an index is admitted by all.
+fn long_sequences(tally: &mut Tally, rng: &mut Random) {
+    for k in 0..3_000 {
+        let alone = k % 2 == 0;
+        let events = rng.from_to(2, 4);
+        let h = rng.below([0, 0, 60, 38, 30][events as usize] + 1) as usize;
+        let sizes = if alone { vec![rng.from_to(2, 32)] } else { vec![rng.from_to(2, 32), rng.from_to(2, 8), rng.from_to(2, 4)] };
+        let rules: Vec<Rule> = sizes.iter().map(|&s| Rule::random(s, events, rng)).collect();
+        judged(tally, rng, &rules, events, h);
+    }
+    // few enough sequences for a long horizon: one of the two events comes at most once in 17 steps
+    for _ in 0..60 {
+        let n = rng.from_to(17, 32) as usize;
+        let (a, lo) = (rng.below(2) as u8, rng.from_to(16, n as u64 - 1) as usize);
+        let rule = *rng.pick(&[Rule::Gap { e: a, n }, Rule::Reply { a, b: 1 - a, lo, hi: n - 1 }]);
+        let h = rng.from_to(100, 300) as usize;
+        judged(tally, rng, &[rule], 2, h);
+    }
+}
+
+/// Compares the index of one sequence, and some scenarios, under these lines; and with what the sentences say.
+fn judged(tally: &mut Tally, rng: &mut Random, rules: &[Rule], events: u64, h: usize) {
+    let t = ruled(rules, &(0..events as usize).collect::<Vec<_>>());
+    let w = walk(rng, rules, events, h);
+    let cells = (h + 1) * rules.iter().map(Rule::states).product::<usize>();
+    let want = index(tally, rng, &t, &w, cells);
+    let fails = (0..h).find(|&k| !admitted(rules, &w[..=k])).map(|k| k as u64);
+    match (want.number, fails) {
+        (0, None) | (9, _) => (),
+        (14, _) if rules.len() == 1 => assert_eq!(Some(want.words[0]), fails, "where the sentence fails: {w:?}, {rules:?}"),
+        (14, _) => assert!(fails.is_none_or(|k| want.words[0] <= k), "no later than where a sentence fails: {w:?}, {rules:?}"),
+        (number, _) => panic!("{number}, but the sentences fail at {fails:?}: {w:?}, {rules:?}"),
+    }
+    let counted = model::count(&t, h as u64, &vec![0; cells]);
+    if counted.number == 0 {
+        let list: Vec<u64> = (0..4).map(|_| rng.below(counted.words[0])).collect();
+        let listed = scenarios(tally, rng, &t, h as u64, &list, cells, 4 * h);
+        let all = (0..4).all(|k| admitted(rules, &listed.out[k * h..(k + 1) * h]));
+        assert!(listed.number == 0 && all, "a scenario that a sentence doesn't admit: {rules:?}");
+        tally.admitted += 1;
+    }
 }
 
 /// Draws for a shuffle of n numbers, most of them valid.
@@ -592,18 +860,23 @@ fn limits(tally: &mut Tally, rng: &mut Random) {
 
 /// The largest rigs, the longest horizon, the longest texts.
 fn large(tally: &mut Tally, rng: &mut Random) {
-    for (monitors, density, marks) in [
-        (vec![32, 32], 100, 0),
-        (vec![32, 32], 100, 100),
-        (vec![32, 32], 20, 0),
-        (vec![32, 32], 20, 30),
-        (vec![4, 8, 4, 8], 60, 0),
-        (vec![4, 8, 4, 8], 30, 70),
-        (vec![2, 2, 16, 16], 90, 0),
-        (vec![32, 16, 2], 50, 0),
-        (vec![32, 16, 2], 5, 50),
+    for (monitors, density, marks, rules) in [
+        (vec![32, 32], 100, 0, 0),
+        (vec![32, 32], 100, 100, 0),
+        (vec![32, 32], 20, 0, 0),
+        (vec![32, 32], 20, 30, 0),
+        (vec![32, 32], 0, 0, 100),
+        (vec![32, 32], 90, 30, 50),
+        (vec![4, 8, 4, 8], 60, 0, 0),
+        (vec![4, 8, 4, 8], 30, 70, 0),
+        (vec![4, 8, 4, 8], 0, 0, 100),
+        (vec![2, 2, 16, 16], 90, 0, 0),
+        (vec![2, 2, 16, 16], 90, 30, 50),
+        (vec![32, 16, 2], 50, 0, 0),
+        (vec![32, 16, 2], 5, 50, 0),
+        (vec![32, 16, 2], 0, 0, 100),
     ] {
-        let t = text(&Shape { events: 16, monitors, density, marks }, rng);
+        let t = text(&Shape { events: 16, monitors, density, marks, rules }, rng);
         let h = rng.below(40);
         count(tally, rng, &t, h, (h as usize + 1) * 1024 + 5);
         let counted = count(tally, rng, &t, 12, 13 * 1024);
@@ -611,9 +884,10 @@ fn large(tally: &mut Tally, rng: &mut Random) {
         let list: Vec<u64> = (0..50).map(|_| rng.below(n)).collect();
         let listed = scenarios(tally, rng, &t, 12, &list, 13 * 1024, 50 * 12);
         index(tally, rng, &t, &listed.out[..12], 13 * 1024);
+        as_moves(tally, rng, &t, 12);
     }
-    for marks in [0, 50] {
-        let t = text(&Shape { events: 3, monitors: vec![4, 3, 2], density: 70, marks }, rng);
+    for (marks, rules) in [(0, 0), (50, 0), (50, 50), (0, 100)] {
+        let t = text(&Shape { events: 3, monitors: vec![4, 3, 2], density: 70, marks, rules }, rng);
         count(tally, rng, &t, 1000, 1001 * 24);
     }
     let path: String = (0..31).map(|s| format!("go\t{s}\t0\t{}\n", s + 1)).collect();
@@ -696,13 +970,19 @@ fn main() {
             0 | 1 => t = other_start(&t, rng),
             2 => t = other_order(&t, rng),
             3 | 4 => t = other_marks(&t, rng),
+            5..=7 => t = other_rules(&t, rng),
             _ => (),
         }
         calls_on(&mut tally, rng, &t);
     }
-    for _ in 0..1_500 {
-        let monitors = (0..rng.from_to(1, 5)).map(|_| *rng.pick(&[1, 2, 3, 8, 16, 31, 32, 33])).collect();
-        let t = text(&Shape { events: rng.from_to(1, 3), monitors, density: 60, marks: *rng.pick(&[0, 50]) }, rng);
+    for k in 0..3_000 {
+        let any = (0..rng.from_to(1, 5)).map(|_| *rng.pick(&[1, 2, 3, 8, 16, 31, 32, 33])).collect();
+        let monitors = if k % 2 == 0 { any } else { vec![rng.from_to(16, 32), rng.from_to(8, 32), rng.from_to(2, 8)] };
+        let (marks, rules) = (*rng.pick(&[0, 50]), *rng.pick(&[0, 0, 50, 100]));
+        let mut t = text(&Shape { events: rng.from_to(1, 3), monitors, density: 60, marks, rules }, rng);
+        if k % 4 == 0 {
+            t = other_rules(&t, rng);
+        }
         calls_on(&mut tally, rng, &t);
     }
     for _ in 0..120_000 {
@@ -721,7 +1001,7 @@ fn main() {
     }
     for _ in 0..2_000 {
         let monitors = vec![rng.from_to(2, 8), rng.from_to(1, 2)];
-        let t = text(&Shape { events: rng.from_to(2, 3), monitors, density: 50, marks: 60 }, rng);
+        let t = text(&Shape { events: rng.from_to(2, 3), monitors, density: 50, marks: 60, rules: *rng.pick(&[0, 50]) }, rng);
         let served: Vec<bool> = (0..5).map(|h| demand(&mut tally, rng, &t, h)).collect();
         assert!(served.is_sorted_by(|a, b| a >= b), "a sequence that belongs begins with a shorter one that does");
         tally.ending += (served[0] && !served[4]) as u64;
@@ -732,22 +1012,30 @@ fn main() {
         renumbered(&mut tally, rng, &t, h);
         reordered(&mut tally, rng, &t, h);
         unmarked(&mut tally, &t, h);
+        as_moves(&mut tally, rng, &t, h);
     }
+    sentences(&mut tally, rng);
+    long_sequences(&mut tally, rng);
     all_shuffles(&mut tally, rng);
     shuffles(&mut tally, rng, 200_000);
     limits(&mut tally, rng);
     large(&mut tally, rng);
     lines(&mut tally, rng);
     for (call, numbers) in [
-        ("count", &[0u64, 1, 2, 3, 4, 5, 6, 7, 8, 9, 10, 16][..]),
-        ("scenarios", &[0, 1, 2, 3, 4, 5, 6, 7, 8, 9, 10, 11, 12, 16]),
-        ("index", &[0, 1, 2, 3, 4, 5, 6, 7, 8, 9, 10, 13, 14, 16]),
+        ("count", &[0u64, 1, 2, 3, 4, 5, 6, 7, 8, 9, 10, 16, 17][..]),
+        ("scenarios", &[0, 1, 2, 3, 4, 5, 6, 7, 8, 9, 10, 11, 12, 16, 17]),
+        ("index", &[0, 1, 2, 3, 4, 5, 6, 7, 8, 9, 10, 13, 14, 16, 17]),
         ("shuffle", &[0, 8, 12, 15]),
         ("line", &[0]),
         ("some marked: count", &[0, 9]),
         ("some marked: listed", &[0]),
         ("all marked: count", &[0, 9]),
         ("all marked: listed", &[0]),
+        ("as moves: count", &[0, 9]),
+        ("as moves: scenarios", &[0, 9, 11]),
+        ("as moves: index", &[0, 9, 14]),
+        ("sentences: count", &[0, 9]),
+        ("sentences: index", &[0, 9, 14]),
     ] {
         for &number in numbers {
             assert!(tally.answers.contains_key(&(call, number)), "no {call} call is expected to answer {number}");
@@ -755,9 +1043,20 @@ fn main() {
     }
     assert!(tally.begun > 1_000, "few rigs begin in another state than 0");
     assert!(tally.ordered > 1_000, "few rigs have another order of events than lower first");
-    for number in 2..=5 {
-        assert!(tally.stops.get(&number).is_some_and(|&n| n > 1_000), "few texts are refused {number} for a `stop` line");
+    for (word, numbers) in [("stop", &[2, 3, 4, 5][..]), ("gap", &[2, 3, 5, 6]), ("reply", &[2, 3, 5, 6, 17])] {
+        for &number in numbers {
+            let times = tally.lines.get(&(word, number)).copied().unwrap_or(0);
+            assert!(times > if word == "stop" { 1_000 } else { 100 }, "few texts are refused {number} for a `{word}` line: {times}");
+        }
     }
+    for key in [("go", "gap"), ("go", "reply"), ("stop", "gap"), ("stop", "reply")] {
+        assert!(tally.others.get(&key).is_some_and(|&n| n > 100), "few texts are refused for {key:?}");
+    }
+    for kind in ["gap", "reply", "no mon"] {
+        assert!(tally.kinds[kind] > 1_000, "few rigs have {kind}");
+    }
+    assert!(tally.dropped > 1_000, "few sequences are admitted by the sentences and can't be carried on: {}", tally.dropped);
+    assert!(tally.admitted > 2_000, "few long sequences are judged by the sentences");
     assert!(tally.stoppable > 1_000, "few rigs have a stoppable state");
     assert!(tally.vain > 500, "few rigs have a live state without any scenario of the horizon");
     assert!(tally.over > 1_000, "few rigs have a live start and no scenario of the horizon");
@@ -775,7 +1074,11 @@ fn main() {
         tally.over, tally.ending
     );
     println!("{} sequences are refused at an event before which no scenario goes on already", tally.late);
-    println!("texts refused for a `stop` line, by number: {:?}", tally.stops);
+    println!("served rigs by their monitors: {:?}", tally.kinds);
+    println!("{} sequences are admitted by the sentences of `gap` and `reply` lines and can't be carried on", tally.dropped);
+    println!("{} rigs of long sequences were served that were judged by the sentences", tally.admitted);
+    println!("texts refused, by the line's word and the number: {:?}", tally.lines);
+    println!("texts refused 5, by the line's word and the latest monitor's: {:?}", tally.others);
     println!("{} of the lines have too short an output", tally.short);
     println!("{} comparisons, {} differences", tally.comparisons, tally.differences);
     if tally.differences > 0 {

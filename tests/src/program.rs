@@ -2,9 +2,8 @@
 //! The last line is the number of inputs and of differences; the exit status is 0 only without any.
 use outside::listing::{listing, Outcome};
 use outside::random::Random;
-use outside::texts::{
-    damage, endless, monitors, other_marks, other_order, other_start, text, Shape, A, A_FROM_1, A_ORDERED, B, B_STOPS, F, LAST, ONE,
-};
+use outside::texts::{damage, endless, monitors, other_marks, other_order, other_rules, other_start, text, Shape};
+use outside::texts::{A, A_FROM_1, A_GAP, A_ORDERED, B, B_STOPS, CLASH, F, LAST, ONE, REPLY};
 use std::collections::{BTreeMap, BTreeSet};
 use std::io::Write;
 use std::process::{ChildStdin, Command, Stdio};
@@ -18,8 +17,8 @@ struct Tally {
     outcomes: BTreeMap<Outcome, (u64, u64)>,
     /// The horizons that were served.
     served: BTreeSet<u64>,
-    /// How many inputs with a `stop` line were served.
-    stops: u64,
+    /// By word: how many inputs with such a line were served.
+    lines: BTreeMap<&'static str, u64>,
 }
 
 /// Lends an input to the program in pieces, with a rest between them. A program that has read enough may close its end.
@@ -61,7 +60,9 @@ impl Tally {
         seen.0 += 1;
         if matches!(want.outcome, Outcome::Fewer | Outcome::Thousand | Outcome::More) {
             self.served.insert(want.horizon);
-            self.stops += u64::from(input.windows(6).any(|w| w == b"\nstop\t"));
+            for (word, line) in [("stop", "\nstop\t"), ("gap", "\ngap\t"), ("reply", "\nreply\t")] {
+                *self.lines.entry(word).or_default() += u64::from(input.windows(line.len()).any(|w| w == line.as_bytes()));
+            }
         }
         if let Some(what) = wrong {
             seen.1 += 1;
@@ -97,6 +98,7 @@ fn ask(h: u64, t: &[u8]) -> Vec<u8> {
 fn worked(tally: &mut Tally) {
     let whole = "count\t5\t1\n0\t0\t0\t0\n1\t0\t0\t1\n2\t0\t1\t0\n3\t1\t0\t0\n4\t1\t0\t1\n";
     assert_eq!(tally.compare(&ask(3, A.as_bytes())), whole.as_bytes(), "the independent listing of the paper's example");
+    assert_eq!(tally.compare(&ask(3, A_GAP.as_bytes())), whole.as_bytes(), "the independent listing of the paper's example as a `gap`");
     let whole = "count\t3\t1\n0\t0\t0\t0\n1\t0\t0\t1\n2\t0\t1\t0\n";
     assert_eq!(tally.compare(&ask(3, A_FROM_1.as_bytes())), whole.as_bytes(), "the independent listing of A from its state 1");
     let whole = "count\t5\t1\n0\t1\t0\t1\n1\t1\t0\t0\n2\t0\t1\t0\n3\t0\t0\t1\n4\t0\t0\t0\n";
@@ -106,18 +108,29 @@ fn worked(tally: &mut Tally) {
     for (h, whole) in [(0, "count\t1\t1\n0\n"), (1, "count\t1\t1\n0\t0\n"), (2, "no\t9\t0\n")] {
         assert_eq!(tally.compare(&ask(h, LAST.as_bytes())), whole.as_bytes(), "the independent listing of one event and no more");
     }
+    let whole = "count\t8\t1\n0\t0\t1\n1\t0\t2\n2\t1\t0\n3\t1\t1\n4\t1\t2\n5\t2\t0\n6\t2\t1\n7\t2\t2\n";
+    assert_eq!(tally.compare(&ask(2, REPLY.as_bytes())), whole.as_bytes(), "the independent listing of a `reply`");
+    for (h, whole) in [(1, "count\t2\t2\n0\t0\n1\t1\n"), (2, "count\t1\t2\n0\t0\t1\n"), (3, "no\t9\t0\n")] {
+        assert_eq!(tally.compare(&ask(h, CLASH.as_bytes())), whole.as_bytes(), "the independent listing of a `gap` beside a `reply`");
+    }
+    for (h, whole) in [(1, "count\t1\t1\n0\t0\n"), (2, "no\t9\t0\n")] {
+        let alone = tally.compare(&ask(h, b"rig\t1\ngap\t0\t2\n"));
+        assert_eq!(alone, whole.as_bytes(), "the independent listing of a `gap` on the only event");
+    }
     let shift = include_str!("../../examples/last_bus.ask").split_once('\n').unwrap().1.as_bytes();
     for (h, first) in [(11, "count\t7\t"), (12, "count\t1\t"), (13, "no\t9\t0\n")] {
         assert!(tally.compare(&ask(h, shift)).starts_with(first.as_bytes()), "the independent listing of the last bus");
         assert_eq!(tally.compare(&ask(h, &endless(shift))), b"no\t9\t0\n", "the independent listing of the last bus without marks");
     }
+    let (follows, first) = (include_bytes!("../../examples/load_follows.ask"), include_bytes!("../../examples/load_follows.first"));
+    assert!(tally.compare(follows).starts_with(first), "the independent listing of the load that follows");
     let long = "\n".repeat(65_535);
     let (two, four) = ("rig\t1\nmon\t32\nmon\t32\n", "rig\t1\nmon\t1\nmon\t1\nmon\t1\nmon\t1\n");
     let refused = [
         (0, format!("{long}\n"), "no\t1\t0\n"),
         (0, long, "no\t2\t1\n"),
         (0, "rig\t2\nmon\n".into(), "no\t2\t2\n"),
-        (0, "rig\t2\nmon\t2\ngap\t0\t2\n".into(), "no\t2\t3\n"),
+        (0, "rig\t2\nmon\t2\nbal\t0\t1\n".into(), "no\t2\t3\n"),
         (0, "rig\t02\nmon\t2\n".into(), "no\t2\t1\n"),
         (0, "rig\t2\nmon\t2\ngo\t0\t0\t0".into(), "no\t2\t3\n"),
         (0, "rig\t17\n".into(), "no\t3\t1\n"),
@@ -142,6 +155,22 @@ fn worked(tally: &mut Tally) {
         (0, format!("{LAST}stop\t1\n"), "no\t4\t5\n"),
         (0, "rig\t1\nstop\t99999\n".into(), "no\t5\t2\n"),
         (0, "stop\t0\n".into(), "no\t5\t1\n"),
+        (0, "rig\t2\ngap\t0\n".into(), "no\t2\t2\n"),
+        (0, "rig\t2\ngap\t2\t2\n".into(), "no\t3\t2\n"),
+        (0, "rig\t2\ngap\t0\t1\n".into(), "no\t3\t2\n"),
+        (0, "rig\t2\ngap\t0\t33\n".into(), "no\t3\t2\n"),
+        (0, "rig\t2\ngap\t0\t2\ngo\t99\t0\t0\n".into(), "no\t5\t3\n"),
+        (0, "gap\t0\t2\n".into(), "no\t5\t1\n"),
+        (0, format!("{two}gap\t0\t2\n"), "no\t6\t4\n"),
+        (0, "rig\t2\nreply\t0\t1\t1\n".into(), "no\t2\t2\n"),
+        (0, "rig\t2\nreply\t0\t1\t0\t1\n".into(), "no\t3\t2\n"),
+        (0, "rig\t2\nreply\t0\t1\t2\t1\n".into(), "no\t3\t2\n"),
+        (0, "rig\t2\nreply\t0\t1\t1\t32\n".into(), "no\t3\t2\n"),
+        (0, "rig\t2\nreply\t1\t1\t1\t2\n".into(), "no\t17\t2\n"),
+        (0, "rig\t2\nreply\t1\t1\t2\t1\n".into(), "no\t3\t2\n"),
+        (0, format!("{four}reply\t0\t0\t1\t1\n"), "no\t3\t6\n"),
+        (0, format!("{two}reply\t0\t0\t1\t1\n"), "no\t17\t4\n"),
+        (0, "rig\t2\nreply\t0\t1\t1\t2\nstop\t0\n".into(), "no\t5\t3\n"),
         (0, "rig\t2\nmon\t2\ngo\t2\t0\t0\n".into(), "no\t3\t3\n"),
         (0, "rig\t2\nmon\t2\ngo\t0\t2\t0\n".into(), "no\t3\t3\n"),
         (0, "rig\t2\nmon\t2\ngo\t0\t0\t2\n".into(), "no\t3\t3\n"),
@@ -156,7 +185,7 @@ fn worked(tally: &mut Tally) {
         (8, two.into(), "no\t8\t0\n"),
         (0, two.into(), "no\t9\t0\n"),
         (64, F.into(), "no\t10\t0\n"),
-        // the first bad line counts; on one line 2, 5, 3, 16, 4, 6; the rig before the horizon, the horizon before the cells
+        // the first bad line counts; on one line 2, 5, 3, 16 or 17, 4, 6; the rig before the horizon, the horizon before the cells
         (1001, "rig\t1\nmon\t1\nmon\t0\nx\n".into(), "no\t3\t3\n"),
         (0, "go\t0\t0\t99999\n".into(), "no\t5\t1\n"),
         (0, format!("{four}mon\t33\n"), "no\t3\t6\n"),
@@ -171,7 +200,7 @@ fn worked(tally: &mut Tally) {
         tally.compare(&ask(h, format!("rig\t1\nmon\t{monitors}\n").as_bytes()));
     }
     for h in [0, 1, 2, 7, 30, 63, 999, 1000, 1001, 1002, 8191, 8192, 10_000, 65_535, 65_536, 99_999] {
-        for t in [A, A_FROM_1, A_ORDERED, B, B_STOPS, F, ONE, two] {
+        for t in [A, A_FROM_1, A_GAP, A_ORDERED, B, B_STOPS, CLASH, F, ONE, REPLY, two] {
             tally.compare(&ask(h, t.as_bytes()));
         }
     }
@@ -187,7 +216,7 @@ fn damaged(tally: &mut Tally) {
             tally.compare(&input);
         }
     }
-    for good in [(10, A_FROM_1), (10, A_ORDERED), (1, LAST)].map(|(h, t)| ask(h, t.as_bytes())) {
+    for good in [(10, A_FROM_1), (10, A_ORDERED), (1, LAST), (2, CLASH)].map(|(h, t)| ask(h, t.as_bytes())) {
         for at in 0..good.len() {
             tally.compare(&good[..at]);
             tally.compare(&[&good[..at], &good[at + 1..]].concat());
@@ -272,8 +301,8 @@ fn long_listings(tally: &mut Tally) {
 
 /// Inputs about the length that the program can hold, and far longer ones; also some that come in pieces.
 fn long_inputs(tally: &mut Tally, rng: &mut Random) {
-    let whole = text(&Shape { events: 16, monitors: vec![32, 32], density: 100, marks: 100 }, rng);
-    let more = monitors(&Shape { events: 16, monitors: vec![1, 1], density: 100, marks: 100 }, rng);
+    let whole = text(&Shape { events: 16, monitors: vec![32, 32], density: 100, marks: 100, rules: 0 }, rng);
+    let more = monitors(&Shape { events: 16, monitors: vec![1, 1], density: 100, marks: 100, rules: 0 }, rng);
     let largest = [whole, more].concat();
     for line in ["ask\t0\n", "ask\t1000\n", "ask\t99999\n", "ask\t100000\n", "asked\t3\n", "ask\t99999"] {
         for t in [A.as_bytes(), &largest] {
@@ -318,18 +347,25 @@ fn random(tally: &mut Tally, rng: &mut Random) {
             0 | 1 => t = other_start(&t, rng),
             2 => t = other_order(&t, rng),
             3 => t = other_marks(&t, rng),
+            4 | 5 => t = other_rules(&t, rng),
             _ => (),
         }
         tally.compare(&ask(horizon(rng), &t));
     }
+    for _ in 0..400 {
+        let t = text(&Shape { rules: 100, ..Shape::small(rng, 4, 40) }, rng);
+        tally.compare(&ask(horizon(rng), &t));
+    }
     for _ in 0..100 {
         let (monitors, density) = (vec![rng.from_to(1, 4), rng.from_to(1, 2)], *rng.pick(&[30, 45, 60]));
-        let t = text(&Shape { events: rng.from_to(1, 3), monitors, density, marks: *rng.pick(&[0, 50]) }, rng);
+        let (marks, rules) = (*rng.pick(&[0, 50]), *rng.pick(&[0, 50]));
+        let t = text(&Shape { events: rng.from_to(1, 3), monitors, density, marks, rules }, rng);
         tally.compare(&ask(*rng.pick(&[30, 100, 1000]), &t));
     }
     for _ in 0..300 {
         let monitors = (0..rng.from_to(1, 5)).map(|_| *rng.pick(&[1, 2, 3, 8, 16, 31, 32, 33])).collect();
-        let t = text(&Shape { events: rng.from_to(1, 16), monitors, density: 70, marks: *rng.pick(&[0, 30, 100]) }, rng);
+        let (marks, rules) = (*rng.pick(&[0, 30, 100]), *rng.pick(&[0, 50]));
+        let t = text(&Shape { events: rng.from_to(1, 16), monitors, density: 70, marks, rules }, rng);
         tally.compare(&ask(rng.below(10), &t));
     }
     for _ in 0..4_000 {
@@ -354,7 +390,8 @@ fn random(tally: &mut Tally, rng: &mut Random) {
 
 fn main() {
     let program = std::env::args().nth(1).expect("the program to run");
-    let mut tally = Tally { program, inputs: 0, differences: 0, outcomes: BTreeMap::new(), served: BTreeSet::new(), stops: 0 };
+    let mut tally =
+        Tally { program, inputs: 0, differences: 0, outcomes: BTreeMap::new(), served: BTreeSet::new(), lines: BTreeMap::new() };
     let rng = &mut Random::seeded(20_261_116);
     worked(&mut tally);
     damaged(&mut tally);
@@ -363,13 +400,15 @@ fn main() {
     long_inputs(&mut tally, rng);
     random(&mut tally, rng);
     let served = [Outcome::Fewer, Outcome::Thousand, Outcome::More, Outcome::BadAsk];
-    for outcome in served.into_iter().chain((1..=10).chain([16]).map(Outcome::Refused)) {
+    for outcome in served.into_iter().chain((1..=10).chain([16, 17]).map(Outcome::Refused)) {
         assert!(tally.outcomes.contains_key(&outcome), "no input is expected to give {outcome:?}");
     }
     for h in [0, 1, 30, 1000] {
         assert!(tally.served.contains(&h), "no input is served at horizon {h}");
     }
-    assert!(tally.stops > 500, "few inputs with a `stop` line are served");
+    for (word, times) in &tally.lines {
+        assert!(*times > 300, "few inputs with a `{word}` line are served: {times}");
+    }
     for (outcome, (times, wrong)) in &tally.outcomes {
         let name = match outcome {
             Outcome::Fewer => "served, fewer than 1,000".into(),
@@ -380,7 +419,7 @@ fn main() {
         };
         println!("{:20} {name:24} {times:8} {wrong:8}", "program");
     }
-    println!("{} of the served inputs have a `stop` line", tally.stops);
+    println!("served inputs by their lines: {:?}", tally.lines);
     println!("{} listings, {} differences", tally.inputs, tally.differences);
     if tally.differences > 0 {
         std::process::exit(1);

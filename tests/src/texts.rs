@@ -1,6 +1,7 @@
 //! Rig texts: random ones that are readable, and damage done to them.
-use crate::model::Rig;
+use crate::model::{Monitor, Rig};
 use crate::random::Random;
+use crate::rules::Rule;
 
 pub const A: &str = "rig\t2\nmon\t2\ngo\t0\t0\t0\ngo\t0\t1\t1\ngo\t1\t0\t0\n";
 /// A that begins in its state 1.
@@ -17,17 +18,26 @@ pub const ONE: &str = "rig\t1\nmon\t1\ngo\t0\t0\t0\n";
 pub const LAST: &str = "rig\t1\nmon\t2\ngo\t0\t0\t1\nstop\t1\n";
 /// Event 0 and no more, or event 1 for ever.
 pub const EITHER: &str = "rig\t2\nmon\t4\ngo\t0\t0\t1\ngo\t0\t1\t2\ngo\t2\t1\t2\nstop\t1\n";
+/// A by its sentence: two 1s are at least two steps apart. Its moves are those of A; both states are marked.
+pub const A_GAP: &str = "rig\t2\ngap\t1\t2\n";
+/// After event 0 comes event 1, one or two steps later.
+pub const REPLY: &str = "rig\t3\nreply\t0\t1\t1\t2\n";
+/// After event 0 comes event 1 at once, but two 1s are at least three steps apart: 1 0 can't be carried on.
+pub const CLASH: &str = "rig\t2\ngap\t1\t3\nreply\t0\t1\t1\t1\n";
 
-/// The shape of a rig: events, states of each monitor, how many in a hundred moves it has, and how many in a hundred states are marked.
+/// The shape of a rig: events, states of each monitor, how many in a hundred moves it has, how many in a hundred states are marked, and how many
+/// in a hundred monitors are `gap` or `reply` lines.
 pub struct Shape {
     pub events: u64,
     pub monitors: Vec<u64>,
     pub density: u64,
     pub marks: u64,
+    pub rules: u64,
 }
 
 impl Shape {
-    /// A small rig of 1 to 4 monitors with at most `most` joint states. Half of them have no marks.
+    /// A small rig of 1 to 4 monitors with at most `most` joint states. Half of them have no marks but those of `gap` and `reply` lines, which one in
+    /// three may have.
     pub fn small(rng: &mut Random, events: u64, most: u64) -> Shape {
         let mut left = most;
         let monitors = (0..rng.from_to(1, 4))
@@ -38,7 +48,7 @@ impl Shape {
             })
             .collect();
         let (density, marks) = (*rng.pick(&[25, 50, 70, 85, 100]), *rng.pick(&[0, 0, 0, 0, 30, 60, 80, 100]));
-        Shape { events: rng.from_to(1, events), monitors, density, marks }
+        Shape { events: rng.from_to(1, events), monitors, density, marks, rules: *rng.pick(&[0, 0, 0, 0, 40, 100]) }
     }
 }
 
@@ -73,6 +83,10 @@ pub fn text(shape: &Shape, rng: &mut Random) -> Vec<u8> {
 pub fn monitors(shape: &Shape, rng: &mut Random) -> Vec<u8> {
     let mut t = String::new();
     for &s in &shape.monitors {
+        if s > 1 && rng.chance(shape.rules, 100) {
+            t += &Rule::random(s, shape.events, rng).line();
+            continue;
+        }
         t += &mon(s, rng);
         let mut lines: Vec<String> = vec![];
         let mut add = |line, rng: &mut Random| lines.insert(rng.below(lines.len() as u64 + 1) as usize, line);
@@ -108,10 +122,21 @@ pub fn other_start(t: &[u8], rng: &mut Random) -> Vec<u8> {
     ls.concat()
 }
 
+/// A rig of these lines and no others.
+pub fn ruled(rules: &[Rule], order: &[usize]) -> Vec<u8> {
+    let lines: String = rules.iter().map(Rule::line).collect();
+    format!("rig\t{}\n{}{lines}", order.len(), ord(order)).into_bytes()
+}
+
+/// The second field of a line, or 2 where that is no number.
+fn first_number(line: &[u8]) -> u64 {
+    String::from_utf8_lossy(line).trim_end().split('\t').nth(1).and_then(|n| n.parse().ok()).unwrap_or(2)
+}
+
 /// The text with an `ord` line that is just right or just wrong, in the place of its second line or beside it, or elsewhere.
 pub fn other_order(t: &[u8], rng: &mut Random) -> Vec<u8> {
     let mut ls = lines(t);
-    let events: u64 = String::from_utf8_lossy(&ls[0]).trim_end().split('\t').nth(1).and_then(|e| e.parse().ok()).unwrap_or(2);
+    let events = first_number(&ls[0]);
     let mut listed: Vec<String> = (0..events).rev().map(|e| e.to_string()).collect();
     let at = rng.below(events.max(1)) as usize;
     match rng.below(8) {
@@ -139,8 +164,7 @@ pub fn other_order(t: &[u8], rng: &mut Random) -> Vec<u8> {
 pub fn other_marks(t: &[u8], rng: &mut Random) -> Vec<u8> {
     let mut ls = lines(t);
     let at = rng.below(ls.len() as u64 + 1) as usize;
-    let latest = ls[..at].iter().rev().find(|l| l.starts_with(b"mon\t"));
-    let states: u64 = latest.and_then(|l| String::from_utf8_lossy(l).trim_end().split('\t').nth(1)?.parse().ok()).unwrap_or(2);
+    let states = ls[..at].iter().rev().find(|l| l.starts_with(b"mon\t")).map_or(2, |l| first_number(l));
     let near = *rng.pick(&[states.saturating_sub(1), states, states + 1, 0]);
     let line = match rng.below(8) {
         0 => "stop\n".to_string(),
@@ -149,6 +173,38 @@ pub fn other_marks(t: &[u8], rng: &mut Random) -> Vec<u8> {
         _ => format!("stop\t{near}\n"),
     };
     ls.insert(at, line.into_bytes());
+    ls.concat()
+}
+
+/// The text with one `gap` or `reply` line more, at its end or anywhere: its numbers are just in their ranges or just out of them, or it has no form. A
+/// `go` or `stop` line may follow.
+pub fn other_rules(t: &[u8], rng: &mut Random) -> Vec<u8> {
+    let mut ls = lines(t);
+    let events = first_number(&ls[0]);
+    let at = if rng.chance(1, 2) { ls.len() } else { rng.below(ls.len() as u64 + 1) as usize };
+    let event = |rng: &mut Random| if rng.chance(1, 12) { *rng.pick(&[events, events + 1, 256, 99_999]) } else { rng.below(events.max(1)) };
+    let mut fields = if rng.chance(1, 2) {
+        vec![event(rng), *rng.pick(&[2, 2, 3, 4, 5, 31, 32, 33, 1, 0, 258])]
+    } else {
+        let (a, hi) = (event(rng), *rng.pick(&[1, 2, 2, 3, 4, 5, 30, 31, 32, 0]));
+        let b = if rng.chance(1, 4) { a } else { event(rng) };
+        vec![a, b, *rng.pick(&[1, 1, 1, 2, hi, hi, hi + 1, 0, 257]), hi]
+    };
+    let word = if fields.len() == 2 { "gap" } else { "reply" };
+    match rng.below(12) {
+        0 => {
+            fields.pop();
+        }
+        1 => fields.push(1),
+        _ => (),
+    }
+    let mut fields: Vec<String> = fields.iter().map(|n| n.to_string()).collect();
+    if rng.chance(1, 12) {
+        let k = rng.below(fields.len() as u64) as usize;
+        fields[k] = rng.pick(FIELDS).to_string();
+    }
+    let next = ["", "", "", "go\t0\t0\t0\n", "stop\t0\n", "go\t99999\t16\t32\n", "stop\t32\n", "go\t0\t0\n"];
+    ls.insert(at, format!("{word}\t{}\n{}", fields.join("\t"), rng.pick(&next)).into_bytes());
     ls.concat()
 }
 
@@ -166,28 +222,35 @@ pub fn lower_first(t: &[u8]) -> Vec<u8> {
     ls.concat()
 }
 
-/// The same rig with the states of each monitor renumbered so that it starts in 0; no `mon` line carries a start.
-pub fn from_state_0(rig: &Rig, rng: &mut Random) -> Vec<u8> {
+/// The rig with every monitor as a `mon` line, followed by a `go` line for each of its moves and a `stop` line for each marked state.
+pub fn written_out(rig: &Rig) -> Vec<u8> {
     let mut t = format!("rig\t{}\n{}", rig.events, ord(&rig.order));
     for m in &rig.monitors {
+        t += &if m.start > 0 { format!("mon\t{}\t{}\n", m.states, m.start) } else { format!("mon\t{}\n", m.states) };
+        for (s, e) in (0..m.states).flat_map(|s| (0..rig.events).map(move |e| (s, e))) {
+            t += &m.moves.get(&(s, e)).map_or(String::new(), |y| format!("go\t{s}\t{e}\t{y}\n"));
+        }
+        t.extend((0..m.states).filter(|s| m.marked.contains(s)).map(|s| format!("stop\t{s}\n")));
+    }
+    t.into_bytes()
+}
+
+/// The same rig written out, with the states of each monitor renumbered so that it starts in 0; no `mon` line carries a start.
+pub fn from_state_0(rig: &Rig, rng: &mut Random) -> Vec<u8> {
+    let renumbered = |m: &Monitor| {
         let mut new: Vec<usize> = (0..m.states).collect();
         for i in 1..m.states {
             new.swap(i, rng.below(i as u64 + 1) as usize);
         }
         let zero = new.iter().position(|&n| n == 0).unwrap();
         new.swap(zero, m.start);
-        t += &format!("mon\t{}\n", m.states);
-        for ((s, e), y) in &m.moves {
-            t += &format!("go\t{}\t{e}\t{}\n", new[*s], new[*y]);
-        }
-        for s in &m.marked {
-            t += &format!("stop\t{}\n", new[*s]);
-        }
-    }
-    t.into_bytes()
+        let moves = m.moves.iter().map(|((s, e), y)| ((new[*s], *e), new[*y])).collect();
+        Monitor { start: 0, moves, marked: m.marked.iter().map(|&s| new[s]).collect(), ..*m }
+    };
+    written_out(&Rig { monitors: rig.monitors.iter().map(renumbered).collect(), ..rig.clone() })
 }
 
-const ODD: &[u8] = b"0123456789\t\n\r rigmongordstp-+\0\x7f\xff";
+const ODD: &[u8] = b"0123456789\t\n\r rigmongordstpaely-+\0\x7f\xff";
 const FIELDS: &[&str] =
     &["0", "1", "2", "3", "4", "5", "8", "16", "17", "32", "33", "99999", "100000", "00", "01", "", "-1", "1 ", "x", "4294967297"];
 const LINES: &[&str] = &[
@@ -228,6 +291,30 @@ const LINES: &[&str] = &[
     "stop\t01",
     "stops\t0",
     "gap\t0\t2",
+    "gap\t1\t3",
+    "gap\t0\t32",
+    "gap\t0\t33",
+    "gap\t0\t1",
+    "gap\t16\t2",
+    "gap\t0",
+    "gap\t0\t2\t0",
+    "gap\t0\t02",
+    "gaps\t0\t2",
+    "reply\t0\t1\t1\t2",
+    "reply\t1\t0\t2\t2",
+    "reply\t0\t1\t1\t31",
+    "reply\t0\t1\t1\t32",
+    "reply\t0\t1\t0\t2",
+    "reply\t0\t1\t3\t2",
+    "reply\t0\t16\t1\t2",
+    "reply\t0\t0\t1\t2",
+    "reply\t1\t1\t1\t31",
+    "reply\t0\t0\t3\t2",
+    "reply\t0\t1\t2",
+    "reply\t0\t1\t1\t2\t3",
+    "reply",
+    "replys\t0\t1\t1\t2",
+    "bal\t0\t1",
     "mon\t2\t1",
     "mon\t3\t2",
     "mon\t2\t2",
