@@ -5,6 +5,7 @@ use mathlib.Core.Bool.{Bool, true, false}
 use mathlib.Core.List.{List, [], _∷_}
 use mathlib.Core.Option.{Option, none, some}
 use Prim.Native.Nat.{ℕ, _+_, _*_, _-_, _≤_, _<_}
+use Prim.Native.String.{String}
 use native.Mathlib.Numerals.{add-one}
 use native.Mathlib.Omega.{arith}
 use lib.ListN.{length, getD, take, drop, drop-of-length-le, length-drop}
@@ -15,7 +16,7 @@ use types.Run.{OneOf}
 use denote.Enum.Declared.{tagOf}
 use Rattle.lists.specs.Lists.{pick, indexOf}
 use Rattle.lists.proofs.Tests.{case}
-use Rattle.promises.specs.Text.{Line, rig, ord, begins, continues, other, mon, gap, reply, go, stop, bytes, splitOn, same, fields, digitsValue, number, field, endOr, end, one, two, three, four, oneOrTwo, anyNumber, form, decode}
+use Rattle.promises.specs.Text.{Line, ord, other, bytes, splitOn, same, fields, digitsValue, number, field, endOr, end, one, two, three, four, oneOrTwo, anyNumber, form, decode}
 use Rattle.promises.proofs.Pieces.{splitOn-some}
 use Rattle.promises.proofs.Spelling.{same-tells}
 use Rattle.decoding.specs.declared.Field.the-variants.{Last, More, Bad}
@@ -224,6 +225,10 @@ module _ (l : List ℕ) (end : ℕ) (e : end ≡ indexOf l 9) where
   unfolding fieldsFrom
   decode-more h = decode-first ∙ rw (lt-ltb end (length l) h, rest-whole l (end + 1))
 
+  -- by its word
+  pub decode-word : (w : String) → end < length l → same (take end l) (bytes w) ≡ true → decode l ≡ form (bytes w ∷ fields (take (length l - (end + 1)) (drop (end + 1) l)))
+  decode-word w h p = decode-more h ∙ ap (λ w. form (w ∷ fields (take (length l - (end + 1)) (drop (end + 1) l)))) (same-tells (take end l) (bytes w) .yes p)
+
   pub decode-ord : same (take end l) (bytes "ord") ≡ true → decode l ≡ anyNumber (λ es. ord es) (fieldsFrom l end)
   unfolding form same
   decode-ord p = decode-first ∙ ap (λ w. form (w ∷ fieldsFrom l end)) (same-tells (take end l) (bytes "ord") .yes p)
@@ -254,33 +259,6 @@ module _ (l : List ℕ) (end : ℕ) (e : end ≡ indexOf l 9) where
   listed-none p = rw (← e, p)
 
 module _ (w : List ℕ) (fs : List (List ℕ)) where
-  named : (v : List ℕ) → same w v ≡ true → form (w ∷ fs) ≡ form (v ∷ fs)
-  named v p = ap (λ w. form (w ∷ fs)) (same-tells w v .yes p)
-
-  pub form-rig : same w (bytes "rig") ≡ true → form (w ∷ fs) ≡ one (λ E. rig E) fs
-  unfolding form same
-  form-rig p = named (bytes "rig") p
-
-  pub form-mon : same w (bytes "mon") ≡ true → form (w ∷ fs) ≡ oneOrTwo (λ S. begins (mon S 0)) (λ S a. begins (mon S a)) fs
-  unfolding form same
-  form-mon p = named (bytes "mon") p
-
-  pub form-go : same w (bytes "go") ≡ true → form (w ∷ fs) ≡ three (λ s e t. continues (go s e t)) fs
-  unfolding form same
-  form-go p = named (bytes "go") p
-
-  pub form-stop : same w (bytes "stop") ≡ true → form (w ∷ fs) ≡ one (λ s. continues (stop s)) fs
-  unfolding form same
-  form-stop p = named (bytes "stop") p
-
-  pub form-gap : same w (bytes "gap") ≡ true → form (w ∷ fs) ≡ two (λ e n. begins (gap e n)) fs
-  unfolding form same
-  form-gap p = named (bytes "gap") p
-
-  pub form-reply : same w (bytes "reply") ≡ true → form (w ∷ fs) ≡ four (λ a b lo hi. begins (reply a b lo hi)) fs
-  unfolding form same
-  form-reply p = named (bytes "reply") p
-
   pub form-other : same w (bytes "rig") ≡ false → same w (bytes "mon") ≡ false → same w (bytes "go") ≡ false → same w (bytes "ord") ≡ false → same w (bytes "stop") ≡ false
       → same w (bytes "gap") ≡ false → same w (bytes "reply") ≡ false → form (w ∷ fs) ≡ other
   unfolding form

@@ -148,19 +148,6 @@ fn only_number(rest: &[u8]) -> Decimal
     }
 }
 
-// The two numbers that are the only fields left of a line.
-fn only_pair(rest: &[u8]) -> Pair
-    ensures { λ r. ⌜ ((f : ℕ → ℕ → Line) → two f (fields (now (rest .entry))) ≡ pairOr f r) ⌝ }
-{
-    let Field::More(a, next) = read_field(rest) else {
-        return Pair::Neither;
-    };
-    match only_number(&rest[next..]) {
-        Decimal::Value(b) => Pair::Both(a, b),
-        Decimal::Wrong => Pair::Neither,
-    }
-}
-
 // `mon`, S, start; or `mon`, S, which starts in 0
 fn mon_form(rest: &[u8]) -> Form
     ensures { λ r. ⌜ r ≡ formOf (oneOrTwo (λ S. begins (mon S 0)) (λ S a. begins (mon S a)) (fields (now (rest .entry)))) ⌝ }
@@ -179,12 +166,30 @@ fn mon_form(rest: &[u8]) -> Form
 fn go_form(rest: &[u8]) -> Form
     ensures { λ r. ⌜ r ≡ formOf (three (λ s e t. continues (go s e t)) (fields (now (rest .entry)))) ⌝ }
 {
-    let Field::More(s, next) = read_field(rest) else {
+    let Field::More(s, a) = read_field(rest) else {
         return Form::Other;
     };
-    match only_pair(&rest[next..]) {
-        Pair::Both(e, t) => Form::Continues(Part::Go(s, e, t)),
-        Pair::Neither => Form::Other,
+    let second = &rest[a..];
+    let Field::More(e, b) = read_field(second) else {
+        return Form::Other;
+    };
+    let third = &second[b..];
+    let Field::Last(t) = read_field(third) else {
+        return Form::Other;
+    };
+    Form::Continues(Part::Go(s, e, t))
+}
+
+// The two numbers that are the only fields left of a line.
+fn only_pair(rest: &[u8]) -> Pair
+    ensures { λ r. ⌜ ((f : ℕ → ℕ → Line) → two f (fields (now (rest .entry))) ≡ pairOr f r) ⌝ }
+{
+    let Field::More(a, next) = read_field(rest) else {
+        return Pair::Neither;
+    };
+    match only_number(&rest[next..]) {
+        Decimal::Value(b) => Pair::Both(a, b),
+        Decimal::Wrong => Pair::Neither,
     }
 }
 

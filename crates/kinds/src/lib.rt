@@ -100,6 +100,17 @@ fn is_mon(k: Kind) -> bool
     }
 }
 
+// How many states a `go` or `stop` line can name: those of a `mon`.
+pub fn mon_states(k: Kind) -> usize
+    ensures { λ n. ⌜ n ≡ monStates k ⌝ }
+{
+    match k {
+        Kind::Mon(s, _) => s,
+        Kind::Gap(_, _) => 0,
+        Kind::Reply(_, _, _, _) => 0,
+    }
+}
+
 // Where a `gap` moves from s on u: 'The state of `gap` is the number of coming steps that bar e'.
 fn gap_next(e: usize, n: usize, s: usize, u: usize) -> usize
     requires { ⌜ 1 ≤ n ⌝ }
@@ -159,17 +170,6 @@ fn mark(k: Kind, s: usize) -> u8
         Kind::Mon(_, _) => 0,
         Kind::Gap(_, _) => 1,
         Kind::Reply(_, _, _, _) => { if s == 0 { 1 } else { 0 } }
-    }
-}
-
-// How many states a `go` or `stop` line can name: those of a `mon`.
-pub fn mon_states(k: Kind) -> usize
-    ensures { λ n. ⌜ n ≡ monStates k ⌝ }
-{
-    match k {
-        Kind::Mon(s, _) => s,
-        Kind::Gap(_, _) => 0,
-        Kind::Reply(_, _, _, _) => 0,
     }
 }
 

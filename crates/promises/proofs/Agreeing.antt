@@ -6,7 +6,7 @@ use mathlib.Core.Bool.{true}
 use mathlib.Core.List.{List, []}
 use Prim.Native.Nat.{ℕ, _<_}
 use Rattle.automaton.specs.Automaton as automaton
-use Rattle.automaton.specs.Automaton.{Automaton, bounded, Over, walk}
+use Rattle.automaton.specs.Automaton.{Automaton, walk}
 use Rattle.automaton.proofs.Joint.{admits-state, admits-last}
 use Rattle.automaton.proofs.Sentences.{Steps, says-walk, says-admits, admits-over, bounded-admits, bounded-walk, bounded-stop}
 use Rattle.promises.specs.Text.{Monitor, statesOf}

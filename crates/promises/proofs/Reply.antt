@@ -10,7 +10,7 @@ use mathlib.Core.List.{List, [], _∷_}
 use Prim.Native.Nat.{ℕ, zero, suc, _+_, _≤_, _<_}
 use native.Mathlib.Numerals.{add-one}
 use native.Mathlib.Omega.{arith}
-use lib.ListN.{length, drop}
+use lib.ListN.{drop}
 use lib.Dec.{eqb, leb}
 use borrow.Author.Tests.{eqb-true, eqb-false, eq-eqb, ne-eqb, leb-true, le-leb}
 use Rattle.lists.proofs.Tests.{case, contra, and-left, and-right, and-intro}
@@ -18,7 +18,7 @@ use Rattle.automaton.proofs.Sentences.{Steps}
 use Rattle.promises.specs.Text.{reply, Part, statesOf}
 use Rattle.promises.specs.Meaning.{Stands, Answered, StillDue, Replied, NoneDue, Says, Admits, Ends, MayStop}
 use Rattle.promises.specs.Rig.{replyNext, nextOf, markedOf}
-use Rattle.promises.specs.Sentences.{RepliedAt, Agrees}
+use Rattle.promises.specs.Sentences.{Agrees}
 use Rattle.promises.proofs.Agreeing.{ending, agrees}
 
 module _ (a b lo hi : ℕ) where

@@ -2,8 +2,8 @@
 -- Why: each kind's automaton agrees with its sentence, so every monitor of a readable text does; what comes after the place i of a sequence stands i + 1 places later
 -- in it; a line's cases are those of its kind. Assumes nothing.
 use mathlib.Core.Path.{_≡_, refl, subst}
-use mathlib.Core.Logic.{_⊎_, inl, inr, _≢_, _↔_, ⊎-map}
-use mathlib.Core.List.{List, [], _∷_, _++_, List·Memᴰ as In}
+use mathlib.Core.Logic.{_⊎_, inl, inr, _↔_, ⊎-map}
+use mathlib.Core.List.{List, [], _∷_}
 use mathlib.Core.Option.{some}
 use Prim.Native.Nat.{ℕ, zero, suc, _+_, _-_, _*_, _≤_, _<_}
 use native.Mathlib.Omega.{arith}

@@ -7,24 +7,23 @@ use mathlib.Core.Logic.{_⊎_, inl, inr, _≢_, ⊎-elim}
 use mathlib.Core.Bool.{Bool, true, false, not, _||_}
 use mathlib.Core.List.{List, [], _∷_, _++_, List·Memᴰ as In}
 use mathlib.Core.Option.{some}
-use Prim.Native.Nat.{ℕ, zero, suc, _+_, _-_, _*_, _≤_, _<_}
+use Prim.Native.Nat.{ℕ, suc, _+_, _-_, _*_, _≤_, _<_}
 use native.Mathlib.Nat.{eq-or-lt-of-le}
 use native.Mathlib.Omega.{arith}
-use lib.ListN.{length, getD, take, drop, set, length-set, length-append, length-replicate}
+use lib.ListN.{length, getD, take, drop, set, length-set, length-append}
 use lib.Seq.{getD-set-same, getD-set-other, take-at}
-use lib.Dec.{eqb, ltb, leb}
+use lib.Dec.{eqb, leb}
 use borrow.Author.Tests.{eq-eqb, ne-eqb, eqb-true, eqb-false, leb-false, not-false}
 use Rattle.lists.specs.Lists.{pick, any}
 use Rattle.lists.proofs.Tables.{length-range, take-range}
 use Rattle.lists.proofs.Tests.{contra, case, or-left, or-rest}
 use Rattle.lists.proofs.Members.{getD-in}
-use Rattle.promises.specs.Text.{Kind, mon, gap, reply, Part, go, stop, Line, rig, ord, begins, continues, other, Monitor, addPart, extended, monitorsFrom, monitors, statesOf, startOf, latest, product, eventsOf, reordered, orderFrom, orderOf, beginning, continuing, OfLatest, IsMon, cases, Case5, Case3}
+use Rattle.promises.specs.Text.{Kind, mon, gap, reply, Part, go, stop, Line, rig, ord, begins, continues, other, Monitor, addPart, extended, monitorsFrom, monitors, statesOf, startOf, latest, product, eventsOf, reordered, orderFrom, orderOf, beginning, cases, Case5}
 use Rattle.promises.specs.Reading.{empty, isSome, moveBy, markedBy, isMon, testBeginning, ofLatest, testContinuing, tests, lineCase}
-use Rattle.promises.proofs.Lines.{monitors-more, order-more, length-addPart, product-addPart, product-append, Ranged, PartRanged, Kept, WellFormed, Headed, Formed, start-below, few-states, begun, sound-formed, nothing-formed}
+use Rattle.promises.proofs.Lines.{monitors-more, order-more, length-addPart, product-addPart, product-append, Ranged, PartRanged, Kept, Headed, Formed, few-states, begun, sound-formed, nothing-formed}
 use Rattle.promises.proofs.Reading.{moved, case-sound}
 use Rattle.rig.specs.declared.Rig.{Rig}
 use Rattle.rig.specs.Record.{moveIndex, moveAt, stopIndex, stopAt, lowerFirst}
-use Rattle.decoding.specs.declared.Kind.the-variants.{Mon}
 use Rattle.decoding.specs.Forms.{over, kindOf, formOf}
 use Rattle.decoding.proofs.Listed.{length-over, Leaves}
 use Rattle.kinds.specs.Kinds.{asKind, monStates, kindMoves, kindStops}
@@ -32,7 +31,7 @@ use Rattle.kinds.proofs.Tables.{Blank, OfKind, length-moves, length-stops, move
 use Rattle.reader.specs.declared.Sizes.{Sizes}
 use Rattle.reader.specs.Reading.{withPart, withLine, recordFrom}
 use Rattle.reader.specs.Record.{nobody}
-use Rattle.reader.specs.Taking.{Allowed, rigCase, rigSizes, ordCase, kindCase, kindSizes, kindCounts, kindStarts, goCase, goMoves, stopCase, stopStops, caseOf, sizesAfter, movesAfter, stopsAfter, countsAfter, startsAfter}
+use Rattle.reader.specs.Taking.{Allowed, rigCase, rigSizes, ordCase, kindCase, goCase, goMoves, stopCase, stopStops, caseOf, sizesAfter, movesAfter, stopsAfter, countsAfter, startsAfter}
 use Rattle.reader.proofs.Monitors.{monitorAt, events-snoc, empty-nil, empty-snoc, empty-length, addPart-at, addPart-beside, latest-at, new-before, new-at}
 use Rattle.reader.proofs.Listed.{over-events, front-any, ord-case}
 use Rattle.reader.proofs.Tables.{Same, same-blank, same-kind, go-beside, stop-beside, seen, seen-mark, with-go, with-stop}
@@ -48,7 +47,7 @@ pub record Holds (r : Rig) (ls : List Line) (z : Sizes) (mv sp ct st os : List �
   pub events-are : eventsOf ls ≡ z .events
   pub monitors-are : length (monitors ls) ≡ z .monitors
   pub joint-is : product (monitors ls) ≡ z .joint
-  pub latest-is : kindOf (monitorAt (monitors ls) (z .monitors - 1) .kind) ≡ z .latest
+  pub latest-is : monStates (kindOf (monitorAt (monitors ls) (z .monitors - 1) .kind)) ≡ z .latest
   pub tabled : Tabled (monitors ls) (z .events) mv sp ct st
   pub ordered : take (z .events) os ≡ orderOf ls
   pub unordered : z .events ≡ 0 → os ≡ lowerFirst
@@ -67,7 +66,7 @@ recordFrom-snoc r (k ∷ ls) l = recordFrom-snoc (withLine r k) ls l
 -- ---- no line yet
 
 pub holds-none : (mv sp ct st : List ℕ) → ((i : ℕ) → i < 2048 → getD mv i 0 ≡ 255) → ((i : ℕ) → i < 128 → getD sp i 0 ≡ 0) → length mv ≡ 2048 → length sp ≡ 128 → length ct ≡ 4 → length st ≡ 4
-    → Holds (record { moves = mv; stops = sp; counts = ct; starts = st; order = lowerFirst; monitors = 0; events = 0 }) [] (record { events = 0; monitors = 0; latest = Mon 0 0; joint = 1 }) mv sp ct st lowerFirst
+    → Holds (record { moves = mv; stops = sp; counts = ct; starts = st; order = lowerFirst; monitors = 0; events = 0 }) [] (record { events = 0; monitors = 0; latest = 0; joint = 1 }) mv sp ct st lowerFirst
 unfolding eventsOf orderOf orderFrom monitors monitorsFrom product recordFrom
 holds-none mv sp ct st blank unmarked long wide-stops wide wide-starts = record {
   formed = nothing-formed;
@@ -237,7 +236,7 @@ module _ (r : Rig) (ls : List Line) (z : Sizes) (mv sp ct st os : List ℕ) (H :
   last-kept : 1 ≤ z .monitors → Kept (eventsOf ls) last
   last-kept h = kept last (getD-in (monitors ls) (z .monitors - 1) nobody (omega (arith, H .monitors-are)))
 
-  none-named : z .monitors ≡ 0 → monStates (z .latest) ≡ 0
+  none-named : z .monitors ≡ 0 → z .latest ≡ 0
   none-named q = rw (← H .latest-is, q) (nothing (monitors ls) (H .monitors-are ∙ q))
     where
       nothing : (ms : List Monitor) → length ms ≡ 0 → monStates (kindOf (monitorAt ms (0 - 1) .kind)) ≡ 0
@@ -264,7 +263,7 @@ module _ (r : Rig) (ls : List Line) (z : Sizes) (mv sp ct st os : List ℕ) (H :
   unfolding kindCase lineCase tests testBeginning
   kind-case k = rw (as-kind k, begun-z, H .events-are, H .monitors-are, H .joint-is)
 
-  misplaced : not (ofLatest (λ m. isMon (m .kind)) (latest (monitors ls))) ≡ eqb (monStates (z .latest)) 0
+  misplaced : not (ofLatest (λ m. isMon (m .kind)) (latest (monitors ls))) ≡ eqb (z .latest) 0
   unfolding ofLatest
   misplaced = case (eqb (z .monitors) 0)
       (λ q. rw (none-named (eqb-true (z .monitors) 0 q)) (nothing (monitors ls) (H .monitors-are ∙ eqb-true (z .monitors) 0 q)))
@@ -275,9 +274,9 @@ module _ (r : Rig) (ls : List Line) (z : Sizes) (mv sp ct st os : List ℕ) (H :
       nothing (m ∷ ms) e = absurd (omega arith)
 
   -- the latest monitor, which is a `mon`
-  module _ (placed : eqb (monStates (z .latest)) 0 ≡ false) where
+  module _ (placed : eqb (z .latest) 0 ≡ false) where
     some-monitor : 1 ≤ z .monitors
-    some-monitor = case (eqb (z .monitors) 0) (λ q. absurd (eqb-false (monStates (z .latest)) 0 placed (none-named (eqb-true _ 0 q)))) (λ q. omega (arith, eqb-false (z .monitors) 0 q))
+    some-monitor = case (eqb (z .monitors) 0) (λ q. absurd (eqb-false (z .latest) 0 placed (none-named (eqb-true _ 0 q)))) (λ q. omega (arith, eqb-false (z .monitors) 0 q))
 
     last-at : suc (z .monitors - 1) ≡ length (monitors ls)
     last-at = omega (arith, some-monitor, H .monitors-are)
@@ -285,15 +284,15 @@ module _ (r : Rig) (ls : List Line) (z : Sizes) (mv sp ct st os : List ℕ) (H :
     latest-is-last : latest (monitors ls) ≡ some last
     latest-is-last = latest-at (monitors ls) (z .monitors - 1) last-at
 
-    last-mon : (S : ℕ) × (a : ℕ) × (last .kind ≡ mon S a) × (monStates (z .latest) ≡ S)
-    last-mon = let (S, a, q, e) = is-mon (last .kind) (rw (H .latest-is) placed) in (S, a, q, ap monStates (sym (H .latest-is)) ∙ e)
+    last-mon : (S : ℕ) × (a : ℕ) × (last .kind ≡ mon S a) × (z .latest ≡ S)
+    last-mon = let (S, a, q, e) = is-mon (last .kind) (rw (H .latest-is) placed) in (S, a, q, sym (H .latest-is) ∙ e)
 
-    last-states : statesOf (last .kind) ≡ monStates (z .latest)
+    last-states : statesOf (last .kind) ≡ z .latest
     unfolding statesOf
-    last-states = let (S, a, q, e) = last-mon in rw (q, e)
+    last-states = let (S, a, q, e) = last-mon in ap statesOf q ∙ sym e
 
     -- its lines move to its states
-    moves-within : (s e u : ℕ) → moveBy (last .parts) s e ≡ some u → u < monStates (z .latest)
+    moves-within : (s e u : ℕ) → moveBy (last .parts) s e ≡ some u → u < z .latest
     unfolding PartRanged
     moves-within s e u q = rw (← last-states) (last-kept some-monitor .parts-ranged (go s e u) (moved (last .parts) s e u q) .2)
 
@@ -302,30 +301,30 @@ module _ (r : Rig) (ls : List Line) (z : Sizes) (mv sp ct st os : List ℕ) (H :
 
     out-of-range : (s e t : ℕ)
         → ofLatest (λ m. leb (statesOf (m .kind)) s || (leb (eventsOf ls) e || leb (statesOf (m .kind)) t)) (latest (monitors ls))
-        ≡ (leb (monStates (z .latest)) s || (leb (z .events) e || leb (monStates (z .latest)) t))
+        ≡ (leb (z .latest) s || (leb (z .events) e || leb (z .latest) t))
     unfolding ofLatest
     out-of-range s e t = rw (latest-is-last, last-states, H .events-are)
 
-    again : (s e t : ℕ) → (leb (monStates (z .latest)) s || (leb (z .events) e || leb (monStates (z .latest)) t)) ≡ false
+    again : (s e t : ℕ) → (leb (z .latest) s || (leb (z .events) e || leb (z .latest) t)) ≡ false
         → ofLatest (λ m. isSome (moveBy (m .parts) s e)) (latest (monitors ls)) ≡ not (eqb (moveAt mv (z .monitors - 1) s e) 255)
     unfolding ofLatest
     again s e t p =
         let (S, a, q, n) = last-mon in
-        let hs = leb-false (monStates (z .latest)) s (or-left (leb (monStates (z .latest)) s) _ p) in
-        let he = leb-false (z .events) e (or-left (leb (z .events) e) _ (or-rest (leb (monStates (z .latest)) s) _ p)) in
+        let hs = leb-false (z .latest) s (or-left (leb (z .latest) s) _ p) in
+        let he = leb-false (z .events) e (or-left (leb (z .events) e) _ (or-rest (leb (z .latest) s) _ p)) in
         rw latest-is-last (seen mv sp (z .monitors - 1) (z .events) S a (last .parts) (subst (λ k. OfKind mv sp (z .monitors - 1) (z .events) k (last .parts)) q last-table)
         (rw (← n) (room .few-latest)) (λ s e u m. rw (← n) (moves-within s e u m)) s e (rw (← n) hs) he)
 
-    state-out-of-range : (s : ℕ) → ofLatest (λ m. leb (statesOf (m .kind)) s) (latest (monitors ls)) ≡ leb (monStates (z .latest)) s
+    state-out-of-range : (s : ℕ) → ofLatest (λ m. leb (statesOf (m .kind)) s) (latest (monitors ls)) ≡ leb (z .latest) s
     unfolding ofLatest
     state-out-of-range s = rw (latest-is-last, last-states)
 
-    marked-again : (s : ℕ) → leb (monStates (z .latest)) s ≡ false → ofLatest (λ m. markedBy (m .parts) s) (latest (monitors ls)) ≡ not (eqb (stopAt sp (z .monitors - 1) s) 0)
+    marked-again : (s : ℕ) → leb (z .latest) s ≡ false → ofLatest (λ m. markedBy (m .parts) s) (latest (monitors ls)) ≡ not (eqb (stopAt sp (z .monitors - 1) s) 0)
     unfolding ofLatest
     marked-again s p =
         let (S, a, q, n) = last-mon in
         rw latest-is-last (seen-mark mv sp (z .monitors - 1) (z .events) S a (last .parts) (subst (λ k. OfKind mv sp (z .monitors - 1) (z .events) k (last .parts)) q last-table)
-        (rw (← n) (room .few-latest)) s (rw (← n) (leb-false (monStates (z .latest)) s p)))
+        (rw (← n) (room .few-latest)) s (rw (← n) (leb-false (z .latest) s p)))
 
   go-case : (s e t : ℕ) → goCase mv z s e t ≡ lineCase ls (continues (go s e t))
   unfolding goCase lineCase tests testContinuing
@@ -381,7 +380,7 @@ module _ (r : Rig) (ls : List Line) (z : Sizes) (mv sp ct st os : List ℕ) (H :
 
   -- a line that begins a monitor of the kind k
   holds-begins : (k : Kind) → kindCase z (kindOf k) ≡ 0
-      → Holds r (ls ++ (begins k ∷ [])) (record { events = z .events; monitors = z .monitors + 1; latest = kindOf k; joint = z .joint * statesOf k })
+      → Holds r (ls ++ (begins k ∷ [])) (record { events = z .events; monitors = z .monitors + 1; latest = monStates (kindOf k); joint = z .joint * statesOf k })
       (kindMoves mv (z .monitors) (z .events) k) (kindStops sp (z .monitors) k) (set ct (z .monitors) (statesOf k)) (set st (z .monitors) (startOf k)) os
   unfolding withLine extended reordered
   holds-begins k q =
@@ -396,7 +395,7 @@ module _ (r : Rig) (ls : List Line) (z : Sizes) (mv sp ct st os : List ℕ) (H :
         events-are = events-snoc ls (begins k) not-empty ∙ H .events-are;
         monitors-are = rw (ms, length-append, H .monitors-are);
         joint-is = rw (ms, product-append, H .joint-is);
-        latest-is = rw ms (ap (λ m. kindOf (m .kind)) (new-at (monitors ls) (fresh k) (z .monitors + 1 - 1) (omega (arith, H .monitors-are))));
+        latest-is = rw ms (ap (λ m. monStates (kindOf (m .kind))) (new-at (monitors ls) (fresh k) (z .monitors + 1 - 1) (omega (arith, H .monitors-are))));
         tabled = rw (ms, ← H .monitors-are) (one-more (monitors ls) (z .events) k mv sp (kindMoves mv (length (monitors ls)) (z .events) k) (kindStops sp (length (monitors ls)) k) ct st (H .wide) (H .wide-starts) few-z few ranged
             (λ i ne. record {
               moves = λ x y hx hy. moves-beside mv sp (length (monitors ls)) (z .events) k few few-z fewS (H .long) (H .wide-stops) i x y ne hx hy;
@@ -427,7 +426,7 @@ module _ (r : Rig) (ls : List Line) (z : Sizes) (mv sp ct st os : List ℕ) (H :
         events-are = events-snoc ls (continues p) not-empty ∙ H .events-are;
         monitors-are = rw (ms, length-addPart) (H .monitors-are);
         joint-is = rw (ms, product-addPart) (H .joint-is);
-        latest-is = rw ms (ap kindOf (kind-addPart p (monitors ls) (z .monitors - 1)) ∙ H .latest-is);
+        latest-is = rw ms (ap (λ k. monStates (kindOf k)) (kind-addPart p (monitors ls) (z .monitors - 1)) ∙ H .latest-is);
         tabled = rw ms tabled;
         ordered = H .ordered ∙ sym (order-more ls (continues p));
         unordered = H .unordered;
@@ -445,14 +444,14 @@ module _ (r : Rig) (ls : List Line) (z : Sizes) (mv sp ct st os : List ℕ) (H :
   holds-go : (s e t : ℕ) → goCase mv z s e t ≡ 0 → Holds r (ls ++ (continues (go s e t) ∷ [])) z (goMoves mv z s e t) sp ct st os
   unfolding goCase withPart
   holds-go s e t q =
-      let (p, q₁) = pick-zero (eqb (monStates (z .latest)) 0) 5 _ (omega arith) q in
-      let (o, q₂) = pick-zero (leb (monStates (z .latest)) s || (leb (z .events) e || leb (monStates (z .latest)) t)) 3 _ (omega arith) q₁ in
+      let (p, q₁) = pick-zero (eqb (z .latest) 0) 5 _ (omega arith) q in
+      let (o, q₂) = pick-zero (leb (z .latest) s || (leb (z .events) e || leb (z .latest) t)) 3 _ (omega arith) q₁ in
       let (f, q₃) = pick-zero (not (eqb (moveAt mv (z .monitors - 1) s e) 255)) 4 0 (omega arith) q₂ in
-      let rest = or-rest (leb (monStates (z .latest)) s) _ o in
-      let hs : s < monStates (z .latest) = leb-false (monStates (z .latest)) s (or-left (leb (monStates (z .latest)) s) _ o) in
+      let rest = or-rest (leb (z .latest) s) _ o in
+      let hs : s < z .latest = leb-false (z .latest) s (or-left (leb (z .latest) s) _ o) in
       let he : e < z .events = leb-false (z .events) e (or-left (leb (z .events) e) _ rest) in
-      let ht : t < monStates (z .latest) = leb-false (monStates (z .latest)) t (or-rest (leb (z .events) e) _ rest) in
-      let few : monStates (z .latest) ≤ 32 = room .few-latest in
+      let ht : t < z .latest = leb-false (z .latest) t (or-rest (leb (z .events) e) _ rest) in
+      let few : z .latest ≤ 32 = room .few-latest in
       let hm : z .monitors - 1 < 4 = omega (arith, room .few-monitors, some-monitor p) in
       let (S, a, k, n) = last-mon p in
       holds-continues (go s e t) (goMoves mv z s e t) sp (some-monitor p) (sym (go-case s e t) ∙ q) (length-set mv (moveIndex (z .monitors - 1) s e) t ∙ H .long) (H .wide-stops) refl
@@ -466,10 +465,10 @@ module _ (r : Rig) (ls : List Line) (z : Sizes) (mv sp ct st os : List ℕ) (H :
   holds-stop : (s : ℕ) → stopCase sp z s ≡ 0 → Holds r (ls ++ (continues (stop s) ∷ [])) z mv (stopStops sp z s) ct st os
   unfolding stopCase withPart
   holds-stop s q =
-      let (p, q₁) = pick-zero (eqb (monStates (z .latest)) 0) 5 _ (omega arith) q in
-      let (o, q₂) = pick-zero (leb (monStates (z .latest)) s) 3 _ (omega arith) q₁ in
-      let hs : s < monStates (z .latest) = leb-false (monStates (z .latest)) s o in
-      let few : monStates (z .latest) ≤ 32 = room .few-latest in
+      let (p, q₁) = pick-zero (eqb (z .latest) 0) 5 _ (omega arith) q in
+      let (o, q₂) = pick-zero (leb (z .latest) s) 3 _ (omega arith) q₁ in
+      let hs : s < z .latest = leb-false (z .latest) s o in
+      let few : z .latest ≤ 32 = room .few-latest in
       let hm : z .monitors - 1 < 4 = omega (arith, room .few-monitors, some-monitor p) in
       let (S, a, k, n) = last-mon p in
       holds-continues (stop s) mv (stopStops sp z s) (some-monitor p) (sym (stop-case s) ∙ q) (H .long) (length-set sp (stopIndex (z .monitors - 1) s) 1 ∙ H .wide-stops) refl

@@ -17,7 +17,6 @@ use Rattle.promises.specs.Reading.{empty, lineCase, readingFrom, reading}
 use Rattle.rig.specs.declared.Rig.{Rig}
 use Rattle.rig.specs.Record.{lowerFirst, emptyRig}
 use Rattle.decoding.specs.declared.Form.{Form}
-use Rattle.decoding.specs.declared.Kind.the-variants.{Mon}
 use Rattle.decoding.specs.Forms.{over, listedIn, formOf}
 use Rattle.decoding.proofs.Listed.{Leaves, leaves}
 use Rattle.decoding.proofs.Parts.{indexOf-le}
@@ -44,7 +43,7 @@ pub record Passed (r : Rig) (t : List ℕ) (z : Sizes) (line at : ℕ) (mv sp ct
   pub split : decoded t ≡ front ++ decoded (drop at t)
 
 pub passed-none : (t mv sp ct st : List ℕ) → ((i : ℕ) → i < 2048 → getD mv i 0 ≡ 255) → ((i : ℕ) → i < 128 → getD sp i 0 ≡ 0) → length mv ≡ 2048 → length sp ≡ 128 → length ct ≡ 4 → length st ≡ 4
-    → Passed (record { moves = mv; stops = sp; counts = ct; starts = st; order = lowerFirst; monitors = 0; events = 0 }) t (record { events = 0; monitors = 0; latest = Mon 0 0; joint = 1 }) 1 0 mv sp ct st lowerFirst
+    → Passed (record { moves = mv; stops = sp; counts = ct; starts = st; order = lowerFirst; monitors = 0; events = 0 }) t (record { events = 0; monitors = 0; latest = 0; joint = 1 }) 1 0 mv sp ct st lowerFirst
 passed-none t mv sp ct st blank unmarked long wide-stops wide wide-starts = record { front = []; holds = holds-none mv sp ct st blank unmarked long wide-stops wide wide-starts; counted = refl; inside = omega arith; early = omega arith; left = refl; split = refl }
 
 -- ---- what a line comes to

@@ -29,7 +29,6 @@ use Rattle.promises.proofs.Reading.{sound-case, readable-said}
 use Rattle.promises.proofs.Sentences.{sentences}
 use Rattle.rig.specs.declared.Rig.{Rig}
 use Rattle.rig.specs.Record.{moveAt, countOf, startAt, orderIn, moveOf, stopOf, monitorAt, standing, recordAutomaton, recordStart, WellFormed, lowerFirst, emptyRig}
-use Rattle.decoding.specs.declared.Kind.the-variants.{Mon}
 use Rattle.decoding.specs.Forms.{over, formOf}
 use Rattle.decoding.proofs.Listed.{Leaves}
 use Rattle.kinds.specs.Kinds.{entryOf}
@@ -89,7 +88,7 @@ held-all r front (l ∷ back) H s =
 
 held-none : Held emptyRig []
 held-none = record {
-  sizes-are = record { events = 0; monitors = 0; latest = Mon 0 0; joint = 1 };
+  sizes-are = record { events = 0; monitors = 0; latest = 0; joint = 1 };
   moves-are = replicate 2048 255;
   marks-are = replicate 128 0;
   counts-are = replicate 4 0;

@@ -12,12 +12,11 @@ use Rattle.promises.specs.Text.{Kind}
 use Rattle.promises.specs.Reading.{outOfRange, equal}
 use Rattle.promises.proofs.Lines.{Ranged, in-range}
 use Rattle.promises.proofs.Reading.{tells-out, tells-equal}
-use Rattle.kinds.specs.Kinds.{monStates}
 use Rattle.reader.specs.declared.Sizes.{Sizes}
 use Rattle.reader.specs.Taking.{Allowed, onlyIf}
 
 -- where a `go` or `stop` line can name a state, there is a monitor
-pub some-monitor : (z : Sizes) → Allowed z → (monStates (z .latest) ≡ 0 → ⊥) → 1 ≤ z .monitors
+pub some-monitor : (z : Sizes) → Allowed z → (z .latest ≡ 0 → ⊥) → 1 ≤ z .monitors
 some-monitor z a h = case (eqb (z .monitors) 0) (λ q. absurd (h (a .none-latest (eqb-true (z .monitors) 0 q)))) (λ q. omega (arith, eqb-false (z .monitors) 0 q))
 
 -- what passes the reader's tests is in range

@@ -33,8 +33,8 @@ use Rattle.reader.specs.declared.Verdict.the-variants.{Refused}
 pub record Allowed (z : Sizes) : Type 0 where
   pub few-events : z .events ≤ 16
   pub few-monitors : z .monitors ≤ 4
-  pub few-latest : monStates (z .latest) ≤ 32
-  pub none-latest : z .monitors ≡ 0 → monStates (z .latest) ≡ 0
+  pub few-latest : z .latest ≤ 32
+  pub none-latest : z .monitors ≡ 0 → z .latest ≡ 0
   pub few-joint : z .joint ≤ 1024
 
 abbrev pub onlyIf : {A : Type 0} → ℕ → A → A → A
@@ -75,7 +75,7 @@ kindCase z k =
     0)))
 
 abbrev pub kindSizes : Sizes → Kind → Sizes
-kindSizes z k = record { events = z .events; monitors = z .monitors + 1; latest = k; joint = z .joint * statesOf (asKind k) }
+kindSizes z k = record { events = z .events; monitors = z .monitors + 1; latest = monStates k; joint = z .joint * statesOf (asKind k) }
 
 abbrev pub kindCounts : List ℕ → Sizes → Kind → List ℕ
 kindCounts ct z k = set ct (z .monitors) (statesOf (asKind k))
@@ -87,8 +87,8 @@ kindStarts st z k = set st (z .monitors) (startOf (asKind k))
 
 unfoldable pub goCase : List ℕ → Sizes → ℕ → ℕ → ℕ → ℕ
 goCase mv z s e t =
-    pick (eqb (monStates (z .latest)) 0) 5
-    (pick (leb (monStates (z .latest)) s || (leb (z .events) e || leb (monStates (z .latest)) t)) 3
+    pick (eqb (z .latest) 0) 5
+    (pick (leb (z .latest) s || (leb (z .events) e || leb (z .latest) t)) 3
     (pick (not (eqb (moveAt mv (z .monitors - 1) s e) 255)) 4
     0))
 
@@ -98,7 +98,7 @@ goMoves mv z s e t = set mv (moveIndex (z .monitors - 1) s e) t
 -- ---- `stop`, s
 
 unfoldable pub stopCase : List ℕ → Sizes → ℕ → ℕ
-stopCase sp z s = pick (eqb (monStates (z .latest)) 0) 5 (pick (leb (monStates (z .latest)) s) 3 (pick (not (eqb (stopAt sp (z .monitors - 1) s) 0)) 4 0))
+stopCase sp z s = pick (eqb (z .latest) 0) 5 (pick (leb (z .latest) s) 3 (pick (not (eqb (stopAt sp (z .monitors - 1) s) 0)) 4 0))
 
 abbrev pub stopStops : List ℕ → Sizes → ℕ → List ℕ
 stopStops sp z s = set sp (stopIndex (z .monitors - 1) s) 1

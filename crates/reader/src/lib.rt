@@ -24,11 +24,12 @@ pub struct Reading {
     pub rig: Rig,
 }
 
-// What the lines so far say: E, how many monitors there are, the kind of the latest one, which is a `mon` without states where there is none, and P.
+// What the lines so far say: E, how many monitors there are, how many states a `go` or `stop` line can name, which are those of the latest monitor if it is a
+// `mon`, and P.
 struct Sizes {
     events: usize,
     monitors: usize,
-    latest: Kind,
+    latest: usize,
     joint: usize,
 }
 
@@ -61,11 +62,10 @@ fn take_rig(z: Sizes, e: usize) -> Taken
     if 16 < e {
         return Taken::Bad(3); // more than 16 events
     }
-    let latest = z.latest;
     Taken::Next(Sizes {
         events: e,
         monitors: z.monitors,
-        latest,
+        latest: z.latest,
         joint: z.joint,
     })
 }
@@ -144,7 +144,7 @@ fn take_kind(
     Taken::Next(Sizes {
         events: z.events,
         monitors: m + 1,
-        latest: k,
+        latest: kinds::mon_states(k),
         joint,
     })
 }
@@ -155,18 +155,16 @@ fn take_go(moves: &mut [u8], z: Sizes, s: usize, e: usize, t: usize) -> Taken
     ensures { λ r. ⌜ r ≡ taken (goCase (now (moves .entry)) z s e t) z ⌝ }
     ensures { λ _. ⌜ now (moves .exit) ≡ onlyIf (goCase (now (moves .entry)) z s e t) (goMoves (now (moves .entry)) z s e t) (now (moves .entry)) ⌝ }
 {
-    let latest = z.latest;
-    let states = kinds::mon_states(latest);
-    if states == 0 {
+    if z.latest == 0 {
         return Taken::Bad(5); // the latest monitor is no `mon`, or there is none
     }
-    if states <= s {
+    if z.latest <= s {
         return Taken::Bad(3); // s is no state
     }
     if z.events <= e {
         return Taken::Bad(3); // e is no event
     }
-    if states <= t {
+    if z.latest <= t {
         return Taken::Bad(3); // t is no state
     }
     let at = ((z.monitors - 1) * 32 + s) * 16 + e;
@@ -183,12 +181,10 @@ fn take_stop(stops: &mut [u8], z: Sizes, s: usize) -> Taken
     ensures { λ r. ⌜ r ≡ taken (stopCase (now (stops .entry)) z s) z ⌝ }
     ensures { λ _. ⌜ now (stops .exit) ≡ onlyIf (stopCase (now (stops .entry)) z s) (stopStops (now (stops .entry)) z s) (now (stops .entry)) ⌝ }
 {
-    let latest = z.latest;
-    let states = kinds::mon_states(latest);
-    if states == 0 {
+    if z.latest == 0 {
         return Taken::Bad(5); // the latest monitor is no `mon`, or there is none
     }
-    if states <= s {
+    if z.latest <= s {
         return Taken::Bad(3); // s is no state
     }
     let at = (z.monitors - 1) * 32 + s;
@@ -245,7 +241,7 @@ pub fn read(text: &[u8]) -> Reading
     let mut sizes = Sizes {
         events: 0,
         monitors: 0,
-        latest: Kind::Mon(0, 0),
+        latest: 0,
         joint: 1,
     };
     let mut line = 1;

@@ -5,6 +5,7 @@ use mathlib.Core.Logic.{⊎-elim}
 use mathlib.Core.Bool.{true, false}
 use mathlib.Core.List.{List}
 use Prim.Native.Nat.{ℕ}
+use Prim.Native.String.{String}
 use lib.ListN.{take}
 use lib.Seq.{length-take-le}
 use Rattle.lists.specs.Lists.{indexOf}
@@ -12,15 +13,15 @@ use Rattle.promises.specs.Text.{rig, other, bytes}
 use Rattle.promises.specs.Text as text
 use Rattle.decoding.specs.Forms.{valueOf, orOther, over, listedIn}
 use Rattle.decoding.proofs.Parts.{indexOf-le}
-use Rattle.decoding.proofs.Numbers.{decode-more, decode-ord, decode-alone, form-rig, form-mon, form-go, form-stop, form-gap, form-reply, form-other, other-word, listed-ord, listed-none}
+use Rattle.decoding.proofs.Numbers.{decode-more, decode-word, decode-ord, decode-alone, form-other, other-word, listed-ord, listed-none}
 use borrow.Author.Needs.{needs}
 use Rattle.decoding.proofs.decode.Statement.{statement}
 use Rattle.decoding.proofs.decode.Tie as tie
 
 -- a word that is not `ord` lists nothing
-not-listed : (l : List ℕ) (end : ℕ) → end ≡ indexOf l 9 → (u : List ℕ) → text.same (take end l) u ≡ true → text.same u (bytes "ord") ≡ false → (os : List ℕ) → os ≡ over (listedIn l) os
+not-listed : (l : List ℕ) (end : ℕ) → end ≡ indexOf l 9 → (w : String) → text.same (take end l) (bytes w) ≡ true → text.same (bytes w) (bytes "ord") ≡ false → (os : List ℕ) → os ≡ over (listedIn l) os
 unfolding over
-not-listed l end e u p q os = rw (listed-none l end e (other-word (take end l) u (bytes "ord") p q))
+not-listed l end e w p q os = rw (listed-none l end e (other-word (take end l) (bytes w) (bytes "ord") p q))
 
 until-requires : tie.Need-until-requires
 until-requires c κs = search needs
@@ -58,24 +59,22 @@ enum-told : tie.Need-enum-told
 enum-told c = search needs
 
 returns : tie.Need-returns
+unfolding text.form text.same
 returns c =
     let l = c .before .before .before .before .before .before .before .before .before .before .before .before .before .args .line .now in
     let u = c .before .before .before .before .before .before .before .before .before .before .until in
-    let q =
-    decode-more l (u .result) (u .ensures) (c .before .before .before .before .before .before .before .before .if1 .taken)
-    ∙ form-rig (take (u .result) l) _ (sym (c .before .before .before .before .before .same .ensures) ∙ c .before .before .before .before .if2 .taken)
-    ∙ c .before .before .before .only-number .ensures (λ E. rig E) ∙ ap (λ d. orOther (λ E. rig E) (valueOf d)) (c .before .e .given .1) in
-    (rw q, not-listed l (u .result) (u .ensures) (bytes "rig") (sym (c .before .before .before .before .before .same .ensures) ∙ c .before .before .before .before .if2 .taken) (unfold text.same in refl) _)
+    let p = sym (c .before .before .before .before .before .same .ensures) ∙ c .before .before .before .before .if2 .taken in
+    let q = decode-word l (u .result) (u .ensures) "rig" (c .before .before .before .before .before .before .before .before .if1 .taken) p ∙ c .before .before .before .only-number .ensures (λ E. rig E) ∙ ap (λ d. orOther (λ E. rig E) (valueOf d)) (c .before .e .given .1) in
+    (rw q, not-listed l (u .result) (u .ensures) "rig" p refl _)
 
 returns-2 : tie.Need-returns-2
+unfolding text.form text.same
 returns-2 c =
     let l = c .before .before .before .before .before .before .before .before .before .before .before .before .args .line .now in
     let u = c .before .before .before .before .before .before .before .before .before .until in
-    let q =
-    decode-more l (u .result) (u .ensures) (c .before .before .before .before .before .before .before .if1 .taken)
-    ∙ form-rig (take (u .result) l) _ (sym (c .before .before .before .before .same .ensures) ∙ c .before .before .before .if2 .taken)
-    ∙ c .before .before .only-number .ensures (λ E. rig E) ∙ ap (λ d. orOther (λ E. rig E) (valueOf d)) (c .enum-told .given .1) in
-    (rw q, not-listed l (u .result) (u .ensures) (bytes "rig") (sym (c .before .before .before .before .same .ensures) ∙ c .before .before .before .if2 .taken) (unfold text.same in refl) _)
+    let p = sym (c .before .before .before .before .same .ensures) ∙ c .before .before .before .if2 .taken in
+    let q = decode-word l (u .result) (u .ensures) "rig" (c .before .before .before .before .before .before .before .if1 .taken) p ∙ c .before .before .only-number .ensures (λ E. rig E) ∙ ap (λ d. orOther (λ E. rig E) (valueOf d)) (c .enum-told .given .1) in
+    (rw q, not-listed l (u .result) (u .ensures) "rig" p refl _)
 
 slice-aggregate-same-2 : tie.Need-slice-aggregate-same-2
 slice-aggregate-same-2 c = search needs
@@ -87,13 +86,12 @@ mon-form-requires : tie.Need-mon-form-requires
 mon-form-requires c κs = search needs
 
 returns-3 : tie.Need-returns-3
+unfolding text.form text.same
 returns-3 c =
     let l = c .before .before .before .before .before .before .before .before .before .before .before .before .before .args .line .now in
     let u = c .before .before .before .before .before .before .before .before .before .before .until in
-    let q =
-    decode-more l (u .result) (u .ensures) (c .before .before .before .before .before .before .before .before .if1 .taken)
-    ∙ form-mon (take (u .result) l) _ (sym (c .before .before .same2 .ensures) ∙ c .before .if3 .taken) in
-    (rw q (c .mon-form .ensures), not-listed l (u .result) (u .ensures) (bytes "mon") (sym (c .before .before .same2 .ensures) ∙ c .before .if3 .taken) (unfold text.same in refl) _)
+    let p = sym (c .before .before .same2 .ensures) ∙ c .before .if3 .taken in
+    (rw (decode-word l (u .result) (u .ensures) "mon" (c .before .before .before .before .before .before .before .before .if1 .taken) p) (c .mon-form .ensures), not-listed l (u .result) (u .ensures) "mon" p refl _)
 
 slice-aggregate-same-3 : tie.Need-slice-aggregate-same-3
 slice-aggregate-same-3 c = search needs
@@ -105,13 +103,12 @@ go-form-requires : tie.Need-go-form-requires
 go-form-requires c κs = search needs
 
 returns-4 : tie.Need-returns-4
+unfolding text.form text.same
 returns-4 c =
     let l = c .before .before .before .before .before .before .before .before .before .before .before .before .before .before .before .before .args .line .now in
     let u = c .before .before .before .before .before .before .before .before .before .before .before .before .before .until in
-    let q =
-    decode-more l (u .result) (u .ensures) (c .before .before .before .before .before .before .before .before .before .before .before .if1 .taken)
-    ∙ form-go (take (u .result) l) _ (sym (c .before .before .same3 .ensures) ∙ c .before .if4 .taken) in
-    (rw q (c .go-form .ensures), not-listed l (u .result) (u .ensures) (bytes "go") (sym (c .before .before .same3 .ensures) ∙ c .before .if4 .taken) (unfold text.same in refl) _)
+    let p = sym (c .before .before .same3 .ensures) ∙ c .before .if4 .taken in
+    (rw (decode-word l (u .result) (u .ensures) "go" (c .before .before .before .before .before .before .before .before .before .before .before .if1 .taken) p) (c .go-form .ensures), not-listed l (u .result) (u .ensures) "go" p refl _)
 
 slice-aggregate-same-4 : tie.Need-slice-aggregate-same-4
 slice-aggregate-same-4 c = search needs
@@ -123,13 +120,12 @@ stop-form-requires : tie.Need-stop-form-requires
 stop-form-requires c κs = search needs
 
 returns-5 : tie.Need-returns-5
+unfolding text.form text.same
 returns-5 c =
     let l = c .before .before .before .before .before .before .before .before .before .before .before .before .before .before .before .before .before .before .before .args .line .now in
     let u = c .before .before .before .before .before .before .before .before .before .before .before .before .before .before .before .before .until in
-    let q =
-    decode-more l (u .result) (u .ensures) (c .before .before .before .before .before .before .before .before .before .before .before .before .before .before .if1 .taken)
-    ∙ form-stop (take (u .result) l) _ (sym (c .before .before .same4 .ensures) ∙ c .before .if5 .taken) in
-    (rw q (c .stop-form .ensures), not-listed l (u .result) (u .ensures) (bytes "stop") (sym (c .before .before .same4 .ensures) ∙ c .before .if5 .taken) (unfold text.same in refl) _)
+    let p = sym (c .before .before .same4 .ensures) ∙ c .before .if5 .taken in
+    (rw (decode-word l (u .result) (u .ensures) "stop" (c .before .before .before .before .before .before .before .before .before .before .before .before .before .before .if1 .taken) p) (c .stop-form .ensures), not-listed l (u .result) (u .ensures) "stop" p refl _)
 
 slice-aggregate-same-5 : tie.Need-slice-aggregate-same-5
 slice-aggregate-same-5 c = search needs
@@ -141,13 +137,12 @@ gap-form-requires : tie.Need-gap-form-requires
 gap-form-requires c κs = search needs
 
 returns-6 : tie.Need-returns-6
+unfolding text.form text.same
 returns-6 c =
     let l = c .before .before .before .before .before .before .before .before .before .before .before .before .before .before .before .before .before .before .before .before .before .before .args .line .now in
     let u = c .before .before .before .before .before .before .before .before .before .before .before .before .before .before .before .before .before .before .before .until in
-    let q =
-    decode-more l (u .result) (u .ensures) (c .before .before .before .before .before .before .before .before .before .before .before .before .before .before .before .before .before .if1 .taken)
-    ∙ form-gap (take (u .result) l) _ (sym (c .before .before .same5 .ensures) ∙ c .before .if6 .taken) in
-    (rw q (c .gap-form .ensures), not-listed l (u .result) (u .ensures) (bytes "gap") (sym (c .before .before .same5 .ensures) ∙ c .before .if6 .taken) (unfold text.same in refl) _)
+    let p = sym (c .before .before .same5 .ensures) ∙ c .before .if6 .taken in
+    (rw (decode-word l (u .result) (u .ensures) "gap" (c .before .before .before .before .before .before .before .before .before .before .before .before .before .before .before .before .before .if1 .taken) p) (c .gap-form .ensures), not-listed l (u .result) (u .ensures) "gap" p refl _)
 
 slice-aggregate-same-6 : tie.Need-slice-aggregate-same-6
 slice-aggregate-same-6 c = search needs
@@ -159,13 +154,12 @@ reply-form-requires : tie.Need-reply-form-requires
 reply-form-requires c κs = search needs
 
 returns-7 : tie.Need-returns-7
+unfolding text.form text.same
 returns-7 c =
     let l = c .before .before .before .before .before .before .before .before .before .before .before .before .before .before .before .before .before .before .before .before .before .before .before .before .before .args .line .now in
     let u = c .before .before .before .before .before .before .before .before .before .before .before .before .before .before .before .before .before .before .before .before .before .before .until in
-    let q =
-    decode-more l (u .result) (u .ensures) (c .before .before .before .before .before .before .before .before .before .before .before .before .before .before .before .before .before .before .before .before .if1 .taken)
-    ∙ form-reply (take (u .result) l) _ (sym (c .before .before .same6 .ensures) ∙ c .before .if7 .taken) in
-    (rw q (c .reply-form .ensures), not-listed l (u .result) (u .ensures) (bytes "reply") (sym (c .before .before .same6 .ensures) ∙ c .before .if7 .taken) (unfold text.same in refl) _)
+    let p = sym (c .before .before .same6 .ensures) ∙ c .before .if7 .taken in
+    (rw (decode-word l (u .result) (u .ensures) "reply" (c .before .before .before .before .before .before .before .before .before .before .before .before .before .before .before .before .before .before .before .before .if1 .taken) p) (c .reply-form .ensures), not-listed l (u .result) (u .ensures) "reply" p refl _)
 
 slice-aggregate-same-7 : tie.Need-slice-aggregate-same-7
 slice-aggregate-same-7 c = search needs

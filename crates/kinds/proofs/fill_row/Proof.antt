@@ -1,11 +1,11 @@
 -- The entries so far are those of the row, and the rest is as it was.
 -- Assumes nothing.
-use mathlib.Core.Path.{_≡_, refl, sym, ap, _∙_}
+use mathlib.Core.Path.{_≡_, refl, ap, _∙_}
 use mathlib.Core.List.{List, []}
-use Prim.Native.Nat.{ℕ, _+_, _-_, _*_, _≤_}
+use Prim.Native.Nat.{ℕ, _+_, _-_, _≤_}
 use native.Mathlib.Omega.{arith}
 use lib.ListN.{length, set, length-set}
-use Rattle.lists.specs.Lists.{pick, overwrite}
+use Rattle.lists.specs.Lists.{overwrite}
 use Rattle.lists.proofs.Tables.{overwrite-more}
 use Rattle.promises.specs.Rig.{nextOf}
 use Rattle.kinds.specs.Kinds.{asKind, entryOf}

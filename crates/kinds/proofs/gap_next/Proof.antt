@@ -1,8 +1,5 @@
 -- By whether u is e, and whether it is barred.
 -- Assumes nothing.
-use mathlib.Core.Path.{_≡_}
-use Prim.Native.Nat.{_-_}
-use native.Mathlib.Omega.{arith}
 use borrow.Author.Tests.{eq-eqb, ne-eqb}
 use Rattle.promises.specs.Rig.{gapNext}
 use borrow.Author.Needs.{needs}

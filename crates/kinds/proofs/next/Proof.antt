@@ -1,6 +1,5 @@
 -- By the kind.
 -- Assumes nothing.
-use mathlib.Core.Path.{_∙_}
 use Prim.Native.Nat.{_+_, _≤_}
 use native.Mathlib.Omega.{arith}
 use Rattle.promises.specs.Text.{statesOf}

@@ -1,7 +1,6 @@
 -- Below lo, or else over hi.
 -- Assumes nothing.
 use borrow.Author.Tests.{lt-ltb, le-ltb}
-use borrow.Author.Needs.{needs}
 use Rattle.kinds.proofs.outside.Statement.{statement}
 use Rattle.kinds.proofs.outside.Tie as tie
 

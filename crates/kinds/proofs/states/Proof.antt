@@ -3,7 +3,6 @@
 use Prim.Native.Nat.{_+_, _≤_}
 use native.Mathlib.Omega.{arith}
 use Rattle.promises.specs.Text.{statesOf}
-use Rattle.kinds.specs.Kinds.{asKind}
 use borrow.Author.Needs.{needs}
 use Rattle.kinds.proofs.states.Statement.{statement}
 use Rattle.kinds.proofs.states.Tie as tie

@@ -1,6 +1,5 @@
 -- Each return is one of the cases of a `go` line, in their order; only the last writes a move.
 -- Assumes nothing.
-use mathlib.Core.Path.{_≡_, _∙_}
 use borrow.Author.Tests.{le-leb, lt-leb, eq-eqb, ne-eqb}
 use Rattle.reader.specs.Taking.{goCase}
 use Rattle.reader.proofs.Taking.{some-monitor}
@@ -8,43 +7,24 @@ use borrow.Author.Needs.{needs}
 use Rattle.reader.proofs.take_go.Statement.{statement}
 use Rattle.reader.proofs.take_go.Tie as tie
 
-mon-states-requires : tie.Need-mon-states-requires
-mon-states-requires c κs = search needs
-
 returns : tie.Need-returns
 unfolding goCase
-returns c =
-    let st = c .before .before .before .args in
-    let n = c .before .mon-states .ensures in
-    let q : goCase (st .moves .now) (st .z) (st .s) (st .e) (st .t) ≡ 5 = rw (← n, eq-eqb _ _ (c .if1 .taken)) in
-    (rw q, rw q)
+returns c = (rw (eq-eqb _ _ (c .if1 .taken)), rw (eq-eqb _ _ (c .if1 .taken)))
 
 returns-2 : tie.Need-returns-2
 unfolding goCase
-returns-2 c =
-    let st = c .before .before .before .before .args in
-    let n = c .before .before .mon-states .ensures in
-    let q : goCase (st .moves .now) (st .z) (st .s) (st .e) (st .t) ≡ 3 = rw (← n, ne-eqb _ _ (c .before .if1 .left), le-leb _ _ (c .if2 .taken)) in
-    (rw q, rw q)
+returns-2 c = (rw (ne-eqb _ _ (c .before .before .if1 .left), le-leb _ _ (c .if2 .taken)), rw (ne-eqb _ _ (c .before .before .if1 .left), le-leb _ _ (c .if2 .taken)))
 
 returns-3 : tie.Need-returns-3
 unfolding goCase
-returns-3 c =
-    let st = c .before .before .before .before .before .before .args in
-    let n = c .before .before .before .before .mon-states .ensures in
-    let q : goCase (st .moves .now) (st .z) (st .s) (st .e) (st .t) ≡ 3 = rw (← n, ne-eqb _ _ (c .before .before .before .if1 .left), lt-leb _ _ (c .before .before .if2 .left), le-leb _ _ (c .if3 .taken)) in
-    (rw q, rw q)
+returns-3 c = (rw (ne-eqb _ _ (c .before .before .before .before .if1 .left), lt-leb _ _ (c .before .before .if2 .left), le-leb _ _ (c .if3 .taken)), rw (ne-eqb _ _ (c .before .before .before .before .if1 .left), lt-leb _ _ (c .before .before .if2 .left), le-leb _ _ (c .if3 .taken)))
 
 returns-4 : tie.Need-returns-4
 unfolding goCase
-returns-4 c =
-    let st = c .before .before .before .before .before .before .before .args in
-    let n = c .before .before .before .before .before .mon-states .ensures in
-    let q : goCase (st .moves .now) (st .z) (st .s) (st .e) (st .t) ≡ 3 = rw (← n, ne-eqb _ _ (c .before .before .before .before .if1 .left), lt-leb _ _ (c .before .before .before .if2 .left), lt-leb _ _ (c .before .if3 .left), le-leb _ _ (c .if4 .taken)) in
-    (rw q, rw q)
+returns-4 c = (rw (ne-eqb _ _ (c .before .before .before .before .before .before .if1 .left), lt-leb _ _ (c .before .before .before .before .if2 .left), lt-leb _ _ (c .before .before .if3 .left), le-leb _ _ (c .if4 .taken)), rw (ne-eqb _ _ (c .before .before .before .before .before .before .if1 .left), lt-leb _ _ (c .before .before .before .before .if2 .left), lt-leb _ _ (c .before .before .if3 .left), le-leb _ _ (c .if4 .taken)))
 
 sub-at : tie.Need-sub-at
-sub-at c = let st = c .before .before .before .before .before .before .before .before in let n = c .before .before .before .before .before .before .mon-states .ensures in some-monitor (st .args .z) (st .pre .1) (λ e. c .before .before .before .before .before .if1 .left (n ∙ e))
+sub-at c = let st = c .before .before .before .before .before .before .before .before .before in some-monitor (st .args .z) (st .pre .1) (c .before .before .before .before .before .before .before .if1 .left)
 
 mul-at : tie.Need-mul-at
 mul-at c = search needs
@@ -63,11 +43,7 @@ slice-read-if5 c = search needs
 
 returns-5 : tie.Need-returns-5
 unfolding goCase
-returns-5 c =
-    let st = c .before .before .before .before .before .before .before .before .before .before .args in
-    let n = c .before .before .before .before .before .before .before .before .mon-states .ensures in
-    let q : goCase (st .moves .now) (st .z) (st .s) (st .e) (st .t) ≡ 4 = rw (← n, ne-eqb _ _ (c .before .before .before .before .before .before .before .if1 .left), lt-leb _ _ (c .before .before .before .before .before .before .if2 .left), lt-leb _ _ (c .before .before .before .before .if3 .left), lt-leb _ _ (c .before .before .before .if4 .left), ne-eqb _ _ (c .if5 .taken)) in
-    (rw q, rw q)
+returns-5 c = (rw (ne-eqb _ _ (c .before .before .before .before .before .before .before .before .before .if1 .left), lt-leb _ _ (c .before .before .before .before .before .before .before .if2 .left), lt-leb _ _ (c .before .before .before .before .before .if3 .left), lt-leb _ _ (c .before .before .before .if4 .left), ne-eqb _ _ (c .if5 .taken)), rw (ne-eqb _ _ (c .before .before .before .before .before .before .before .before .before .if1 .left), lt-leb _ _ (c .before .before .before .before .before .before .before .if2 .left), lt-leb _ _ (c .before .before .before .before .before .if3 .left), lt-leb _ _ (c .before .before .before .if4 .left), ne-eqb _ _ (c .if5 .taken)))
 
 cast-moves : tie.Need-cast-moves
 cast-moves c = search needs
@@ -80,17 +56,12 @@ same-length c = search needs
 
 returns-6 : tie.Need-returns-6
 unfolding goCase
-returns-6 c =
-    let st = c .before .before .before .before .before .before .before .before .before .before .args in
-    let n = c .before .before .before .before .before .before .before .before .mon-states .ensures in
-    let q : goCase (st .moves .now) (st .z) (st .s) (st .e) (st .t) ≡ 0 = rw (← n, ne-eqb _ _ (c .before .before .before .before .before .before .before .if1 .left), lt-leb _ _ (c .before .before .before .before .before .before .if2 .left), lt-leb _ _ (c .before .before .before .before .if3 .left), lt-leb _ _ (c .before .before .before .if4 .left), eq-eqb _ _ (c .if5 .left)) in
-    (rw q, rw q)
+returns-6 c = (rw (ne-eqb _ _ (c .before .before .before .before .before .before .before .before .before .if1 .left), lt-leb _ _ (c .before .before .before .before .before .before .before .if2 .left), lt-leb _ _ (c .before .before .before .before .before .if3 .left), lt-leb _ _ (c .before .before .before .if4 .left), eq-eqb _ _ (c .if5 .left)), rw (ne-eqb _ _ (c .before .before .before .before .before .before .before .before .before .if1 .left), lt-leb _ _ (c .before .before .before .before .before .before .before .if2 .left), lt-leb _ _ (c .before .before .before .before .before .if3 .left), lt-leb _ _ (c .before .before .before .if4 .left), eq-eqb _ _ (c .if5 .left)))
 
 pub take-go-spec : {M : Type 1} → statement M
 take-go-spec =
     tie.close
     (tie.spec
-    mon-states-requires
     returns
     returns-2
     returns-3

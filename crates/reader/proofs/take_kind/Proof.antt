@@ -99,6 +99,9 @@ slice-write-starts c = search needs
 add-t20 : tie.Need-add-t20
 add-t20 c = search needs
 
+mon-states-requires : tie.Need-mon-states-requires
+mon-states-requires c κs = search needs
+
 same-length : tie.Need-same-length
 same-length c = search needs
 
@@ -114,11 +117,11 @@ same-length-4 c = search needs
 returns-6 : tie.Need-returns-6
 unfolding kindCase
 returns-6 c =
-    let st = c .before .before .before .before .before .before .before .before .before .before .before .before .before .before .before .before .before .before .before .before .before .before .before .args in
-    let n = c .before .before .before .before .before .before .before .before .before .before .states .ensures in
-    let f = c .before .before .before .before .before .fill-tables .ensures in
-    let q : kindCase (st .z) (st .k) ≡ 0 = rw (← n, ne-eqb _ _ (c .before .before .before .before .before .before .before .before .before .before .before .before .before .before .before .before .before .if1 .left), sym (c .before .before .before .before .before .before .before .before .before .before .before .before .before .before .before .before .out-of-range .ensures) ∙ c .before .before .before .before .before .before .before .before .before .before .before .before .before .before .before .if2 .left, lt-leb _ _ (c .before .before .before .before .before .before .before .before .before .before .before .before .before .if3 .left), sym (c .before .before .before .before .before .before .before .before .before .before .before .before .equal .ensures) ∙ c .before .before .before .before .before .before .before .before .before .before .before .if4 .left, le-ltb _ _ (c .before .before .before .before .before .before .before .before .if5 .left)) in
-    (rw (q, ← n), (rw q (f .0), (rw q (f .1), (rw (q, ← n), rw (q, ← c .start .ensures)))))
+    let st = c .before .before .before .before .before .before .before .before .before .before .before .before .before .before .before .before .before .before .before .before .before .before .before .before .args in
+    let n = c .before .before .before .before .before .before .before .before .before .before .before .states .ensures in
+    let f = c .before .before .before .before .before .before .fill-tables .ensures in
+    let q : kindCase (st .z) (st .k) ≡ 0 = rw (← n, ne-eqb _ _ (c .before .before .before .before .before .before .before .before .before .before .before .before .before .before .before .before .before .before .if1 .left), sym (c .before .before .before .before .before .before .before .before .before .before .before .before .before .before .before .before .before .out-of-range .ensures) ∙ c .before .before .before .before .before .before .before .before .before .before .before .before .before .before .before .before .if2 .left, lt-leb _ _ (c .before .before .before .before .before .before .before .before .before .before .before .before .before .before .if3 .left), sym (c .before .before .before .before .before .before .before .before .before .before .before .before .before .equal .ensures) ∙ c .before .before .before .before .before .before .before .before .before .before .before .before .if4 .left, le-ltb _ _ (c .before .before .before .before .before .before .before .before .before .if5 .left)) in
+    (rw (q, ← n, ← c .mon-states .ensures), (rw q (f .0), (rw q (f .1), (rw (q, ← n), rw (q, ← c .before .start .ensures)))))
 
 pub take-kind-spec : {M : Type 1} → statement M
 take-kind-spec =
@@ -140,6 +143,7 @@ take-kind-spec =
     cast-starts
     slice-write-starts
     add-t20
+    mon-states-requires
     same-length
     same-length-2
     same-length-3

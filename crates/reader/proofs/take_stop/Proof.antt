@@ -1,6 +1,5 @@
 -- Each return is one of the cases of a `stop` line, in their order; only the last writes a mark.
 -- Assumes nothing.
-use mathlib.Core.Path.{_≡_, _∙_}
 use borrow.Author.Tests.{le-leb, lt-leb, eq-eqb, ne-eqb}
 use Rattle.reader.specs.Taking.{stopCase}
 use Rattle.reader.proofs.Taking.{some-monitor}
@@ -8,27 +7,16 @@ use borrow.Author.Needs.{needs}
 use Rattle.reader.proofs.take_stop.Statement.{statement}
 use Rattle.reader.proofs.take_stop.Tie as tie
 
-mon-states-requires : tie.Need-mon-states-requires
-mon-states-requires c κs = search needs
-
 returns : tie.Need-returns
 unfolding stopCase
-returns c =
-    let st = c .before .before .before .args in
-    let n = c .before .mon-states .ensures in
-    let q : stopCase (st .stops .now) (st .z) (st .s) ≡ 5 = rw (← n, eq-eqb _ _ (c .if1 .taken)) in
-    (rw q, rw q)
+returns c = (rw (eq-eqb _ _ (c .if1 .taken)), rw (eq-eqb _ _ (c .if1 .taken)))
 
 returns-2 : tie.Need-returns-2
 unfolding stopCase
-returns-2 c =
-    let st = c .before .before .before .before .args in
-    let n = c .before .before .mon-states .ensures in
-    let q : stopCase (st .stops .now) (st .z) (st .s) ≡ 3 = rw (← n, ne-eqb _ _ (c .before .if1 .left), le-leb _ _ (c .if2 .taken)) in
-    (rw q, rw q)
+returns-2 c = (rw (ne-eqb _ _ (c .before .before .if1 .left), le-leb _ _ (c .if2 .taken)), rw (ne-eqb _ _ (c .before .before .if1 .left), le-leb _ _ (c .if2 .taken)))
 
 sub-at : tie.Need-sub-at
-sub-at c = let st = c .before .before .before .before .before in let n = c .before .before .before .mon-states .ensures in some-monitor (st .args .z) (st .pre .1) (λ e. c .before .before .if1 .left (n ∙ e))
+sub-at c = let st = c .before .before .before .before .before in some-monitor (st .args .z) (st .pre .1) (c .before .before .before .if1 .left)
 
 mul-at : tie.Need-mul-at
 mul-at c = search needs
@@ -41,11 +29,7 @@ slice-read-if3 c = search needs
 
 returns-3 : tie.Need-returns-3
 unfolding stopCase
-returns-3 c =
-    let st = c .before .before .before .before .before .before .before .args in
-    let n = c .before .before .before .before .before .mon-states .ensures in
-    let q : stopCase (st .stops .now) (st .z) (st .s) ≡ 4 = rw (← n, ne-eqb _ _ (c .before .before .before .before .if1 .left), lt-leb _ _ (c .before .before .before .if2 .left), ne-eqb _ _ (c .if3 .taken)) in
-    (rw q, rw q)
+returns-3 c = (rw (ne-eqb _ _ (c .before .before .before .before .before .if1 .left), lt-leb _ _ (c .before .before .before .if2 .left), ne-eqb _ _ (c .if3 .taken)), rw (ne-eqb _ _ (c .before .before .before .before .before .if1 .left), lt-leb _ _ (c .before .before .before .if2 .left), ne-eqb _ _ (c .if3 .taken)))
 
 slice-write-stops : tie.Need-slice-write-stops
 slice-write-stops c = search needs
@@ -55,17 +39,12 @@ same-length c = search needs
 
 returns-4 : tie.Need-returns-4
 unfolding stopCase
-returns-4 c =
-    let st = c .before .before .before .before .before .before .before .args in
-    let n = c .before .before .before .before .before .mon-states .ensures in
-    let q : stopCase (st .stops .now) (st .z) (st .s) ≡ 0 = rw (← n, ne-eqb _ _ (c .before .before .before .before .if1 .left), lt-leb _ _ (c .before .before .before .if2 .left), eq-eqb _ _ (c .if3 .left)) in
-    (rw q, rw q)
+returns-4 c = (rw (ne-eqb _ _ (c .before .before .before .before .before .if1 .left), lt-leb _ _ (c .before .before .before .if2 .left), eq-eqb _ _ (c .if3 .left)), rw (ne-eqb _ _ (c .before .before .before .before .before .if1 .left), lt-leb _ _ (c .before .before .before .if2 .left), eq-eqb _ _ (c .if3 .left)))
 
 pub take-stop-spec : {M : Type 1} → statement M
 take-stop-spec =
     tie.close
     (tie.spec
-    mon-states-requires
     returns
     returns-2
     sub-at
