@@ -2,20 +2,55 @@
 -- Why: each kind's automaton agrees with its sentence, so every monitor of a readable text does; what comes after the place i of a sequence stands i + 1 places later
 -- in it; a line's cases are those of its kind. Assumes nothing.
 use mathlib.Core.Path.{_≡_, refl, subst}
-use mathlib.Core.Logic.{_⊎_, inl, inr, _↔_, ⊎-map}
-use mathlib.Core.List.{List, [], _∷_}
+use mathlib.Core.Logic.{_⊎_, inl, inr, _↔_, ⊎-elim, ⊎-map}
+use mathlib.Core.List.{List, [], _∷_, _++_, List·Memᴰ as In, List·Memᴰ·append-cases as in-append}
 use mathlib.Core.Option.{some}
 use Prim.Native.Nat.{ℕ, zero, suc, _+_, _-_, _*_, _≤_, _<_}
 use native.Mathlib.Omega.{arith}
 use lib.ListN.{length, drop, length-drop}
-use Rattle.promises.specs.Text.{Kind, gap, reply, Part, go, stop, Line, begins, continues, Monitor, monitors, latest, statesOf, eventsOf, product, decoded, OutOfRange, Equal, beginning, OfLatest, continuing, IsMon, cases, Case1, Case2, Case5, Case3, Case16, Case17, Case4, Case6, AllSound, LineFault, Fault}
-use Rattle.promises.specs.Meaning.{Stands, Apart, Answered, StillDue, Replied, Says, Admits, Ends, MayStop}
-use Rattle.promises.specs.Sentences.{RepliedAt, Begins, Continues, Sentences}
+use Rattle.automaton.specs.Automaton as automaton
+use Rattle.automaton.specs.Automaton.{Automaton, bounded, Over, walk}
+use Rattle.automaton.proofs.Joint.{admits-last}
+use Rattle.automaton.proofs.Counting.{admits-append}
+use Rattle.promises.specs.Text.{Kind, gap, reply, Part, go, stop, Line, begins, continues, Monitor, monitors, latest, statesOf, eventsOf, product, orderOf, decoded, Readable, OutOfRange, Equal, beginning, OfLatest, continuing, IsMon, cases, Case1, Case2, Case5, Case3, Case16, Case17, Case4, Case6, AllSound, LineFault, Fault}
+use Rattle.promises.specs.Meaning.{Stands, Apart, Answered, StillDue, Replied, Says, Admits, Ends, MayStop, BelowE}
+use Rattle.promises.specs.Rig.{monitorOf}
+use Rattle.promises.specs.Sentences.{Agrees, RepliedAt, Begins, Continues, Sentences}
 use Rattle.promises.proofs.Lines.{readable-formed}
 use Rattle.promises.proofs.Reading.{bad-line}
 use Rattle.promises.proofs.Gap.{free, gap-agrees}
 use Rattle.promises.proofs.Reply.{marked, reply-agrees}
-use Rattle.promises.proofs.Meaning.{monitor-agrees}
+use Rattle.promises.proofs.Meaning.{monitor-agrees, over-iff}
+
+-- ---- the sentences in other states
+
+over-append : (es v w : List ℕ) → Over es v → Over es w → Over es (v ++ w)
+unfolding Over
+over-append es v w a b e i = ⊎-elim (a e) (b e) (in-append v i)
+
+module _ (t : List ℕ) (r : Readable t) (m : Monitor) (i : In m (monitors (decoded t))) where
+  agrees : Agrees (orderOf (decoded t)) m
+  agrees = monitor-agrees _ _ m (readable-formed t r .monitored .each m i)
+
+  abbrev table : Automaton
+  table = monitorOf (orderOf (decoded t)) m
+
+  -- in a state, what is said of events is what is admitted
+  said : (s : ℕ) (w : List ℕ) → s < table .states → Over (orderOf (decoded t)) w → Admits m s w ↔ automaton.Admits table s w
+  unfolding monitorOf bounded
+  said s w h o = let (to, from) = agrees .admits s w h in (λ p. from (o, p), λ a. to a .1)
+
+  continued : (s : ℕ) (v w : List ℕ) → s < statesOf (m .kind) → BelowE t v → BelowE t w → Admits m s (v ++ w) ↔ (Admits m s v × Admits m (walk table s v) w)
+  continued s v w h b c =
+      let a = over-iff t r v .1 b in
+      let o = over-iff t r w .1 c in
+      let start : s < table .states = unfold monitorOf bounded in h in
+      let (part, join) = admits-append table s v w in
+      let (to, from) = said s v start a in
+      let (tos, froms) = said s (v ++ w) start (over-append _ v w a o) in (
+        λ p. let (x, y) = part (tos p) in (from x, said (walk table s v) w (admits-last table s v x) o .1 y),
+        λ (p, q). let x = to p in froms (join (x, said (walk table s v) w (admits-last table s v x) o .0 q)),
+      )
 
 -- ---- the sentences in the start state
 
@@ -109,7 +144,8 @@ unfolding MayStop Ends
 sentences = record {
   gaps = λ es e n ps. gap-agrees e n es ps;
   replies = λ es a b lo hi ps one le ne. reply-agrees a b lo hi one le ne es ps;
-  each = λ t r m i. monitor-agrees _ _ m (readable-formed t r .monitored .each m i);
+  each = agrees;
+  continued = continued;
   gap-plain = gap-plain;
   reply-plain = reply-plain;
   gap-marked = λ e n ps s. tt;

@@ -11,7 +11,8 @@
 --   Ends k ps s w       == what it says of w as a sequence to stop after
 --   Admits m s w        == the monitor m, in state s, admits the sequence w
 --   MayStop m s w       == w leads the monitor m from s to a state that is marked
---   AllAdmit t w        == w is made of events of the text t, and every monitor of t admits it from its start state
+--   BelowE t w          == w is made of events of the text t
+--   AllAdmit t w        == so it is, and every monitor of t admits it from its start state
 --   AllMayStop t w      == w leads from the start to a stoppable joint state
 --   CarriedOn t w k     == w can be carried on by k events, or by fewer to a stoppable state
 --   Belongs t h w       == w has h events, every monitor admits it, and it can be so carried on by any further number of events

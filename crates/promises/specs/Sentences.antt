@@ -2,7 +2,7 @@
 -- and from every state, and how the lines are refused.
 --   Agrees es m        == in any state, the automaton of m over the events es admits what m's sentence says of sequences of these events, and may stop where it says
 --   RepliedAt .. w     == the sentence of `reply` by places: every a at i has its b at j, or it may still come
---   Sentences          == the agreements, the sentences in the start state, the marks and the refusals
+--   Sentences          == the agreements, the sentences in the start state and in others, the marks and the refusals
 -- That the calls list what these sentences admit is demand 3. Assumes nothing.
 use mathlib.Core.Path.{_≡_}
 use mathlib.Core.Logic.{_⊎_, _≢_, _↔_}
@@ -14,7 +14,7 @@ use lib.ListN.{length}
 use Rattle.automaton.specs.Automaton as automaton
 use Rattle.automaton.specs.Automaton.{Over, walk}
 use Rattle.promises.specs.Text.{Kind, gap, reply, Part, Line, begins, continues, Monitor, monitors, latest, statesOf, eventsOf, product, orderOf, decoded, OutOfRange, Equal, IsMon, Case1, AllSound, Readable, Fault}
-use Rattle.promises.specs.Meaning.{Stands, Apart, Admits, MayStop}
+use Rattle.promises.specs.Meaning.{Stands, Apart, Admits, MayStop, BelowE}
 use Rattle.promises.specs.Rig.{monitorOf}
 
 pub record Agrees (es : List ℕ) (m : Monitor) : Type 0 where
@@ -49,6 +49,9 @@ pub record Sentences : Type 0 where
   pub replies : (es : List ℕ) (a b lo hi : ℕ) (ps : List Part) → 1 ≤ lo → lo ≤ hi → a ≢ b → Agrees es (record { kind = reply a b lo hi; parts = ps })
   -- so of every monitor of a readable text, whatever its kind: 'A user reading the sentence gets what the third demand says of monitors.'
   pub each : (t : List ℕ) → Readable t → (m : Monitor) → In m (monitors (decoded t)) → Agrees (orderOf (decoded t)) m
+  -- in other states a monitor says what is left of its sentence: it admits v and then w just if it admits v, and w in the state that v led to
+  pub continued : (t : List ℕ) → Readable t → (m : Monitor) → In m (monitors (decoded t)) → (s : ℕ) (v w : List ℕ) → s < statesOf (m .kind) → BelowE t v → BelowE t w
+      → Admits m s (v ++ w) ↔ (Admits m s v × Admits m (walk (monitorOf (orderOf (decoded t)) m) s v) w)
   -- in the start state, 'two occurrences of e are at least n steps apart', and no more
   pub gap-plain : (e n : ℕ) (ps : List Part) (w : List ℕ) → Admits (record { kind = gap e n; parts = ps }) 0 w ↔ Apart e n w
   -- and the sentence of `reply`, by the places at which a and b stand
