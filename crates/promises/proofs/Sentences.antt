@@ -1,7 +1,7 @@
 -- What `gap` and `reply` lines are.
 -- Why: each kind's automaton agrees with its sentence, so every monitor of a readable text does; what comes after the place i of a sequence stands i + 1 places later
 -- in it; a line's cases are those of its kind. Assumes nothing.
-use mathlib.Core.Path.{_≡_, refl, subst}
+use mathlib.Core.Path.{_≡_, refl, sym, ap, _∙_, subst}
 use mathlib.Core.Logic.{_⊎_, inl, inr, _↔_, ⊎-elim, ⊎-map}
 use mathlib.Core.List.{List, [], _∷_, _++_, List·Memᴰ as In, List·Memᴰ·append-cases as in-append}
 use mathlib.Core.Option.{some}
@@ -11,7 +11,7 @@ use lib.ListN.{length, drop, length-drop}
 use Rattle.automaton.specs.Automaton as automaton
 use Rattle.automaton.specs.Automaton.{Automaton, bounded, Over, walk}
 use Rattle.automaton.proofs.Joint.{admits-last}
-use Rattle.automaton.proofs.Counting.{admits-append}
+use Rattle.automaton.proofs.Counting.{walk-append, admits-append}
 use Rattle.promises.specs.Text.{Kind, gap, reply, Part, go, stop, Line, begins, continues, Monitor, monitors, latest, statesOf, eventsOf, product, orderOf, decoded, Readable, OutOfRange, Equal, beginning, OfLatest, continuing, IsMon, cases, Case1, Case2, Case5, Case3, Case16, Case17, Case4, Case6, AllSound, LineFault, Fault}
 use Rattle.promises.specs.Meaning.{Stands, Apart, Answered, StillDue, Replied, Says, Admits, Ends, MayStop, BelowE}
 use Rattle.promises.specs.Rig.{monitorOf}
@@ -51,6 +51,15 @@ module _ (t : List ℕ) (r : Readable t) (m : Monitor) (i : In m (monitors (deco
         λ p. let (x, y) = part (tos p) in (from x, said (walk table s v) w (admits-last table s v x) o .1 y),
         λ (p, q). let x = to p in froms (join (x, said (walk table s v) w (admits-last table s v x) o .0 q)),
       )
+
+  continued-stops : (s : ℕ) (v w : List ℕ) → s < statesOf (m .kind) → BelowE t v → BelowE t w → Admits m s (v ++ w) → MayStop m s (v ++ w) ↔ MayStop m (walk table s v) w
+  continued-stops s v w h b c p =
+      let start : s < table .states = unfold monitorOf bounded in h in
+      let a = said s (v ++ w) start (over-append _ v w (over-iff t r v .1 b) (over-iff t r w .1 c)) .0 p in
+      let (to, from) = agrees .stops s (v ++ w) a in
+      let (tos, froms) = agrees .stops (walk table s v) w (admits-append table s v w .0 a .1) in
+      let q : walk table s (v ++ w) ≡ walk table (walk table s v) w = walk-append table s v w in
+      (λ x. tos (ap (table .stop) (sym q) ∙ from x), λ x. to (ap (table .stop) q ∙ froms x))
 
 -- ---- the sentences in the start state
 
@@ -146,6 +155,7 @@ sentences = record {
   replies = λ es a b lo hi ps one le ne. reply-agrees a b lo hi one le ne es ps;
   each = agrees;
   continued = continued;
+  continued-stops = continued-stops;
   gap-plain = gap-plain;
   reply-plain = reply-plain;
   gap-marked = λ e n ps s. tt;

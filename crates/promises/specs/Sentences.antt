@@ -52,6 +52,9 @@ pub record Sentences : Type 0 where
   -- in other states a monitor says what is left of its sentence: it admits v and then w just if it admits v, and w in the state that v led to
   pub continued : (t : List ℕ) → Readable t → (m : Monitor) → In m (monitors (decoded t)) → (s : ℕ) (v w : List ℕ) → s < statesOf (m .kind) → BelowE t v → BelowE t w
       → Admits m s (v ++ w) ↔ (Admits m s v × Admits m (walk (monitorOf (orderOf (decoded t)) m) s v) w)
+  -- and where it admits both, it may stop after them just if it may stop after w in that state
+  pub continued-stops : (t : List ℕ) → Readable t → (m : Monitor) → In m (monitors (decoded t)) → (s : ℕ) (v w : List ℕ) → s < statesOf (m .kind) → BelowE t v → BelowE t w
+      → Admits m s (v ++ w) → MayStop m s (v ++ w) ↔ MayStop m (walk (monitorOf (orderOf (decoded t)) m) s v) w
   -- in the start state, 'two occurrences of e are at least n steps apart', and no more
   pub gap-plain : (e n : ℕ) (ps : List Part) (w : List ℕ) → Admits (record { kind = gap e n; parts = ps }) 0 w ↔ Apart e n w
   -- and the sentence of `reply`, by the places at which a and b stand

@@ -105,26 +105,14 @@ pick-zero false n m h q = (refl, q)
 
 -- ---- formed lines
 
+-- E, of no line and of some
 pub few-events : (ls : List Line) → Formed ls → eventsOf ls ≤ 16
-few-events ls f = few (f .headed)
-  where
-    few : Headed ls → eventsOf ls ≤ 16
-    few h = unfold Headed in by h
-      where
-        by : (ls ≡ []) ⊎ ((E : ℕ) × (rest : List Line) × (ls ≡ rig E ∷ rest) × (1 ≤ E) × (E ≤ 16)) → eventsOf ls ≤ 16
-        by (inl q) = unfold eventsOf in rw q (omega arith)
-        by (inr (E, rest, q, low, high)) = unfold eventsOf in rw q high
+unfolding Headed eventsOf
+few-events ls f = ⊎-elim (λ q. rw q (omega arith)) (λ (E, rest, q, low, high). rw q high) (f .headed)
 
--- there is an event if there is a line
 some-event : (ls : List Line) → Formed ls → empty ls ≡ eqb (eventsOf ls) 0
-some-event ls f = some (f .headed)
-  where
-    some : Headed ls → empty ls ≡ eqb (eventsOf ls) 0
-    some h = unfold Headed in by h
-      where
-        by : (ls ≡ []) ⊎ ((E : ℕ) × (rest : List Line) × (ls ≡ rig E ∷ rest) × (1 ≤ E) × (E ≤ 16)) → empty ls ≡ eqb (eventsOf ls) 0
-        by (inl q) = unfold eventsOf in rw q
-        by (inr (E, rest, q, low, high)) = unfold eventsOf in rw q (sym (ne-eqb E 0 (λ e. omega arith)))
+unfolding Headed eventsOf
+some-event ls f = ⊎-elim (λ q. rw q) (λ (E, rest, q, low, high). rw q (sym (ne-eqb E 0 (λ e. omega arith)))) (f .headed)
 
 -- and no monitor if there is none
 no-monitor : (ls : List Line) → empty ls ≡ true → length (monitors ls) ≡ 0
