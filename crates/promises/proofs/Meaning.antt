@@ -52,7 +52,7 @@ all P p f k (here q) = subst P (sym q) p
 all P p f k (there i) = f k i
 
 module _ (E : ℕ) (es : List ℕ) where
-  pub standing-fits : (ms : List Monitor) → ((m : Monitor) → In m ms → Kept E m) → Fit es (standing es ms)
+  standing-fits : (ms : List Monitor) → ((m : Monitor) → In m ms → Kept E m) → Fit es (standing es ms)
   unfolding Fit standing monitorOf bounded
   standing-fits [] k = tt
   standing-fits (m ∷ ms) k = (refl, start-below E (m .kind) (k m (here refl) .ranged), standing-fits ms (λ n i. k n (there i)))
@@ -143,10 +143,6 @@ module _ (t : List ℕ) (r : Readable t) where
     where
       standingOf : Monitor → At
       standingOf m = record { of = monitorOf (orderOf (decoded t)) m; state = startOf (m .kind) }
-
-  pub rig-small : rigAutomaton t .states ≤ 1024
-  unfolding jointStates
-  rig-small = rw (rig-states t) (well-formed .small)
 
   pub events-distinct : Pairwise _≢_ (rigAutomaton t .events)
   events-distinct = rw rig-events (order-permutes .once)

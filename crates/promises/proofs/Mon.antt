@@ -18,7 +18,7 @@ use Rattle.promises.proofs.Reading.{moved, moves, tells-marked}
 use Rattle.promises.proofs.Agreeing.{ending, agrees}
 
 -- where the lines of a monitor move, they move to one state only
-pub move-is : (E : ℕ) (m : Monitor) → Kept E m → (s e t : ℕ) → In (go s e t) (m .parts) → moveBy (m .parts) s e ≡ some t
+move-is : (E : ℕ) (m : Monitor) → Kept E m → (s e t : ℕ) → In (go s e t) (m .parts) → moveBy (m .parts) s e ≡ some t
 unfolding Once
 move-is E m k s e t i = let (u, q) = moves (m .parts) s e t i in q ∙ ap some (k .move-once s e u t (moved (m .parts) s e u q) i)
 

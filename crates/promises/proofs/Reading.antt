@@ -122,7 +122,7 @@ record Told (t : Tests) (c : Cases) : Type 0 where
   again : Tells (t .again) (c .again)
   too-many : Tells (t .too-many) (c .too-many)
 
-pub tells-mon : (k : Kind) → Tells (isMon k) (IsMon k)
+tells-mon : (k : Kind) → Tells (isMon k) (IsMon k)
 unfolding IsMon
 tells-mon (mon S a) = record { yes = λ q. (S, a, refl); no = λ q. contra refl q }
 tells-mon (gap e n) = record { yes = λ q. contra q refl; no = λ q (S, a, r). let z : _≡_ {A = ℕ} 0 1 = cc in omega arith }

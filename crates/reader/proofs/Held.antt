@@ -3,7 +3,7 @@
 --   Holds r ls z mv sp ct st os == the sizes z, the tables mv, sp, ct and st and the list os are those of the lines ls, read into the record r
 -- Assumes nothing.
 use mathlib.Core.Path.{_≡_, refl, sym, ap, ap₂, _∙_, subst}
-use mathlib.Core.Logic.{_⊎_, inl, inr, _≢_, ⊎-elim}
+use mathlib.Core.Logic.{_≢_, ⊎-elim}
 use mathlib.Core.Bool.{Bool, true, false, not, _||_}
 use mathlib.Core.List.{List, [], _∷_, _++_, List·Memᴰ as In}
 use mathlib.Core.Option.{some}
@@ -122,7 +122,7 @@ no-monitor (l ∷ ls) e = contra e refl
 
 -- ---- kinds
 
-pub as-kind : (k : Kind) → asKind (kindOf k) ≡ k
+as-kind : (k : Kind) → asKind (kindOf k) ≡ k
 as-kind (mon S a) = refl
 as-kind (gap e n) = refl
 as-kind (reply a b lo hi) = refl

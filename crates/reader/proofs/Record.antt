@@ -135,7 +135,7 @@ module _ (r : Rig) (m : Monitor) (k : ℕ) (T : OfKind (r .moves) (r .stops) k (
       flag true = refl
       flag false = refl
 
-  pub monitor-is : monitorAt r k ≡ lines.monitorOf (orderIn r) m
+  monitor-is : monitorAt r k ≡ lines.monitorOf (orderIn r) m
   unfolding monitorAt lines.monitorOf bounded
   monitor-is =
       let next : moveOf r k ≡ lines.monitorOf (orderIn r) m .next = fun-ext (λ s. fun-ext (λ e. moves-as s e)) in
@@ -156,16 +156,16 @@ module _ (ls : List Line) (r : Rig) (H : Recorded ls r) where
   among : (k : ℕ) → k < r .monitors → k < length (monitors ls)
   among k h = rw (← H .monitors-are) h
 
-  pub ranged-at : (k : ℕ) → k < r .monitors → Ranged (eventsOf ls) (getD (monitors ls) k nobody .kind)
+  ranged-at : (k : ℕ) → k < r .monitors → Ranged (eventsOf ls) (getD (monitors ls) k nobody .kind)
   ranged-at k h = H .formed .monitored .each _ (getD-in (monitors ls) k nobody (among k h)) .ranged
 
-  pub counts-of : (k : ℕ) → k < r .monitors → countOf r k ≡ statesOf (getD (monitors ls) k nobody .kind)
+  counts-of : (k : ℕ) → k < r .monitors → countOf r k ≡ statesOf (getD (monitors ls) k nobody .kind)
   counts-of k h = H .tabled .counts k (among k h)
 
-  pub starts-of : (k : ℕ) → k < r .monitors → startAt r k ≡ startOf (getD (monitors ls) k nobody .kind)
+  starts-of : (k : ℕ) → k < r .monitors → startAt r k ≡ startOf (getD (monitors ls) k nobody .kind)
   starts-of k h = H .tabled .starts k (among k h)
 
-  pub at-monitor : (k : ℕ) → k < r .monitors → monitorAt r k ≡ lines.monitorOf (orderOf ls) (getD (monitors ls) k nobody)
+  at-monitor : (k : ℕ) → k < r .monitors → monitorAt r k ≡ lines.monitorOf (orderOf ls) (getD (monitors ls) k nobody)
   at-monitor k h =
       monitor-is r (getD (monitors ls) k nobody) k (H .tabled .tables k (among k h)) (counts-of k h) (few-states (eventsOf ls) _ (ranged-at k h)) (rw (H .order-is, H .events-are) (H .formed .ordered))
       ∙ ap (λ es. lines.monitorOf es (getD (monitors ls) k nobody)) (H .order-is)
