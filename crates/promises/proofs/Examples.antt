@@ -21,7 +21,7 @@ use Rattle.promises.specs.Answer.{served, refused, Served}
 use Rattle.promises.specs.Meaning.{Belongs, Earlier, Comes}
 use Rattle.promises.specs.Reading.{leadsTo, moveBy, marks, markedBy, testBeginning, ofLatest, testContinuing, tests, lineCase, readingFrom, reading}
 use Rattle.promises.specs.Rig.{gapNext, replyNext, nextOf, markedOf, monitorOf, standing, linesAutomaton, linesStart, rigAutomaton, start}
-use Rattle.promises.specs.Examples.{A, B, A-from-1, A-exchanged, most-events, most-joint-states, Words, closes, one-unmarked, both-marked, may-close, gap-alone, reply-alone, unanswerable, every-kind, widest-kinds, gap-without-n, field-after-n, reply-without-hi, field-after-hi, gap-first, gap-1, gap-33, gap-no-event, reply-no-event, reply-lo-0, reply-hi-32, reply-lo-over-hi, reply-equal, equal-and-too-many, equal-and-fifth, gap-too-many, go-after-gap, stop-after-reply, stop-without-state, field-after-stop, stop-before-mon, stop-S, stop-again, start-S, field-after-start, empty-start, A-ordered, ord-too-short, ord-not-below, ord-twice, ord-third, ord-first, ord-no-number, ord-alone, mon-without-S, last-line-unended, leading-zero, six-digits, empty-field, seventeen-events, five-digits, fifth-monitor, go-again-out-of-range, go-again, nothing, rig-alone, rig-later, go-before-mon, too-many-joint-states}
+use Rattle.promises.specs.Examples.{A, B, A-from-1, A-exchanged, most-events, most-joint-states, Words, closes, one-unmarked, both-marked, may-close, gap-alone, reply-alone, unanswerable, every-kind, widest-kinds, gap-without-n, field-after-n, reply-without-hi, field-after-hi, gap-first, gap-1, gap-33, gap-no-event, reply-to-no-event, reply-no-event, reply-lo-0, reply-hi-32, reply-lo-over-hi, reply-equal, equal-and-too-many, equal-and-fifth, gap-too-many, go-after-gap, stop-after-reply, stop-without-state, field-after-stop, stop-before-mon, stop-S, stop-again, start-S, field-after-start, empty-start, A-ordered, ord-too-short, ord-not-below, ord-twice, ord-third, ord-first, ord-no-number, ord-alone, mon-without-S, last-line-unended, leading-zero, six-digits, empty-field, seventeen-events, five-digits, fifth-monitor, go-again-out-of-range, go-again, nothing, rig-alone, rig-later, go-before-mon, too-many-joint-states}
 use Rattle.promises.proofs.Reading.{reading-refuses, reading-serves}
 use Rattle.promises.proofs.Meaning.{text-belongs}
 use Rattle.promises.proofs.Answers.{belongs-listed}
@@ -49,6 +49,7 @@ record Readings : Type 0 where
   of-gap-1 : reading gap-1 ≡ refused 3 2
   of-gap-33 : reading gap-33 ≡ refused 3 2
   of-gap-no-event : reading gap-no-event ≡ refused 3 2
+  of-reply-to-no-event : reading reply-to-no-event ≡ refused 3 2
   of-reply-no-event : reading reply-no-event ≡ refused 3 2
   of-reply-lo-0 : reading reply-lo-0 ≡ refused 3 2
   of-reply-hi-32 : reading reply-hi-32 ≡ refused 3 2
@@ -117,6 +118,7 @@ readings = record {
   of-gap-1 = refl;
   of-gap-33 = refl;
   of-gap-no-event = refl;
+  of-reply-to-no-event = refl;
   of-reply-no-event = refl;
   of-reply-lo-0 = refl;
   of-reply-hi-32 = refl;
@@ -325,6 +327,7 @@ words = record {
   fault-gap-1 = reading-refuses gap-1 3 2 .0 (readings .of-gap-1);
   fault-gap-33 = reading-refuses gap-33 3 2 .0 (readings .of-gap-33);
   fault-gap-no-event = reading-refuses gap-no-event 3 2 .0 (readings .of-gap-no-event);
+  fault-reply-to-no-event = reading-refuses reply-to-no-event 3 2 .0 (readings .of-reply-to-no-event);
   fault-reply-no-event = reading-refuses reply-no-event 3 2 .0 (readings .of-reply-no-event);
   fault-reply-lo-0 = reading-refuses reply-lo-0 3 2 .0 (readings .of-reply-lo-0);
   fault-reply-hi-32 = reading-refuses reply-hi-32 3 2 .0 (readings .of-reply-hi-32);

@@ -12,7 +12,7 @@ use Rattle.automaton.specs.Automaton as automaton
 use Rattle.automaton.specs.Automaton.{Automaton, bounded, Over, walk}
 use Rattle.automaton.proofs.Joint.{admits-last}
 use Rattle.automaton.proofs.Counting.{walk-append, admits-append}
-use Rattle.promises.specs.Text.{Kind, gap, reply, Part, go, stop, Line, begins, continues, Monitor, monitors, latest, statesOf, eventsOf, product, orderOf, decoded, Readable, OutOfRange, Equal, beginning, OfLatest, continuing, IsMon, cases, Case1, Case2, Case5, Case3, Case16, Case17, Case4, Case6, AllSound, LineFault, Fault}
+use Rattle.promises.specs.Text.{Kind, gap, reply, Part, go, stop, Line, begins, continues, Monitor, monitors, latest, statesOf, startOf, eventsOf, product, orderOf, decoded, Readable, OutOfRange, Equal, beginning, OfLatest, continuing, IsMon, cases, Case1, Case2, Case5, Case3, Case16, Case17, Case4, Case6, AllSound, LineFault, Fault}
 use Rattle.promises.specs.Meaning.{Stands, Apart, Answered, StillDue, Replied, Says, Admits, Ends, MayStop, BelowE}
 use Rattle.promises.specs.Rig.{monitorOf}
 use Rattle.promises.specs.Sentences.{Agrees, RepliedAt, Begins, Continues, Sentences}
@@ -63,8 +63,8 @@ module _ (t : List ℕ) (r : Readable t) (m : Monitor) (i : In m (monitors (deco
 
 -- ---- the sentences in the start state
 
-gap-plain : (e n : ℕ) (ps : List Part) (w : List ℕ) → Admits (record { kind = gap e n; parts = ps }) 0 w ↔ Apart e n w
-unfolding Admits Says
+gap-plain : (e n : ℕ) (ps : List Part) (w : List ℕ) → Admits (record { kind = gap e n; parts = ps }) (startOf (gap e n)) w ↔ Apart e n w
+unfolding Admits Says startOf
 gap-plain e n ps w = (λ (b, a). a, λ a. (free e n w, a))
 
 -- what stands after place i
@@ -105,8 +105,8 @@ module _ (a b lo hi : ℕ) (w : List ℕ) (i : ℕ) where
         λ (l, n). (omega arith, λ k s. n (suc (i + k)) (omega arith) (stands-after a w i k .0 s)),
       )
 
-reply-plain : (a b lo hi : ℕ) (ps : List Part) (w : List ℕ) → 1 ≤ lo → Admits (record { kind = reply a b lo hi; parts = ps }) 0 w ↔ RepliedAt a b lo hi w
-unfolding Admits Says Replied RepliedAt
+reply-plain : (a b lo hi : ℕ) (ps : List Part) (w : List ℕ) → 1 ≤ lo → Admits (record { kind = reply a b lo hi; parts = ps }) (startOf (reply a b lo hi)) w ↔ RepliedAt a b lo hi w
+unfolding Admits Says startOf Replied RepliedAt
 reply-plain a b lo hi ps w pos = (
   λ (z, r) i t. ⊎-map (answered-at a b lo hi w i pos .0) (due-at a b lo hi w i (stands-below a w i t) .0) (r i t),
   λ r. (λ z. absurd (omega arith), λ i t. ⊎-map (answered-at a b lo hi w i pos .1) (due-at a b lo hi w i (stands-below a w i t) .1) (r i t)),

@@ -229,6 +229,10 @@ gap-33 = bytes "rig\t1\ngap\t0\t33\n"
 abbrev pub gap-no-event : List ℕ
 gap-no-event = bytes "rig\t1\ngap\t1\t2\n"
 
+-- 3, place 2: a not below E
+abbrev pub reply-to-no-event : List ℕ
+reply-to-no-event = bytes "rig\t2\nreply\t2\t1\t1\t1\n"
+
 -- 3, place 2: b not below E
 abbrev pub reply-no-event : List ℕ
 reply-no-event = bytes "rig\t2\nreply\t0\t2\t1\t1\n"
@@ -374,6 +378,7 @@ pub record Words : Type 0 where
   pub fault-gap-1 : Fault gap-1 3 2
   pub fault-gap-33 : Fault gap-33 3 2
   pub fault-gap-no-event : Fault gap-no-event 3 2
+  pub fault-reply-to-no-event : Fault reply-to-no-event 3 2
   pub fault-reply-no-event : Fault reply-no-event 3 2
   pub fault-reply-lo-0 : Fault reply-lo-0 3 2
   pub fault-reply-hi-32 : Fault reply-hi-32 3 2

@@ -13,7 +13,7 @@ use Prim.Native.Nat.{ℕ, suc, _+_, _*_, _≤_, _<_}
 use lib.ListN.{length}
 use Rattle.automaton.specs.Automaton as automaton
 use Rattle.automaton.specs.Automaton.{Over, walk}
-use Rattle.promises.specs.Text.{Kind, gap, reply, Part, Line, begins, continues, Monitor, monitors, latest, statesOf, eventsOf, product, orderOf, decoded, OutOfRange, Equal, IsMon, Case1, AllSound, Readable, Fault}
+use Rattle.promises.specs.Text.{Kind, gap, reply, Part, Line, begins, continues, Monitor, monitors, latest, statesOf, startOf, eventsOf, product, orderOf, decoded, OutOfRange, Equal, IsMon, Case1, AllSound, Readable, Fault}
 use Rattle.promises.specs.Meaning.{Stands, Apart, Admits, MayStop, BelowE}
 use Rattle.promises.specs.Rig.{monitorOf}
 
@@ -56,9 +56,9 @@ pub record Sentences : Type 0 where
   pub continued-stops : (t : List ℕ) → Readable t → (m : Monitor) → In m (monitors (decoded t)) → (s : ℕ) (v w : List ℕ) → s < statesOf (m .kind) → BelowE t v → BelowE t w
       → Admits m s (v ++ w) → MayStop m s (v ++ w) ↔ MayStop m (walk (monitorOf (orderOf (decoded t)) m) s v) w
   -- in the start state, 'two occurrences of e are at least n steps apart', and no more
-  pub gap-plain : (e n : ℕ) (ps : List Part) (w : List ℕ) → Admits (record { kind = gap e n; parts = ps }) 0 w ↔ Apart e n w
+  pub gap-plain : (e n : ℕ) (ps : List Part) (w : List ℕ) → Admits (record { kind = gap e n; parts = ps }) (startOf (gap e n)) w ↔ Apart e n w
   -- and the sentence of `reply`, by the places at which a and b stand
-  pub reply-plain : (a b lo hi : ℕ) (ps : List Part) (w : List ℕ) → 1 ≤ lo → Admits (record { kind = reply a b lo hi; parts = ps }) 0 w ↔ RepliedAt a b lo hi w
+  pub reply-plain : (a b lo hi : ℕ) (ps : List Part) (w : List ℕ) → 1 ≤ lo → Admits (record { kind = reply a b lo hi; parts = ps }) (startOf (reply a b lo hi)) w ↔ RepliedAt a b lo hi w
   -- 'All `gap` states are marked `stop`, of `reply` only state 0.'
   pub gap-marked : (e n : ℕ) (ps : List Part) (s : ℕ) → MayStop (record { kind = gap e n; parts = ps }) s []
   pub reply-marked : (a b lo hi : ℕ) (ps : List Part) (s : ℕ) → MayStop (record { kind = reply a b lo hi; parts = ps }) s [] ↔ (s ≡ 0)
