@@ -3,25 +3,27 @@
 use mathlib.Core.Path.{_≡_, refl, sym, ap, _∙_}
 use mathlib.Core.Logic.{⊎-elim}
 use mathlib.Core.Bool.{true, false}
-use mathlib.Core.List.{List}
-use Prim.Native.Nat.{ℕ}
+use mathlib.Core.List.{List, _∷_}
+use Prim.Native.Nat.{ℕ, _+_, _-_, _<_}
 use Prim.Native.String.{String}
-use lib.ListN.{take}
+use lib.ListN.{length, take, drop}
 use lib.Seq.{length-take-le}
 use Rattle.lists.specs.Lists.{indexOf}
-use Rattle.promises.specs.Text.{rig, other, bytes}
+use Rattle.promises.specs.Text.{rig, other, bytes, fields}
 use Rattle.promises.specs.Text as text
-use Rattle.decoding.specs.Forms.{valueOf, orOther, over, listedIn}
+use Rattle.decoding.specs.declared.Form.{Form}
+use Rattle.decoding.specs.Forms.{valueOf, orOther, formOf, over, listedIn}
 use Rattle.decoding.proofs.Parts.{indexOf-le}
 use Rattle.decoding.proofs.Numbers.{decode-more, decode-word, decode-ord, decode-alone, form-other, other-word, listed-ord, listed-none}
 use borrow.Author.Needs.{needs}
 use Rattle.decoding.proofs.decode.Statement.{statement}
 use Rattle.decoding.proofs.decode.Tie as tie
 
--- a word that is not `ord` lists nothing
-not-listed : (l : List ℕ) (end : ℕ) → end ≡ indexOf l 9 → (w : String) → text.same (take end l) (bytes w) ≡ true → text.same (bytes w) (bytes "ord") ≡ false → (os : List ℕ) → os ≡ over (listedIn l) os
+-- a line of the word w, which is not `ord`, is what its fields make of it, and lists nothing
+by-word : (l : List ℕ) (end : ℕ) → end ≡ indexOf l 9 → end < length l → (w : String) → text.same (take end l) (bytes w) ≡ true → text.same (bytes w) (bytes "ord") ≡ false
+    → (f : Form) (os : List ℕ) → f ≡ formOf (text.form (bytes w ∷ fields (take (length l - (end + 1)) (drop (end + 1) l)))) → (f ≡ formOf (text.decode l)) × (os ≡ over (listedIn l) os)
 unfolding over
-not-listed l end e w p q os = rw (listed-none l end e (other-word (take end l) (bytes w) (bytes "ord") p q))
+by-word l end e h w p q f os r = (rw (decode-word l end e w h p) r, rw (listed-none l end e (other-word (take end l) (bytes w) (bytes "ord") p q)))
 
 until-requires : tie.Need-until-requires
 until-requires c κs = search needs
@@ -64,8 +66,7 @@ returns c =
     let l = c .before .before .before .before .before .before .before .before .before .before .before .before .before .args .line .now in
     let u = c .before .before .before .before .before .before .before .before .before .before .until in
     let p = sym (c .before .before .before .before .before .same .ensures) ∙ c .before .before .before .before .if2 .taken in
-    let q = decode-word l (u .result) (u .ensures) "rig" (c .before .before .before .before .before .before .before .before .if1 .taken) p ∙ c .before .before .before .only-number .ensures (λ E. rig E) ∙ ap (λ d. orOther (λ E. rig E) (valueOf d)) (c .before .e .given .1) in
-    (rw q, not-listed l (u .result) (u .ensures) "rig" p refl _)
+    by-word l (u .result) (u .ensures) (c .before .before .before .before .before .before .before .before .if1 .taken) "rig" p refl _ _ (ap formOf (sym (c .before .before .before .only-number .ensures (λ E. rig E) ∙ ap (λ d. orOther (λ E. rig E) (valueOf d)) (c .before .e .given .1))))
 
 returns-2 : tie.Need-returns-2
 unfolding text.form text.same
@@ -73,8 +74,7 @@ returns-2 c =
     let l = c .before .before .before .before .before .before .before .before .before .before .before .before .args .line .now in
     let u = c .before .before .before .before .before .before .before .before .before .until in
     let p = sym (c .before .before .before .before .same .ensures) ∙ c .before .before .before .if2 .taken in
-    let q = decode-word l (u .result) (u .ensures) "rig" (c .before .before .before .before .before .before .before .if1 .taken) p ∙ c .before .before .only-number .ensures (λ E. rig E) ∙ ap (λ d. orOther (λ E. rig E) (valueOf d)) (c .enum-told .given .1) in
-    (rw q, not-listed l (u .result) (u .ensures) "rig" p refl _)
+    by-word l (u .result) (u .ensures) (c .before .before .before .before .before .before .before .if1 .taken) "rig" p refl _ _ (ap formOf (sym (c .before .before .only-number .ensures (λ E. rig E) ∙ ap (λ d. orOther (λ E. rig E) (valueOf d)) (c .enum-told .given .1))))
 
 slice-aggregate-same-2 : tie.Need-slice-aggregate-same-2
 slice-aggregate-same-2 c = search needs
@@ -91,7 +91,7 @@ returns-3 c =
     let l = c .before .before .before .before .before .before .before .before .before .before .before .before .before .args .line .now in
     let u = c .before .before .before .before .before .before .before .before .before .before .until in
     let p = sym (c .before .before .same2 .ensures) ∙ c .before .if3 .taken in
-    (rw (decode-word l (u .result) (u .ensures) "mon" (c .before .before .before .before .before .before .before .before .if1 .taken) p) (c .mon-form .ensures), not-listed l (u .result) (u .ensures) "mon" p refl _)
+    by-word l (u .result) (u .ensures) (c .before .before .before .before .before .before .before .before .if1 .taken) "mon" p refl _ _ (c .mon-form .ensures)
 
 slice-aggregate-same-3 : tie.Need-slice-aggregate-same-3
 slice-aggregate-same-3 c = search needs
@@ -108,7 +108,7 @@ returns-4 c =
     let l = c .before .before .before .before .before .before .before .before .before .before .before .before .before .before .before .before .args .line .now in
     let u = c .before .before .before .before .before .before .before .before .before .before .before .before .before .until in
     let p = sym (c .before .before .same3 .ensures) ∙ c .before .if4 .taken in
-    (rw (decode-word l (u .result) (u .ensures) "go" (c .before .before .before .before .before .before .before .before .before .before .before .if1 .taken) p) (c .go-form .ensures), not-listed l (u .result) (u .ensures) "go" p refl _)
+    by-word l (u .result) (u .ensures) (c .before .before .before .before .before .before .before .before .before .before .before .if1 .taken) "go" p refl _ _ (c .go-form .ensures)
 
 slice-aggregate-same-4 : tie.Need-slice-aggregate-same-4
 slice-aggregate-same-4 c = search needs
@@ -125,7 +125,7 @@ returns-5 c =
     let l = c .before .before .before .before .before .before .before .before .before .before .before .before .before .before .before .before .before .before .before .args .line .now in
     let u = c .before .before .before .before .before .before .before .before .before .before .before .before .before .before .before .before .until in
     let p = sym (c .before .before .same4 .ensures) ∙ c .before .if5 .taken in
-    (rw (decode-word l (u .result) (u .ensures) "stop" (c .before .before .before .before .before .before .before .before .before .before .before .before .before .before .if1 .taken) p) (c .stop-form .ensures), not-listed l (u .result) (u .ensures) "stop" p refl _)
+    by-word l (u .result) (u .ensures) (c .before .before .before .before .before .before .before .before .before .before .before .before .before .before .if1 .taken) "stop" p refl _ _ (c .stop-form .ensures)
 
 slice-aggregate-same-5 : tie.Need-slice-aggregate-same-5
 slice-aggregate-same-5 c = search needs
@@ -142,7 +142,7 @@ returns-6 c =
     let l = c .before .before .before .before .before .before .before .before .before .before .before .before .before .before .before .before .before .before .before .before .before .before .args .line .now in
     let u = c .before .before .before .before .before .before .before .before .before .before .before .before .before .before .before .before .before .before .before .until in
     let p = sym (c .before .before .same5 .ensures) ∙ c .before .if6 .taken in
-    (rw (decode-word l (u .result) (u .ensures) "gap" (c .before .before .before .before .before .before .before .before .before .before .before .before .before .before .before .before .before .if1 .taken) p) (c .gap-form .ensures), not-listed l (u .result) (u .ensures) "gap" p refl _)
+    by-word l (u .result) (u .ensures) (c .before .before .before .before .before .before .before .before .before .before .before .before .before .before .before .before .before .if1 .taken) "gap" p refl _ _ (c .gap-form .ensures)
 
 slice-aggregate-same-6 : tie.Need-slice-aggregate-same-6
 slice-aggregate-same-6 c = search needs
@@ -159,7 +159,7 @@ returns-7 c =
     let l = c .before .before .before .before .before .before .before .before .before .before .before .before .before .before .before .before .before .before .before .before .before .before .before .before .before .args .line .now in
     let u = c .before .before .before .before .before .before .before .before .before .before .before .before .before .before .before .before .before .before .before .before .before .before .until in
     let p = sym (c .before .before .same6 .ensures) ∙ c .before .if7 .taken in
-    (rw (decode-word l (u .result) (u .ensures) "reply" (c .before .before .before .before .before .before .before .before .before .before .before .before .before .before .before .before .before .before .before .before .if1 .taken) p) (c .reply-form .ensures), not-listed l (u .result) (u .ensures) "reply" p refl _)
+    by-word l (u .result) (u .ensures) (c .before .before .before .before .before .before .before .before .before .before .before .before .before .before .before .before .before .before .before .before .if1 .taken) "reply" p refl _ _ (c .reply-form .ensures)
 
 slice-aggregate-same-7 : tie.Need-slice-aggregate-same-7
 slice-aggregate-same-7 c = search needs
