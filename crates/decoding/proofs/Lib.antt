@@ -1,4 +1,5 @@
 -- The laws that the proofs of decoding share.
 pub mod Parts
 pub mod Numbers
+pub mod Signs
 pub mod Listed

@@ -16,7 +16,7 @@ use types.Run.{OneOf}
 use denote.Enum.Declared.{tagOf}
 use Rattle.lists.specs.Lists.{pick, indexOf}
 use Rattle.lists.proofs.Tests.{case}
-use Rattle.promises.specs.Text.{Line, ord, other, bytes, splitOn, same, fields, digitsValue, number, field, endOr, end, one, two, three, four, oneOrTwo, anyNumber, form, decode}
+use Rattle.promises.specs.Text.{Line, ord, other, bytes, splitOn, same, fields, digitsValue, number, field, endOr, end, one, two, three, four, twoSigned, thenSigned, oneOrTwo, anyNumber, form, decode}
 use Rattle.promises.proofs.Pieces.{splitOn-some}
 use Rattle.promises.proofs.Spelling.{same-tells}
 use Rattle.decoding.specs.declared.Field.the-variants.{Last, More, Bad}
@@ -115,7 +115,7 @@ field-by rest l x e = rw e (case (ltb (indexOf l 9) (length l)) more last)
         go (some n) q = rw q
 
 -- a line has at least one field
-endOr-more : (k : Line) (more : List (List ℕ) → Line) (l : List ℕ) → endOr k more (fields l) ≡ more (fields l)
+pub endOr-more : (k : Line) (more : List (List ℕ) → Line) (l : List ℕ) → endOr k more (fields l) ≡ more (fields l)
 unfolding endOr fields
 endOr-more k more l = let (p, ps, e) = splitOn-some 9 l in rw e
 
@@ -158,12 +158,12 @@ short (Last n) h = tt
 short (More n next) h = ⊎-elim (λ q. omega arith) (λ q. omega arith) h
 short Bad h = tt
 
-short-by : (rest : ℕ → List (List ℕ) → Line) → ((n : ℕ) → rest n [] ≡ other) → (l : List ℕ) (x : Field) → x ≡ fieldOf l → Short x → field number rest (fields l) ≡ other
+pub short-by : (rest : ℕ → List (List ℕ) → Line) → ((n : ℕ) → rest n [] ≡ other) → (l : List ℕ) (x : Field) → x ≡ fieldOf l → Short x → field number rest (fields l) ≡ other
 short-by rest e l (Last n) q h = field-by rest l (Last n) q ∙ e n
 short-by rest e l (More n next) q h = absurd h
 short-by rest e l Bad q h = field-by rest l Bad q
 
-next-by : (rest : ℕ → List (List ℕ) → Line) (l : List ℕ) (n next : ℕ) → More n next ≡ fieldOf l → field number rest (fields l) ≡ rest n (fields (take (length l - next) (drop next l)))
+pub next-by : (rest : ℕ → List (List ℕ) → Line) (l : List ℕ) (n next : ℕ) → More n next ≡ fieldOf l → field number rest (fields l) ≡ rest n (fields (take (length l - next) (drop next l)))
 next-by rest l n next q = field-by rest l (More n next) q ∙ ap (λ r. rest n (fields r)) (sym (rest-whole l next))
 
 module _ (f : ℕ → ℕ → Line) where
@@ -235,10 +235,10 @@ module _ (l : List ℕ) (end : ℕ) (e : end ≡ indexOf l 9) where
 
   -- a word alone is no form but `ord`
   pub decode-alone : length l ≤ end → same (take end l) (bytes "ord") ≡ false → decode l ≡ other
-  unfolding fieldsFrom form one two three four oneOrTwo field
+  unfolding fieldsFrom form one two three four twoSigned thenSigned oneOrTwo field
   decode-alone h p =
       decode-first ∙ rw (le-ltb end (length l) h, p)
-      (either (same (take end l) (bytes "rig")) (either (same (take end l) (bytes "mon")) (either (same (take end l) (bytes "go")) (either (same (take end l) (bytes "stop")) (either (same (take end l) (bytes "gap")) (either (same (take end l) (bytes "reply")) refl))))))
+      (either (same (take end l) (bytes "rig")) (either (same (take end l) (bytes "mon")) (either (same (take end l) (bytes "go")) (either (same (take end l) (bytes "stop")) (either (same (take end l) (bytes "gap")) (either (same (take end l) (bytes "reply")) (either (same (take end l) (bytes "bal")) (either (same (take end l) (bytes "amp")) refl))))))))
     where
       either : (b : Bool) {k : Line} → k ≡ other → pick b other k ≡ other
       either true q = refl
@@ -260,6 +260,6 @@ module _ (l : List ℕ) (end : ℕ) (e : end ≡ indexOf l 9) where
 
 module _ (w : List ℕ) (fs : List (List ℕ)) where
   pub form-other : same w (bytes "rig") ≡ false → same w (bytes "mon") ≡ false → same w (bytes "go") ≡ false → same w (bytes "ord") ≡ false → same w (bytes "stop") ≡ false
-      → same w (bytes "gap") ≡ false → same w (bytes "reply") ≡ false → form (w ∷ fs) ≡ other
+      → same w (bytes "gap") ≡ false → same w (bytes "reply") ≡ false → same w (bytes "bal") ≡ false → same w (bytes "amp") ≡ false → form (w ∷ fs) ≡ other
   unfolding form
-  form-other p q r o s g y = rw (p, q, r, o, s, g, y)
+  form-other p q r o s g y b a = rw (p, q, r, o, s, g, y, b, a)

@@ -1,11 +1,13 @@
 -- The code's values in the words of `promises`, and a line's fields read one by one.
 --   valueOf d        == the number of a field, if it is one
+--   signedOf d       == its signed number, if it is one
 --   kindOf k         == the kind k of monitor, in the code's fields
 --   partOf p         == the line p of a monitor, likewise
 --   formOf l         == the line form l, likewise; of an `ord` line, how many events it lists
 --   over es os       == the numbers es as bytes, 255 for a larger one, written over the front of os as far as that goes
 --   orOther f n      == the form of the number n, or `other` where there is none
 --   pairOr f p       == the form of the two numbers of p, likewise
+--   signedOr f x     == the form of the signed number x, likewise
 --   asField n more i == the field that is the number n, the next one starting at i where there is more
 --   fieldOf l        == the first field of what is left of a line
 --   fieldsFrom l k   == the fields after the byte 9 at k, none where the line l ends there
@@ -17,10 +19,11 @@ use mathlib.Core.Bool.{Bool}
 use mathlib.Core.List.{List, [], _∷_}
 use mathlib.Core.Option.{Option, none, some}
 use Prim.Native.Nat.{ℕ, _+_, min}
+use lib.IntN.{ℤ}
 use lib.ListN.{length, take, drop}
 use lib.Dec.{ltb}
 use Rattle.lists.specs.Lists.{pick, indexOf}
-use Rattle.promises.specs.Text.{Line, rig, ord, begins, continues, other, mon, gap, reply, go, stop, number, fields, same, bytes}
+use Rattle.promises.specs.Text.{Line, rig, ord, begins, continues, other, mon, gap, reply, bal, go, stop, amp, number, fields, same, bytes}
 use Rattle.promises.specs.Text as text
 use Rattle.decoding.specs.declared.Decimal.{Decimal}
 use Rattle.decoding.specs.declared.Decimal.the-variants.{Value, Wrong}
@@ -28,25 +31,33 @@ use Rattle.decoding.specs.declared.Field.{Field}
 use Rattle.decoding.specs.declared.Field.the-variants.{Last, More, Bad}
 use Rattle.decoding.specs.declared.Form.{Form}
 use Rattle.decoding.specs.declared.Form.the-variants.{Rig, Ord, Begins, Continues, Other}
+use Rattle.decoding.specs.declared.Integer.{Integer}
+use Rattle.decoding.specs.declared.Integer.the-variants as integers
 use Rattle.decoding.specs.declared.Kind.{Kind}
-use Rattle.decoding.specs.declared.Kind.the-variants.{Mon, Gap, Reply}
+use Rattle.decoding.specs.declared.Kind.the-variants.{Mon, Gap, Reply, Bal}
 use Rattle.decoding.specs.declared.Pair.{Pair}
 use Rattle.decoding.specs.declared.Pair.the-variants.{Both, Neither}
 use Rattle.decoding.specs.declared.Part.{Part}
-use Rattle.decoding.specs.declared.Part.the-variants.{Go, Stop}
+use Rattle.decoding.specs.declared.Part.the-variants.{Go, Stop, Amp}
 
 abbrev pub valueOf : Decimal → Option ℕ
 valueOf (Value n) = some n
 valueOf Wrong = none
 
+abbrev pub signedOf : Integer → Option ℤ
+signedOf (integers.Value x) = some x
+signedOf integers.Wrong = none
+
 abbrev pub kindOf : text.Kind → Kind
 kindOf (mon S a) = Mon S a
 kindOf (gap e n) = Gap e n
 kindOf (reply a b lo hi) = Reply a b lo hi
+kindOf (bal lo hi) = Bal lo hi
 
 abbrev pub partOf : text.Part → Part
 partOf (go s e t) = Go s e t
 partOf (stop s) = Stop s
+partOf (amp e d) = Amp e d
 
 abbrev pub formOf : Line → Form
 formOf (rig E) = Rig E
@@ -68,6 +79,10 @@ orOther f (some n) = f n
 abbrev pub pairOr : (ℕ → ℕ → Line) → Pair → Line
 pairOr f (Both a b) = f a b
 pairOr f Neither = other
+
+abbrev pub signedOr : (ℤ → Line) → Option ℤ → Line
+signedOr f none = other
+signedOr f (some x) = f x
 
 abbrev pub asField : Option ℕ → Bool → ℕ → Field
 asField none more next = Bad

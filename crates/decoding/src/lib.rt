@@ -1,11 +1,12 @@
 // A line's bytes as its form: the word, and the numbers of its fields.
 ghost use mathlib.Core.Path.{_≡_};
 ghost use Prim.Native.Nat.{ℕ, _≤_, min};
+ghost use lib.IntN.{ℤ};
 ghost use lib.ListN.{length};
 ghost use Rattle.lists.specs.Lists.{indexOf};
-ghost use Rattle.promises.specs.Text.{Line, ord, begins, mon, gap, reply, continues, go, stop, one, two, three, four, oneOrTwo, anyNumber, fields};
+ghost use Rattle.promises.specs.Text.{Line, ord, begins, mon, gap, reply, bal, continues, go, stop, amp, one, two, three, four, oneSigned, twoSigned, thenSigned, oneOrTwo, anyNumber, fields};
 ghost use Rattle.promises.specs.Text as text;
-ghost use Rattle.decoding.specs.Forms.{valueOf, fieldOf, orOther, pairOr, fieldsFrom, leading, listedIn, over, formOf};
+ghost use Rattle.decoding.specs.Forms.{valueOf, signedOf, fieldOf, orOther, signedOr, pairOr, fieldsFrom, leading, listedIn, over, formOf};
 
 // What a field is: a number of paper 01, or none.
 pub enum Decimal {
@@ -13,17 +14,25 @@ pub enum Decimal {
     Wrong,
 }
 
-// A line that begins a monitor, with its numbers: `mon`, S and the start; `gap`, e, n; `reply`, a, b, lo, hi.
+// What a field is: a signed number of paper 02 no. 6, or none.
+enum Integer {
+    Value(i64),
+    Wrong,
+}
+
+// A line that begins a monitor, with its numbers: `mon`, S and the start; `gap`, e, n; `reply`, a, b, lo, hi; `bal`, lo, hi.
 pub enum Kind {
     Mon(usize, usize),
     Gap(usize, usize),
     Reply(usize, usize, usize, usize),
+    Bal(i64, i64),
 }
 
-// A line of the latest monitor, with its numbers: `go`, s, e, t; `stop`, s.
+// A line of the latest monitor, with its numbers: `go`, s, e, t; `stop`, s; `amp`, e, d.
 pub enum Part {
     Go(usize, usize, usize),
     Stop(usize),
+    Amp(usize, i64),
 }
 
 // A line's form. `Ord` has how many events are listed; the events themselves are left in a lent list.
@@ -120,6 +129,31 @@ pub fn number(field: &[u8]) -> Decimal
     digits_value(field)
 }
 
+// 'a minus sign, byte 45, may come before a nonzero number; any other is 2'
+fn signed(field: &[u8]) -> Integer
+    ensures { λ r. ⌜ signedOf r ≡ text.signed (now (field .entry)) ⌝ }
+{
+    if field.len() == 0 {
+        return Integer::Wrong; // an empty field
+    }
+    if field[0] != 45 {
+        return match number(field) {
+            Decimal::Value(n) => Integer::Value(n as i64),
+            Decimal::Wrong => Integer::Wrong,
+        };
+    }
+    match number(&field[1..]) {
+        Decimal::Value(n) => {
+            if n == 0 {
+                Integer::Wrong // -0
+            } else {
+                Integer::Value(0 - n as i64)
+            }
+        }
+        Decimal::Wrong => Integer::Wrong,
+    }
+}
+
 // The first field of what is left of a line.
 fn read_field(rest: &[u8]) -> Field
     ensures { λ r. ⌜ r ≡ fieldOf (now (rest .entry)) ⌝ }
@@ -146,6 +180,16 @@ fn only_number(rest: &[u8]) -> Decimal
         Field::More(_, _) => Decimal::Wrong,
         Field::Bad => Decimal::Wrong,
     }
+}
+
+// The signed number that is the only field left of a line.
+fn only_signed(rest: &[u8]) -> Integer
+    ensures { λ r. ⌜ ((f : ℤ → Line) → oneSigned f (fields (now (rest .entry))) ≡ signedOr f (signedOf r)) ⌝ }
+{
+    if until(rest, 9) < rest.len() {
+        return Integer::Wrong; // a further field
+    }
+    signed(rest)
 }
 
 // `mon`, S, start; or `mon`, S, which starts in 0
@@ -220,6 +264,37 @@ fn reply_form(rest: &[u8]) -> Form
     }
 }
 
+// `bal`, lo, hi
+fn bal_form(rest: &[u8]) -> Form
+    ensures { λ r. ⌜ r ≡ formOf (twoSigned (λ lo hi. begins (bal lo hi)) (fields (now (rest .entry)))) ⌝ }
+{
+    let end = until(rest, 9);
+    if rest.len() <= end {
+        return Form::Other; // no hi
+    }
+    let Integer::Value(lo) = signed(&rest[..end]) else {
+        return Form::Other;
+    };
+    let next = end + 1;
+    match only_signed(&rest[next..]) {
+        Integer::Value(hi) => Form::Begins(Kind::Bal(lo, hi)),
+        Integer::Wrong => Form::Other,
+    }
+}
+
+// `amp`, e, d
+fn amp_form(rest: &[u8]) -> Form
+    ensures { λ r. ⌜ r ≡ formOf (thenSigned (λ e d. continues (amp e d)) (fields (now (rest .entry)))) ⌝ }
+{
+    let Field::More(e, next) = read_field(rest) else {
+        return Form::Other;
+    };
+    match only_signed(&rest[next..]) {
+        Integer::Value(d) => Form::Continues(Part::Amp(e, d)),
+        Integer::Wrong => Form::Other,
+    }
+}
+
 // `stop`, s
 fn stop_form(rest: &[u8]) -> Form
     ensures { λ r. ⌜ r ≡ formOf (one (λ s. continues (stop s)) (fields (now (rest .entry)))) ⌝ }
@@ -289,6 +364,12 @@ pub fn decode(line: &[u8], order: &mut [u8]) -> Form
         }
         if same(word, b"reply") {
             return reply_form(rest);
+        }
+        if same(word, b"bal") {
+            return bal_form(rest);
+        }
+        if same(word, b"amp") {
+            return amp_form(rest);
         }
     }
     if same(word, b"ord") {

@@ -6,6 +6,8 @@ pub mod Ordered
 pub mod Filters
 pub mod Tables
 pub mod Tells
+pub mod Firsts
+pub mod Integers
 pub mod Distinct
 pub mod Permutations
 pub mod Blocks

@@ -87,27 +87,28 @@ module _ {A : Type 0} (f : ℕ → List A) (w : ℕ) (wide : (r : ℕ) → lengt
 
 -- ---- entries written over others
 
-module _ {A : Type 0} (l : List A) (i : ℕ) (f : ℕ → A) where
-  pub length-overwrite : (n : ℕ) → length (overwrite l i f n) ≡ length l
+module _ {A : Type 0} (l : List A) (p : ℕ → ℕ) (f : ℕ → A) where
+  pub length-overwrite : (n : ℕ) → length (overwrite l p f n) ≡ length l
   unfolding overwrite
   length-overwrite zero = refl
-  length-overwrite (suc n) = length-set (overwrite l i f n) (i + n) (f n) ∙ length-overwrite n
+  length-overwrite (suc n) = length-set (overwrite l p f n) (p n) (f n) ∙ length-overwrite n
 
-  pub overwrite-at : (n u : ℕ) (d : A) → u < n → i + n ≤ length l → getD (overwrite l i f n) (i + u) d ≡ f u
+  -- at different places, all of them in the list
+  pub overwrite-at : ((u v : ℕ) → p u ≡ p v → u ≡ v) → (n u : ℕ) (d : A) → u < n → ((v : ℕ) → v < n → p v < length l) → getD (overwrite l p f n) (p u) d ≡ f u
   unfolding overwrite
-  overwrite-at zero u d h w = absurd (not-suc-le-zero h)
-  overwrite-at (suc n) u d h w =
+  overwrite-at apart zero u d h w = absurd (not-suc-le-zero h)
+  overwrite-at apart (suc n) u d h w =
       ⊎-elim
-      (λ e. rw e (getD-set-same (overwrite l i f n) (i + n) (f n) d (omega (arith, length-overwrite n))))
-      (λ k. getD-set-other (overwrite l i f n) (i + n) (i + u) (f n) d (λ q. omega arith) ∙ overwrite-at n u d k (omega arith))
+      (λ e. rw e (getD-set-same (overwrite l p f n) (p n) (f n) d (rw (length-overwrite n) (w n (omega arith)))))
+      (λ k. getD-set-other (overwrite l p f n) (p n) (p u) (f n) d (λ q. omega (arith, apart u n q)) ∙ overwrite-at apart n u d k (λ v b. w v (omega arith)))
       (eq-or-lt-of-le (le-of-suc-le-suc h))
 
-  pub overwrite-beside : (n j : ℕ) (d : A) → ((u : ℕ) → u < n → j ≡ i + u → ⊥) → getD (overwrite l i f n) j d ≡ getD l j d
+  pub overwrite-beside : (n j : ℕ) (d : A) → ((u : ℕ) → u < n → j ≡ p u → ⊥) → getD (overwrite l p f n) j d ≡ getD l j d
   unfolding overwrite
   overwrite-beside zero j d h = refl
-  overwrite-beside (suc n) j d h = getD-set-other (overwrite l i f n) (i + n) j (f n) d (h n (omega arith)) ∙ overwrite-beside n j d (λ u k. h u (omega arith))
+  overwrite-beside (suc n) j d h = getD-set-other (overwrite l p f n) (p n) j (f n) d (h n (omega arith)) ∙ overwrite-beside n j d (λ u k. h u (omega arith))
 
   -- one entry more
-  pub overwrite-more : (n : ℕ) (v : A) → v ≡ f n → set (overwrite l i f n) (i + n) v ≡ overwrite l i f (n + 1)
+  pub overwrite-more : (n : ℕ) (v : A) → v ≡ f n → set (overwrite l p f n) (p n) v ≡ overwrite l p f (n + 1)
   unfolding overwrite
   overwrite-more n v q = rw (add-one n, q)

@@ -9,13 +9,16 @@
 --   count f n       == how many of the numbers below n pass the test f
 --   tabulate f n    == f 0, f 1, … f (n−1)
 --   stack f n       == the lists f 0, f 1, … f (n−1), one after the other
---   overwrite l i f n == l with f 0, f 1, … f (n−1) from place i on
+--   overwrite l p f n == l with f 0, f 1, … f (n−1) at the places p 0, p 1, … p (n−1)
 --   range n         == the numbers below n, in order
 --   indexOf l x     == where x first stands in l, from 0
+--   firstOf f l     == what f finds in the first element of l in which it finds something
+--   isSome o        == something was found
 -- Membership `In` is the library's List·Memᴰ, indexing its getD. Assumes nothing.
 use mathlib.Core.Logic.{_↔_, _≢_}
 use mathlib.Core.Bool.{Bool, true, false, _||_}
 use mathlib.Core.List.{List, [], _∷_, _++_, List·Memᴰ as In}
+use mathlib.Core.Option.{Option, none as nothing, some, orElse}
 use Prim.Native.Nat.{ℕ, zero, suc, _+_, _<_}
 use lib.ListN.{set}
 use lib.Dec.{eqb}
@@ -60,9 +63,9 @@ unfoldable pub stack : {A : Type 0} → (ℕ → List A) → ℕ → List A
 stack f zero = []
 stack f (suc n) = stack f n ++ f n
 
-unfoldable pub overwrite : {A : Type 0} → List A → ℕ → (ℕ → A) → ℕ → List A
-overwrite l i f zero = l
-overwrite l i f (suc n) = set (overwrite l i f n) (i + n) (f n)
+unfoldable pub overwrite : {A : Type 0} → List A → (ℕ → ℕ) → (ℕ → A) → ℕ → List A
+overwrite l p f zero = l
+overwrite l p f (suc n) = set (overwrite l p f n) (p n) (f n)
 
 unfoldable pub range : ℕ → List ℕ
 range zero = []
@@ -71,3 +74,11 @@ range (suc n) = range n ++ n ∷ []
 unfoldable pub indexOf : List ℕ → ℕ → ℕ
 indexOf [] e = 0
 indexOf (d ∷ l) e = pick (eqb d e) 0 (suc (indexOf l e))
+
+unfoldable pub firstOf : {A B : Type 0} → (A → Option B) → List A → Option B
+firstOf f [] = nothing
+firstOf f (x ∷ l) = orElse (f x) (firstOf f l)
+
+abbrev pub isSome : {A : Type 0} → Option A → Bool
+isSome nothing = false
+isSome (some a) = true

@@ -7,7 +7,7 @@ use mathlib.Core.List.{List, [], _∷_}
 use Prim.Native.Nat.{ℕ, _<_}
 use native.Mathlib.Omega.{arith}
 use lib.ListN.{length, length-replicate}
-use Rattle.lists.specs.Lists.{range, indexOf}
+use Rattle.lists.specs.Lists.{range, indexOf, firstOf}
 use Rattle.lists.proofs.Distinct.{in-place}
 use Rattle.automaton.specs.Automaton.{bounded}
 use Rattle.automaton.specs.Joint.{both, join, idle, joint, sizes, jointState}
@@ -16,12 +16,12 @@ use Rattle.automaton.specs.Counting.{N}
 use Rattle.automaton.specs.Ranking.{choose, unrank, firstViolation}
 use Rattle.automaton.proofs.Counting.{scenarios-length, scenarios-sound, stays-live, stays-events}
 use Rattle.automaton.proofs.Ranking.{index-belongs, firstViolation-none}
-use Rattle.promises.specs.Text.{onto, splitOn, init, lastOf, lines, unended, fields, digitsValue, number, ahead, numbers, same, field, endOr, end, one, two, three, four, oneOrTwo, anyNumber, form, decode, decoded, addPart, extended, monitorsFrom, monitors, statesOf, startOf, latest, product, eventsOf, reordered, orderFrom, orderOf, Readable, Fault, Case1}
+use Rattle.promises.specs.Text.{onto, splitOn, init, lastOf, lines, unended, fields, digitsValue, number, ahead, numbers, same, field, endOr, end, one, two, three, four, oneOrTwo, anyNumber, form, decode, decoded, addPart, extended, monitorsFrom, monitors, statesOf, startOf, latest, product, eventsOf, reordered, orderFrom, orderOf, Readable, Fault, Case1, signed, minus, plus, oneSigned, twoSigned, thenSigned, twoSigned, thenSigned}
 use Rattle.promises.specs.Answer.{served, refused, Served}
-use Rattle.promises.specs.Meaning.{Belongs, Earlier, Comes}
-use Rattle.promises.specs.Reading.{leadsTo, moveBy, marks, markedBy, testBeginning, ofLatest, testContinuing, tests, lineCase, readingFrom, reading}
-use Rattle.promises.specs.Rig.{gapNext, replyNext, nextOf, markedOf, monitorOf, standing, linesAutomaton, linesStart, rigAutomaton, start}
-use Rattle.promises.specs.Examples.{A, B, A-from-1, A-exchanged, most-events, most-joint-states, Words, closes, one-unmarked, both-marked, may-close, gap-alone, reply-alone, unanswerable, every-kind, widest-kinds, gap-without-n, field-after-n, reply-without-hi, field-after-hi, gap-first, gap-1, gap-33, gap-no-event, reply-to-no-event, reply-no-event, reply-lo-0, reply-hi-32, reply-lo-over-hi, reply-equal, equal-and-too-many, equal-and-fifth, gap-too-many, go-after-gap, stop-after-reply, stop-without-state, field-after-stop, stop-before-mon, stop-S, stop-again, start-S, field-after-start, empty-start, A-ordered, ord-too-short, ord-not-below, ord-twice, ord-third, ord-first, ord-no-number, ord-alone, mon-without-S, last-line-unended, leading-zero, six-digits, empty-field, seventeen-events, five-digits, fifth-monitor, go-again-out-of-range, go-again, nothing, rig-alone, rig-later, go-before-mon, too-many-joint-states}
+use Rattle.promises.specs.Meaning.{Belongs, Earlier, Comes, stepIn, stepOf}
+use Rattle.promises.specs.Reading.{leadsTo, marks, markedBy, testBeginning, ofLatest, testContinuing, tests, lineCase, readingFrom, reading}
+use Rattle.promises.specs.Rig.{gapNext, replyNext, nextOf, markedOf, monitorOf, standing, linesAutomaton, linesStart, rigAutomaton, start, balNext}
+use Rattle.promises.specs.Examples.{A, B, A-from-1, A-exchanged, most-events, most-joint-states, Words, closes, one-unmarked, both-marked, may-close, gap-alone, reply-alone, unanswerable, every-kind, widest-kinds, gap-without-n, field-after-n, reply-without-hi, field-after-hi, gap-first, gap-1, gap-33, gap-no-event, reply-to-no-event, reply-no-event, reply-lo-0, reply-hi-32, reply-lo-over-hi, reply-equal, equal-and-too-many, equal-and-fifth, gap-too-many, go-after-gap, stop-after-reply, stop-without-state, field-after-stop, stop-before-mon, stop-S, stop-again, start-S, field-after-start, empty-start, A-ordered, ord-too-short, ord-not-below, ord-twice, ord-third, ord-first, ord-no-number, ord-alone, mon-without-S, last-line-unended, leading-zero, six-digits, empty-field, seventeen-events, five-digits, fifth-monitor, go-again-out-of-range, go-again, nothing, rig-alone, rig-later, go-before-mon, too-many-joint-states, meters, meters-table, no-difference, widest-band, bal-without-hi, field-after-band, amp-without-step, minus-zero, two-signs, plus-sign, sign-and-zero, lone-sign, negative-event, negative-n, six-signed-digits, five-signed-digits, lo-16, lo-1, hi-16, hi-below-0, step-16, step-below, step-of-no-event, given-twice, given-zero-twice, amp-first, amp-after-mon, go-after-bal, stop-after-bal, bal-too-many}
 use Rattle.promises.proofs.Reading.{reading-refuses, reading-serves}
 use Rattle.promises.proofs.Meaning.{text-belongs}
 use Rattle.promises.proofs.Answers.{belongs-listed}
@@ -41,6 +41,36 @@ record Readings : Type 0 where
   of-unanswerable : reading unanswerable ≡ served []
   of-every-kind : reading every-kind ≡ served []
   of-widest-kinds : reading widest-kinds ≡ served []
+  of-meters : reading meters ≡ served []
+  of-meters-table : reading meters-table ≡ served []
+  of-no-difference : reading no-difference ≡ served []
+  of-widest-band : reading widest-band ≡ served []
+  of-bal-without-hi : reading bal-without-hi ≡ refused 2 2
+  of-field-after-band : reading field-after-band ≡ refused 2 2
+  of-amp-without-step : reading amp-without-step ≡ refused 2 3
+  of-minus-zero : reading minus-zero ≡ refused 2 2
+  of-two-signs : reading two-signs ≡ refused 2 2
+  of-plus-sign : reading plus-sign ≡ refused 2 2
+  of-sign-and-zero : reading sign-and-zero ≡ refused 2 2
+  of-lone-sign : reading lone-sign ≡ refused 2 2
+  of-negative-event : reading negative-event ≡ refused 2 3
+  of-negative-n : reading negative-n ≡ refused 2 2
+  of-six-signed-digits : reading six-signed-digits ≡ refused 2 2
+  of-five-signed-digits : reading five-signed-digits ≡ refused 3 2
+  of-lo-16 : reading lo-16 ≡ refused 3 2
+  of-lo-1 : reading lo-1 ≡ refused 3 2
+  of-hi-16 : reading hi-16 ≡ refused 3 2
+  of-hi-below-0 : reading hi-below-0 ≡ refused 3 2
+  of-step-16 : reading step-16 ≡ refused 3 3
+  of-step-below : reading step-below ≡ refused 3 3
+  of-step-of-no-event : reading step-of-no-event ≡ refused 3 3
+  of-given-twice : reading given-twice ≡ refused 4 4
+  of-given-zero-twice : reading given-zero-twice ≡ refused 4 4
+  of-amp-first : reading amp-first ≡ refused 5 2
+  of-amp-after-mon : reading amp-after-mon ≡ refused 5 4
+  of-go-after-bal : reading go-after-bal ≡ refused 5 3
+  of-stop-after-bal : reading stop-after-bal ≡ refused 5 3
+  of-bal-too-many : reading bal-too-many ≡ refused 6 4
   of-gap-without-n : reading gap-without-n ≡ refused 2 2
   of-field-after-n : reading field-after-n ≡ refused 2 2
   of-reply-without-hi : reading reply-without-hi ≡ refused 2 2
@@ -94,7 +124,7 @@ record Readings : Type 0 where
   of-too-many-joint-states : reading too-many-joint-states ≡ refused 6 4
 
 readings : Readings
-unfolding reading readingFrom lineCase tests testBeginning testContinuing ofLatest moveBy leadsTo markedBy marks orElse decoded lines unended splitOn onto init lastOf decode fields form one two three four oneOrTwo anyNumber field endOr end number numbers ahead digitsValue same monitors monitorsFrom extended addPart latest statesOf product eventsOf orderOf orderFrom reordered
+unfolding reading readingFrom lineCase tests testBeginning testContinuing ofLatest firstOf leadsTo stepIn markedBy marks orElse decoded lines unended splitOn onto init lastOf decode fields form one two three four oneOrTwo anyNumber field endOr end number numbers ahead digitsValue signed minus plus oneSigned twoSigned thenSigned same monitors monitorsFrom extended addPart latest statesOf product eventsOf orderOf orderFrom reordered
 readings = record {
   of-A = refl;
   of-B = refl;
@@ -110,6 +140,36 @@ readings = record {
   of-unanswerable = refl;
   of-every-kind = refl;
   of-widest-kinds = refl;
+  of-meters = refl;
+  of-meters-table = refl;
+  of-no-difference = refl;
+  of-widest-band = refl;
+  of-bal-without-hi = refl;
+  of-field-after-band = refl;
+  of-amp-without-step = refl;
+  of-minus-zero = refl;
+  of-two-signs = refl;
+  of-plus-sign = refl;
+  of-sign-and-zero = refl;
+  of-lone-sign = refl;
+  of-negative-event = refl;
+  of-negative-n = refl;
+  of-six-signed-digits = refl;
+  of-five-signed-digits = refl;
+  of-lo-16 = refl;
+  of-lo-1 = refl;
+  of-hi-16 = refl;
+  of-hi-below-0 = refl;
+  of-step-16 = refl;
+  of-step-below = refl;
+  of-step-of-no-event = refl;
+  of-given-twice = refl;
+  of-given-zero-twice = refl;
+  of-amp-first = refl;
+  of-amp-after-mon = refl;
+  of-go-after-bal = refl;
+  of-stop-after-bal = refl;
+  of-bal-too-many = refl;
   of-gap-without-n = refl;
   of-field-after-n = refl;
   of-reply-without-hi = refl;
@@ -177,7 +237,7 @@ record Scenarios-A : Type 0 where
   leaves-at-once : firstViolation (rigAutomaton A-from-1) (start A-from-1) (1 ∷ []) ≡ 0
 
 scenarios-A : Scenarios-A
-unfolding decoded lines unended splitOn onto init lastOf decode fields form one two three four oneOrTwo anyNumber field endOr end number numbers ahead digitsValue same monitors monitorsFrom extended addPart latest statesOf product eventsOf orderOf orderFrom reordered startOf moveBy leadsTo markedBy marks orElse gapNext replyNext nextOf markedOf bounded monitorOf standing linesAutomaton linesStart rigAutomaton start range both join idle joint sizes jointState keep prunedSet size passesFrom passes live N choose unrank firstViolation
+unfolding decoded lines unended splitOn onto init lastOf decode fields form one two three four oneOrTwo anyNumber field endOr end number numbers ahead digitsValue signed minus plus oneSigned twoSigned thenSigned same monitors monitorsFrom extended addPart latest statesOf product eventsOf orderOf orderFrom reordered startOf firstOf leadsTo stepIn markedBy marks orElse gapNext replyNext balNext stepOf nextOf markedOf bounded monitorOf standing linesAutomaton linesStart rigAutomaton start range both join idle joint sizes jointState keep prunedSet size passesFrom passes live N choose unrank firstViolation
 scenarios-A = record { four-below = omega arith; four-is = refl; leaves-at = refl; zero-below = omega arith; zero-is = refl; leaves-at-once = refl }
 
 -- where the depot closes, and where it may: index 0 at horizon 1, and where what follows it leaves the live states; two monitors, with both states marked and with one
@@ -193,8 +253,19 @@ record Closing : Type 0 where
   one-leaves : firstViolation (rigAutomaton one-unmarked) (start one-unmarked) (0 ∷ []) ≡ 0
 
 closing : Closing
-unfolding decoded lines unended splitOn onto init lastOf decode fields form one two three four oneOrTwo anyNumber field endOr end number numbers ahead digitsValue same monitors monitorsFrom extended addPart latest statesOf product eventsOf orderOf orderFrom reordered startOf moveBy leadsTo markedBy marks orElse gapNext replyNext nextOf markedOf bounded monitorOf standing linesAutomaton linesStart rigAutomaton start range both join idle joint sizes jointState keep prunedSet size passesFrom passes live N choose unrank firstViolation
+unfolding decoded lines unended splitOn onto init lastOf decode fields form one two three four oneOrTwo anyNumber field endOr end number numbers ahead digitsValue signed minus plus oneSigned twoSigned thenSigned same monitors monitorsFrom extended addPart latest statesOf product eventsOf orderOf orderFrom reordered startOf firstOf leadsTo stepIn markedBy marks orElse gapNext replyNext balNext stepOf nextOf markedOf bounded monitorOf standing linesAutomaton linesStart rigAutomaton start range both join idle joint sizes jointState keep prunedSet size passesFrom passes live N choose unrank firstViolation
 closing = record { only-below = omega arith; only-is = refl; none-then = refl; last-below = omega arith; last-is = refl; leaves-then = refl; both-below = omega arith; both-is = refl; one-leaves = refl }
+
+-- a difference that stays in the band, and where it leaves it
+record Balancing : Type 0 where
+  inside-below : 2 < N (rigAutomaton meters) 2 (start meters)
+  inside-is : unrank (rigAutomaton meters) 2 (start meters) 2 ≡ 1 ∷ 0 ∷ []
+  below-leaves : firstViolation (rigAutomaton meters) (start meters) (1 ∷ 1 ∷ []) ≡ 1
+  above-leaves : firstViolation (rigAutomaton meters) (start meters) (0 ∷ 0 ∷ []) ≡ 1
+
+balancing : Balancing
+unfolding decoded lines unended splitOn onto init lastOf decode fields form one two three four oneOrTwo anyNumber field endOr end number numbers ahead digitsValue signed minus plus oneSigned twoSigned thenSigned same monitors monitorsFrom extended addPart latest statesOf product eventsOf orderOf orderFrom reordered startOf firstOf leadsTo stepIn markedBy marks orElse gapNext replyNext balNext stepOf nextOf markedOf bounded monitorOf standing linesAutomaton linesStart rigAutomaton start range both join idle joint sizes jointState keep prunedSet size passesFrom passes live N choose unrank firstViolation
+balancing = record { inside-below = omega arith; inside-is = refl; below-leaves = refl; above-leaves = refl }
 
 -- the reply to an event, in time, still due, before it and too late; an event that is barred; one that no reply can follow
 record Replying : Type 0 where
@@ -210,7 +281,7 @@ record Replying : Type 0 where
   unanswered-leaves : firstViolation (rigAutomaton unanswerable) (start unanswerable) (1 ∷ 0 ∷ []) ≡ 1
 
 replying : Replying
-unfolding decoded lines unended splitOn onto init lastOf decode fields form one two three four oneOrTwo anyNumber field endOr end number numbers ahead digitsValue same monitors monitorsFrom extended addPart latest statesOf product eventsOf orderOf orderFrom reordered startOf moveBy leadsTo markedBy marks orElse gapNext replyNext nextOf markedOf bounded monitorOf standing linesAutomaton linesStart rigAutomaton start range both join idle joint sizes jointState keep prunedSet size passesFrom passes live N choose unrank firstViolation
+unfolding decoded lines unended splitOn onto init lastOf decode fields form one two three four oneOrTwo anyNumber field endOr end number numbers ahead digitsValue signed minus plus oneSigned twoSigned thenSigned same monitors monitorsFrom extended addPart latest statesOf product eventsOf orderOf orderFrom reordered startOf firstOf leadsTo stepIn markedBy marks orElse gapNext replyNext balNext stepOf nextOf markedOf bounded monitorOf standing linesAutomaton linesStart rigAutomaton start range both join idle joint sizes jointState keep prunedSet size passesFrom passes live N choose unrank firstViolation
 replying = record {
   replied-below = omega arith;
   replied-is = refl;
@@ -230,7 +301,7 @@ record Compared : Type 0 where
   lower-first : indexOf (orderOf (decoded A)) 0 < indexOf (orderOf (decoded A)) 1
 
 compared : Compared
-unfolding decoded lines splitOn onto init decode fields form one two three four oneOrTwo anyNumber field endOr end number numbers ahead digitsValue same orderOf orderFrom reordered range indexOf
+unfolding decoded lines splitOn onto init decode fields form one two three four oneOrTwo anyNumber field endOr end number numbers ahead digitsValue signed minus plus oneSigned twoSigned thenSigned same orderOf orderFrom reordered range indexOf
 compared = record { by-ord = omega arith; lower-first = omega arith }
 
 module _ (t : List ℕ) (r : Readable t) where
@@ -271,6 +342,10 @@ words = record {
   readable-unanswerable = readable unanswerable (readings .of-unanswerable);
   readable-every-kind = readable every-kind (readings .of-every-kind);
   readable-widest-kinds = readable widest-kinds (readings .of-widest-kinds);
+  readable-meters = readable meters (readings .of-meters);
+  readable-meters-table = readable meters-table (readings .of-meters-table);
+  readable-no-difference = readable no-difference (readings .of-no-difference);
+  readable-widest-band = readable widest-band (readings .of-widest-band);
   readable-most-events = readable most-events (readings .of-most-events);
   readable-most-joint-states = readable most-joint-states (readings .of-most-joint-states);
   belongs = index-given A (readable A (readings .of-A)) 3 4 _ (scenarios-A .four-below) (scenarios-A .four-is);
@@ -292,6 +367,9 @@ words = record {
   belongs-once = index-given gap-alone (readable gap-alone (readings .of-gap-alone)) 1 0 _ (replying .once-below) (replying .once-is);
   none-twice = none-of gap-alone (readable gap-alone (readings .of-gap-alone)) 2 (replying .twice-none);
   not-belongs-unanswered = leaves unanswerable (readable unanswerable (readings .of-unanswerable)) (1 ∷ 0 ∷ []) (omega (arith, replying .unanswered-leaves));
+  belongs-in-band = index-given meters (readable meters (readings .of-meters)) 2 2 _ (balancing .inside-below) (balancing .inside-is);
+  not-belongs-below = leaves meters (readable meters (readings .of-meters)) (1 ∷ 1 ∷ []) (omega (arith, balancing .below-leaves));
+  not-belongs-above = leaves meters (readable meters (readings .of-meters)) (0 ∷ 0 ∷ []) (omega (arith, balancing .above-leaves));
   fault-too-long = inl (omega (arith, length-replicate {A = ℕ} 65536 10), refl, refl);
   never-too-long = long-enough;
   fault-mon-without-S = reading-refuses mon-without-S 2 2 .0 (readings .of-mon-without-S);
@@ -338,6 +416,32 @@ words = record {
   fault-gap-too-many = reading-refuses gap-too-many 6 4 .0 (readings .of-gap-too-many);
   fault-go-after-gap = reading-refuses go-after-gap 5 4 .0 (readings .of-go-after-gap);
   fault-stop-after-reply = reading-refuses stop-after-reply 5 3 .0 (readings .of-stop-after-reply);
+  fault-bal-without-hi = reading-refuses bal-without-hi 2 2 .0 (readings .of-bal-without-hi);
+  fault-field-after-band = reading-refuses field-after-band 2 2 .0 (readings .of-field-after-band);
+  fault-amp-without-step = reading-refuses amp-without-step 2 3 .0 (readings .of-amp-without-step);
+  fault-minus-zero = reading-refuses minus-zero 2 2 .0 (readings .of-minus-zero);
+  fault-two-signs = reading-refuses two-signs 2 2 .0 (readings .of-two-signs);
+  fault-plus-sign = reading-refuses plus-sign 2 2 .0 (readings .of-plus-sign);
+  fault-sign-and-zero = reading-refuses sign-and-zero 2 2 .0 (readings .of-sign-and-zero);
+  fault-lone-sign = reading-refuses lone-sign 2 2 .0 (readings .of-lone-sign);
+  fault-negative-event = reading-refuses negative-event 2 3 .0 (readings .of-negative-event);
+  fault-negative-n = reading-refuses negative-n 2 2 .0 (readings .of-negative-n);
+  fault-six-signed-digits = reading-refuses six-signed-digits 2 2 .0 (readings .of-six-signed-digits);
+  fault-five-signed-digits = reading-refuses five-signed-digits 3 2 .0 (readings .of-five-signed-digits);
+  fault-lo-16 = reading-refuses lo-16 3 2 .0 (readings .of-lo-16);
+  fault-lo-1 = reading-refuses lo-1 3 2 .0 (readings .of-lo-1);
+  fault-hi-16 = reading-refuses hi-16 3 2 .0 (readings .of-hi-16);
+  fault-hi-below-0 = reading-refuses hi-below-0 3 2 .0 (readings .of-hi-below-0);
+  fault-step-16 = reading-refuses step-16 3 3 .0 (readings .of-step-16);
+  fault-step-below = reading-refuses step-below 3 3 .0 (readings .of-step-below);
+  fault-step-of-no-event = reading-refuses step-of-no-event 3 3 .0 (readings .of-step-of-no-event);
+  fault-given-twice = reading-refuses given-twice 4 4 .0 (readings .of-given-twice);
+  fault-given-zero-twice = reading-refuses given-zero-twice 4 4 .0 (readings .of-given-zero-twice);
+  fault-amp-first = reading-refuses amp-first 5 2 .0 (readings .of-amp-first);
+  fault-amp-after-mon = reading-refuses amp-after-mon 5 4 .0 (readings .of-amp-after-mon);
+  fault-go-after-bal = reading-refuses go-after-bal 5 3 .0 (readings .of-go-after-bal);
+  fault-stop-after-bal = reading-refuses stop-after-bal 5 3 .0 (readings .of-stop-after-bal);
+  fault-bal-too-many = reading-refuses bal-too-many 6 4 .0 (readings .of-bal-too-many);
   fault-nothing = reading-refuses nothing 5 1 .0 (readings .of-nothing);
   fault-rig-alone = reading-refuses rig-alone 5 2 .0 (readings .of-rig-alone);
   fault-rig-later = reading-refuses rig-later 5 2 .0 (readings .of-rig-later);

@@ -7,6 +7,7 @@ pub mod Agreeing
 pub mod Mon
 pub mod Gap
 pub mod Reply
+pub mod Bal
 pub mod Meaning
 pub mod Order
 pub mod Checks
@@ -19,6 +20,7 @@ pub mod Starts
 pub mod Ordering
 pub mod Stopping
 pub mod Sentences
+pub mod Differences
 pub mod Refusals
 pub mod Buffers
 pub mod Shapes

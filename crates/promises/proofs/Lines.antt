@@ -3,7 +3,7 @@
 -- Why: each sound line keeps it so, whatever sound lines stand before it.
 --   Ranged E k         == the numbers of the kind k are in their ranges, in a rig with E events, and its a and b differ
 --   PartRanged E k p   == so are those of the line p of a monitor of the kind k, in a rig with E events
---   Kept E m           == all lines of the monitor m are in range, and no move is given twice
+--   Kept E m           == all lines of the monitor m are in range, and no move and no step is given twice
 --   Formed ls          == one `rig` line first, at most four monitors that are kept, at most 1,024 joint states, every event once in their order
 -- Assumes nothing.
 use mathlib.Core.Path.{_≡_, refl, sym, ap, _∙_, subst}
@@ -11,16 +11,19 @@ use mathlib.Core.Logic.{_⊎_, inl, inr, _≢_, ⊎-elim}
 use mathlib.Core.List.{List, [], _∷_, _++_, append-nil, append-assoc}
 use mathlib.Core.List.{List·Memᴰ as In, List·Memᴰ·head as here, List·Memᴰ·tail as there, List·Memᴰ·append-cases as in-append, List·Memᴰ·not-nil, List·Memᴰ·eq-of-singleton}
 use mathlib.Core.Option.{some}
-use Prim.Native.Nat.{ℕ, suc, _*_, _≤_, _<_}
+use Prim.Native.Nat.{ℕ, suc, _+_, _*_, _≤_, _<_}
 use native.Mathlib.Omega.{arith}
 use native.Mathlib.Nat.{mul-one, mul-assoc, one-mul}
 use native.Mathlib.Decide.{ℕ-discrete}
+use lib.IntN.{ℤ, pos, negℤ, natAbs, _+ℤ_, _-ℤ_}
+use lib.Signed.{_≤ℤ_}
 use lib.ListN.{length, getD, length-append}
 use Rattle.lists.specs.Lists.{none, Permutation}
 use Rattle.lists.proofs.Tests.{split, ℕ-trichotomy}
+use Rattle.lists.proofs.Integers.{not-belowℤ, more-le, more-back, more-more, leℤ-trans, more-zero}
 use Rattle.lists.proofs.Distinct.{once-distinct}
 use Rattle.lists.proofs.Permutations.{range-permutation, full-permutation}
-use Rattle.promises.specs.Text.{Kind, mon, gap, reply, Part, go, stop, Line, rig, ord, begins, continues, other, Monitor, addPart, extended, monitorsFrom, monitors, statesOf, startOf, latest, product, eventsOf, reordered, orderFrom, orderOf, OutOfRange, Equal, beginning, OfLatest, continuing, Twice, cases, Case2, Case3, Case16, Case17, Case4, Case5, Case6, Sound, AllSound, Readable, decoded}
+use Rattle.promises.specs.Text.{Kind, mon, gap, reply, bal, Part, go, stop, amp, Line, rig, ord, begins, continues, other, Monitor, addPart, extended, monitorsFrom, monitors, statesOf, startOf, latest, product, eventsOf, reordered, orderFrom, orderOf, OutOfRange, Equal, beginning, OfLatest, continuing, Twice, cases, Case2, Case3, Case16, Case17, Case4, Case5, Case6, Sound, AllSound, Readable, decoded}
 
 -- ---- one line more
 
@@ -83,10 +86,12 @@ unfoldable pub Ranged : ℕ → Kind → Type 0
 Ranged E (mon S a) = (1 ≤ S) × (S ≤ 32) × (a < S)
 Ranged E (gap e n) = (e < E) × (2 ≤ n) × (n ≤ 32)
 Ranged E (reply a b lo hi) = (a < E) × (b < E) × (1 ≤ lo) × (lo ≤ hi) × (hi ≤ 31) × (a ≢ b)
+Ranged E (bal lo hi) = (negℤ (pos 15) ≤ℤ lo) × (lo ≤ℤ pos 0) × (pos 0 ≤ℤ hi) × (hi ≤ℤ pos 15)
 
 unfoldable pub PartRanged : ℕ → Kind → Part → Type 0
 PartRanged E k (go s e t) = (s < statesOf k) × (e < E) × (t < statesOf k)
 PartRanged E k (stop s) = s < statesOf k
+PartRanged E k (amp e d) = (e < E) × (negℤ (pos 15) ≤ℤ d) × (d ≤ℤ pos 15)
 
 -- the lines ps have at most one f
 unfoldable pub Once : {A : Type 0} → (A → Part) → List Part → Type 0
@@ -96,6 +101,7 @@ pub record Kept (E : ℕ) (m : Monitor) : Type 0 where
   pub ranged : Ranged E (m .kind)
   pub parts-ranged : (p : Part) → In p (m .parts) → PartRanged E (m .kind) p
   pub move-once : (s e : ℕ) → Once (go s e) (m .parts)
+  pub step-once : (e : ℕ) → Once (amp e) (m .parts)
 
 -- the monitors ms over E events
 pub record WellFormed (E : ℕ) (ms : List Monitor) : Type 0 where
@@ -112,18 +118,45 @@ pub record Formed (ls : List Line) : Type 0 where
   pub monitored : WellFormed (eventsOf ls) (monitors ls)
   pub ordered : Permutation (eventsOf ls) (orderOf ls)
 
+-- the band of a `bal`: 0 is in it, and it is at most 31 wide
+module _ (lo hi : ℤ) (low : lo ≤ℤ pos 0) (high : pos 0 ≤ℤ hi) where
+  pub band : lo ≤ℤ hi
+  band = leℤ-trans lo (pos 0) hi low high
+
+  -- 'beginning at 0': −lo is a state
+  zero-inside : natAbs lo < natAbs (hi -ℤ lo) + 1
+  zero-inside =
+      let k = natAbs (hi -ℤ pos 0) in
+      let top : hi ≡ lo +ℤ pos (natAbs lo + k) = sym (more-le (pos 0) hi high) ∙ ap (λ c. c +ℤ pos k) (sym (more-zero lo low)) ∙ more-more lo (natAbs lo) k in
+      let wide : natAbs (hi -ℤ lo) ≡ natAbs lo + k = ap (λ c. natAbs (c -ℤ lo)) top ∙ more-back lo (natAbs lo + k) in
+      omega arith
+
+  band-few : negℤ (pos 15) ≤ℤ lo → hi ≤ℤ pos 15 → natAbs (hi -ℤ lo) ≤ 30
+  band-few l h =
+      let p = natAbs (lo -ℤ negℤ (pos 15)) in
+      let n = natAbs (hi -ℤ lo) in
+      let q = natAbs (pos 15 -ℤ hi) in
+      let top : negℤ (pos 15) +ℤ pos (p + n + q) ≡ pos 15 =
+      sym (more-more (negℤ (pos 15)) (p + n) q)
+      ∙ ap (λ c. c +ℤ pos q) (sym (more-more (negℤ (pos 15)) p n) ∙ ap (λ c. c +ℤ pos n) (more-le (negℤ (pos 15)) lo l) ∙ more-le lo hi band)
+      ∙ more-le hi (pos 15) h
+      in
+      omega (arith, sym (more-back (negℤ (pos 15)) (p + n + q)) ∙ ap (λ c. natAbs (c -ℤ negℤ (pos 15))) top)
+
 -- a monitor starts in one of its states, which are at most 32
 pub start-below : (E : ℕ) (k : Kind) → Ranged E k → startOf k < statesOf k
 unfolding Ranged startOf statesOf
 start-below E (mon S a) r = omega arith
 start-below E (gap e n) r = omega arith
 start-below E (reply a b lo hi) r = omega arith
+start-below E (bal lo hi) (l, low, high, h) = zero-inside lo hi low high
 
 pub few-states : (E : ℕ) (k : Kind) → Ranged E k → statesOf k ≤ 32
 unfolding Ranged statesOf
 few-states E (mon S a) r = omega arith
 few-states E (gap e n) r = omega arith
 few-states E (reply a b lo hi) (x, y, one, le, h, ne) = omega arith
+few-states E (bal lo hi) (l, low, high, h) = omega (arith, band-few lo hi low high l h)
 
 -- ---- what a sound line says
 
@@ -141,6 +174,12 @@ in-range E (reply a b lo hi) r d = (
   within lo hi (λ h. r (inr (inr (inr (inl h))))),
   within hi 31 (λ h. r (inr (inr (inr (inr h))))),
   d,
+)
+in-range E (bal lo hi) r d = (
+  not-belowℤ lo (negℤ (pos 15)) (λ h. r (inl (inl h))),
+  not-belowℤ (pos 0) lo (λ h. r (inl (inr h))),
+  not-belowℤ hi (pos 0) (λ h. r (inr (inl h))),
+  not-belowℤ (pos 15) hi (λ h. r (inr (inr h))),
 )
 
 pub begun : (ls : List Line) (k : Kind) → Sound ls (begins k) → Ranged (eventsOf ls) k × (length (monitors ls) < 4) × (product (monitors ls) * statesOf k ≤ 1024)
@@ -161,9 +200,19 @@ module _ (ls : List Line) (m : Monitor) (q : latest (monitors ls) ≡ some m) wh
   )
   continued (stop s) h = within (suc s) (statesOf (m .kind)) (λ l. h .ranged (rw q (let k : statesOf (m .kind) ≤ s = omega arith in k)))
 
+  continued (amp e d) h = (
+    within (suc e) (eventsOf ls) (λ l. h .ranged (rw q (inl (omega arith)))),
+    not-belowℤ d (negℤ (pos 15)) (λ l. h .ranged (rw q (inr (inl l)))),
+    not-belowℤ (pos 15) d (λ l. h .ranged (rw q (inr (inr l)))),
+  )
+
   new-move : (s e t : ℕ) → Sound ls (continues (go s e t)) → (u : ℕ) → In (go s e u) (m .parts) → ⊥
   unfolding Case4 cases continuing OfLatest
   new-move s e t h u i = h .new (rw q (u, i))
+
+  new-step : (e : ℕ) (d : ℤ) → Sound ls (continues (amp e d)) → (c : ℤ) → In (amp e c) (m .parts) → ⊥
+  unfolding Case4 cases continuing OfLatest
+  new-step e d h c i = h .new (rw q (c, i))
 
 -- an `ord` line has E different numbers below E, so it has them all
 module _ (ls : List Line) (es : List ℕ) (s : Sound ls (ord es)) where
@@ -221,6 +270,7 @@ one-monitor-more ls k w s =
       ranged = ranged;
       parts-ranged = λ p i. absurd (List·Memᴰ·not-nil i);
       move-once = λ s e a b i j. absurd (List·Memᴰ·not-nil i);
+      step-once = λ e a b i j. absurd (List·Memᴰ·not-nil i);
     }
 
 one-part-more : (ls : List Line) (p : Part) → WellFormed (eventsOf ls) (monitors ls) → Sound ls (continues p) → WellFormed (eventsOf ls) (addPart p (monitors ls))
@@ -235,6 +285,7 @@ one-part-more ls p w h = record {
       ranged = o .ranged;
       parts-ranged = λ r i. ⊎-elim (o .parts-ranged r) (λ j. subst (PartRanged (eventsOf ls) (k .kind)) (sym (List·Memᴰ·eq-of-singleton j)) (continued ls k q p h)) (in-append (k .parts) i);
       move-once = λ s e. once-more (go s e) (k .parts) p (λ a b r. cc) (λ a b r. new-move ls k q s e a (subst (λ p. Sound ls (continues p)) (sym r) h) b) (o .move-once s e);
+      step-once = λ e. once-more (amp e) (k .parts) p (λ a b r. cc) (λ a b r. new-step ls k q e a (subst (λ p. Sound ls (continues p)) (sym r) h) b) (o .step-once e);
     }
 
 pub not-empty : {A : Type 0} (x : A) (l : List A) → (x ∷ l) ≢ []
@@ -273,6 +324,7 @@ first-line (ord es) s = absurd (s .placed (λ q. omega arith))
 first-line (begins k) s = absurd (s .placed refl)
 first-line (continues (go a b c)) s = absurd (s .placed (λ h. h))
 first-line (continues (stop a)) s = absurd (s .placed (λ h. h))
+first-line (continues (amp a d)) s = absurd (s .placed (λ h. h))
 first-line other s = absurd (s .formed tt)
 
 later-line : (l : Line) (ls : List Line) (k : Line) → Formed (l ∷ ls) → Sound (l ∷ ls) k → Formed ((l ∷ ls) ++ (k ∷ []))

@@ -1,5 +1,4 @@
 -- The pieces that a byte parts a list into: joined with the byte they are the list again, none of them holds it, and no other pieces are so.
---   preceded b ps      == the pieces ps, each with byte b before it
 --   Free b l           == byte b is not in l
 -- Assumes nothing.
 use mathlib.Core.Path.{_≡_, refl, sym, ap, _∙_}
@@ -13,11 +12,7 @@ use borrow.Author.Tests.{eq-eqb, ne-eqb, eqb-true, eqb-false}
 use Rattle.lists.specs.Lists.{pick}
 use Rattle.lists.proofs.Tests.{case}
 use Rattle.promises.specs.Text.{onto, splitOn, init, lastOf}
-use Rattle.promises.specs.Spelling.{joined}
-
-abbrev pub preceded : ℕ → List (List ℕ) → List ℕ
-preceded b [] = []
-preceded b (p ∷ ps) = b ∷ (p ++ preceded b ps)
+use Rattle.promises.specs.Spelling.{preceded, joined}
 
 abbrev pub Free : ℕ → List ℕ → Type 0
 Free b l = In b l → ⊥

@@ -4,20 +4,24 @@ use mathlib.Core.Path.{_≡_, refl, sym, ap, _∙_, subst}
 use mathlib.Core.Logic.{_⊎_, inl, inr, _≢_, _↔_, ⊎-elim}
 use mathlib.Core.Bool.{Bool, not, _&&_}
 use mathlib.Core.List.{List, [], _∷_, _++_, append-nil, append-assoc, List·Memᴰ as In, List·Memᴰ·head as here, List·Memᴰ·tail as there, List·Memᴰ·not-nil}
-use mathlib.Core.Option.{Option, none, some, orElse, Option·none-ne-some}
+use mathlib.Core.Option.{Option, none, some, Option·none-ne-some}
 use Prim.Native.Nat.{ℕ, zero, suc, _*_, _≤_, _<_}
 use native.Mathlib.Omega.{arith}
+use lib.IntN.{ℤ, pos, negℤ}
 use lib.ListN.{length, getD}
 use lib.Dec.{ltb, leb, eqb}
-use borrow.Author.Tests.{eq-eqb}
+use borrow.Author.Tests.{eq-eqb, eqb-true}
 use Rattle.lists.specs.Lists.{pick}
 use Rattle.lists.proofs.Tests.{contra, case}
 use Rattle.lists.proofs.Members.{getD-in}
 use Rattle.lists.proofs.Distinct.{in-place}
 use Rattle.lists.proofs.Tells.{Tells, tells-true, tells-false, tells-lt, tells-le, tells-eq, tells-never, tells-always, tells-not, tells-or, tells-and, tells-any}
+use Rattle.lists.proofs.Firsts.{first-in, in-first, tells-first}
+use Rattle.lists.proofs.Integers.{tells-ltℤ}
 use Rattle.promises.specs.Answer.{served, refused, Served, unless}
-use Rattle.promises.specs.Text.{Kind, mon, gap, reply, Part, go, stop, Line, rig, ord, begins, continues, other, Monitor, monitors, latest, statesOf, eventsOf, product, decoded, unended, Outside, OutOfRange, Equal, Cases, beginning, OfLatest, continuing, IsMon, Twice, cases, Case1, Case2, Case3, Case16, Case17, Case4, Case5, Case6, Sound, AllSound, Readable, first, LineFault, Fault}
-use Rattle.promises.specs.Reading.{empty, isSome, leadsTo, moveBy, marks, markedBy, Tests, outside, isMon, outOfRange, equal, testBeginning, ofLatest, testContinuing, repeats, tests, lineCase, readingFrom, reading}
+use Rattle.promises.specs.Text.{Kind, mon, gap, reply, bal, Part, go, stop, amp, Line, rig, ord, begins, continues, other, Monitor, monitors, latest, statesOf, eventsOf, product, decoded, unended, Outside, Outsideℤ, OutOfRange, Equal, Cases, beginning, OfLatest, continuing, IsMon, IsBal, Twice, cases, Case1, Case2, Case3, Case16, Case17, Case4, Case5, Case6, Sound, AllSound, Readable, first, LineFault, Fault}
+use Rattle.promises.specs.Meaning.{stepIn}
+use Rattle.promises.specs.Reading.{empty, leadsTo, moveBy, marks, markedBy, Tests, outside, outsideℤ, isMon, isBal, outOfRange, equal, testBeginning, ofLatest, testContinuing, repeats, tests, lineCase, readingFrom, reading}
 use Rattle.promises.proofs.Lines.{not-empty}
 
 -- ---- each test tells its case
@@ -28,6 +32,9 @@ tells-empty (x ∷ l) = record { yes = λ q. contra q refl; no = λ q. not-empty
 
 tells-outside : (lo hi n : ℕ) → Tells (outside lo hi n) (Outside lo hi n)
 tells-outside lo hi n = tells-or (tells-lt n lo) (tells-lt hi n)
+
+tells-outsideℤ : (lo hi x : ℤ) → Tells (outsideℤ lo hi x) (Outsideℤ lo hi x)
+tells-outsideℤ lo hi x = tells-or (tells-ltℤ x lo) (tells-ltℤ hi x)
 
 -- a line that moves from s on e to u is `go` s e u
 leads-is : (s e : ℕ) (p : Part) (u : ℕ) → (leadsTo s e p ≡ some u) ↔ (p ≡ go s e u)
@@ -47,37 +54,36 @@ leads-is s e (go a b c) u = (to, from)
         let z : c ≡ u = cc in
         rw (x, y, z, eq-eqb s s refl, eq-eqb e e refl)
 leads-is s e (stop a) u = (λ q. absurd (Option·none-ne-some u q), λ q. let z : _≡_ {A = ℕ} 0 1 = cc in absurd (omega arith))
+leads-is s e (amp a d) u = (λ q. absurd (Option·none-ne-some u q), λ q. let z : _≡_ {A = ℕ} 0 1 = cc in absurd (omega arith))
 
 -- the lines move where one of them does
 pub moved : (ps : List Part) (s e u : ℕ) → moveBy ps s e ≡ some u → In (go s e u) ps
-unfolding moveBy orElse
-moved [] s e u q = absurd (Option·none-ne-some u q)
-moved (p ∷ ps) s e u q = step (leadsTo s e p) refl (moved ps s e u)
-  where
-    step : (o : Option ℕ) → leadsTo s e p ≡ o → (moveBy ps s e ≡ some u → In (go s e u) ps) → In (go s e u) (p ∷ ps)
-    step none t ih = there (ih (rw t at q))
-    step (some v) t ih = here (sym (leads-is s e p u .0 (t ∙ (rw t at q))))
+moved ps s e u = first-in (leadsTo s e) (go s e) (leads-is s e) ps u
 
 pub moves : (ps : List Part) (s e t : ℕ) → In (go s e t) ps → (u : ℕ) × (moveBy ps s e ≡ some u)
-unfolding moveBy orElse
-moves (p ∷ ps) s e t (here r) = (t, rw (leads-is s e p t .1 (sym r)))
-moves (p ∷ ps) s e t (there i) = step (leadsTo s e p) (moves ps s e t i)
-  where
-    step : (o : Option ℕ) → (u : ℕ) × (moveBy ps s e ≡ some u) → (u : ℕ) × (orElse o (moveBy ps s e) ≡ some u)
-    step none ih = ih
-    step (some v) ih = (v, refl)
+moves ps s e t = in-first (leadsTo s e) (go s e) (leads-is s e) ps t
 
-tells-moves : (ps : List Part) (s e : ℕ) → Tells (isSome (moveBy ps s e)) ((u : ℕ) × In (go s e u) ps)
-tells-moves ps s e = step (moveBy ps s e) refl
+-- a line that gives event e the step d is `amp` e d
+pub step-is : (e : ℕ) (p : Part) (d : ℤ) → (stepIn e p ≡ some d) ↔ (p ≡ amp e d)
+unfolding stepIn
+step-is e (go a b c) d = (λ q. absurd (Option·none-ne-some d q), λ q. let z : _≡_ {A = ℕ} 0 1 = cc in absurd (omega arith))
+step-is e (stop a) d = (λ q. absurd (Option·none-ne-some d q), λ q. let z : _≡_ {A = ℕ} 0 1 = cc in absurd (omega arith))
+step-is e (amp f c) d = (to, from)
   where
-    step : (o : Option ℕ) → moveBy ps s e ≡ o → Tells (isSome o) ((u : ℕ) × In (go s e u) ps)
-    step none q = record { yes = λ t. contra t refl; no = λ t (u, i). let (v, r) = moves ps s e u i in Option·none-ne-some v (sym q ∙ r) }
-    step (some u) q = record { yes = λ t. (u, moved ps s e u q); no = λ t h. contra refl t }
+    to : pick (eqb f e) (some c) none ≡ some d → amp f c ≡ amp e d
+    to q = case (eqb f e) (λ t. let z : some c ≡ some d = rw t at q in let w : c ≡ d = cc in rw (eqb-true f e t, w)) (λ t. absurd (Option·none-ne-some d (rw t at q)))
+
+    from : amp f c ≡ amp e d → pick (eqb f e) (some c) none ≡ some d
+    from q =
+        let x : f ≡ e = cc in
+        let y : c ≡ d = cc in
+        rw (x, y, eq-eqb e e refl)
 
 -- a line that marks s is `stop` s
 marks-is : (s : ℕ) (p : Part) → Tells (marks s p) (stop s ≡ p)
 unfolding marks
 marks-is s (go a b c) = record { yes = λ q. contra q refl; no = λ q r. let z : _≡_ {A = ℕ} 0 1 = cc in omega arith }
+marks-is s (amp a d) = record { yes = λ q. contra q refl; no = λ q r. let z : _≡_ {A = ℕ} 0 1 = cc in omega arith }
 marks-is s (stop a) = record { yes = λ q. ap stop (sym (tells-eq a s .yes q)); no = λ q r. tells-eq a s .no q (let z : a ≡ s = cc in z) }
 
 pub tells-marked : (ps : List Part) (s : ℕ) → Tells (markedBy ps s) (In (stop s) ps)
@@ -127,18 +133,28 @@ unfolding IsMon
 tells-mon (mon S a) = record { yes = λ q. (S, a, refl); no = λ q. contra refl q }
 tells-mon (gap e n) = record { yes = λ q. contra q refl; no = λ q (S, a, r). let z : _≡_ {A = ℕ} 0 1 = cc in omega arith }
 tells-mon (reply a b lo hi) = record { yes = λ q. contra q refl; no = λ q (S, x, r). let z : _≡_ {A = ℕ} 0 1 = cc in omega arith }
+tells-mon (bal lo hi) = record { yes = λ q. contra q refl; no = λ q (S, x, r). let z : _≡_ {A = ℕ} 0 1 = cc in omega arith }
+
+tells-bal : (k : Kind) → Tells (isBal k) (IsBal k)
+unfolding IsBal
+tells-bal (mon S a) = record { yes = λ q. contra q refl; no = λ q (lo, hi, r). let z : _≡_ {A = ℕ} 0 1 = cc in omega arith }
+tells-bal (gap e n) = record { yes = λ q. contra q refl; no = λ q (lo, hi, r). let z : _≡_ {A = ℕ} 0 1 = cc in omega arith }
+tells-bal (reply a b l h) = record { yes = λ q. contra q refl; no = λ q (lo, hi, r). let z : _≡_ {A = ℕ} 0 1 = cc in omega arith }
+tells-bal (bal lo hi) = record { yes = λ q. (lo, hi, refl); no = λ q. contra refl q }
 
 pub tells-out : (E : ℕ) (k : Kind) → Tells (outOfRange E k) (OutOfRange E k)
 unfolding OutOfRange
 tells-out E (mon S a) = tells-or (tells-outside 1 32 S) (tells-le S a)
 tells-out E (gap e n) = tells-or (tells-le E e) (tells-outside 2 32 n)
 tells-out E (reply a b lo hi) = tells-or (tells-le E a) (tells-or (tells-le E b) (tells-or (tells-lt lo 1) (tells-or (tells-lt hi lo) (tells-lt 31 hi))))
+tells-out E (bal lo hi) = tells-or (tells-outsideℤ (negℤ (pos 15)) (pos 0) lo) (tells-outsideℤ (pos 0) (pos 15) hi)
 
 pub tells-equal : (k : Kind) → Tells (equal k) (Equal k)
 unfolding Equal
 tells-equal (mon S a) = tells-never
 tells-equal (gap e n) = tells-never
 tells-equal (reply a b lo hi) = tells-eq a b
+tells-equal (bal lo hi) = tells-never
 
 told-beginning : (ls : List Line) (k : Kind) → Told (testBeginning ls k) (beginning ls k)
 unfolding testBeginning beginning
@@ -186,8 +202,10 @@ told ls (begins k) = told-beginning ls k
 told ls (continues (go s e t)) =
     told-continuing ls _ _ _ _ _ _ tells-mon
     (λ m. tells-or (tells-le (statesOf (m .kind)) s) (tells-or (tells-le (eventsOf ls) e) (tells-le (statesOf (m .kind)) t)))
-    (λ m. tells-moves (m .parts) s e)
+    (λ m. tells-first (leadsTo s e) (go s e) (leads-is s e) (m .parts))
 told ls (continues (stop s)) = told-continuing ls _ _ _ _ _ _ tells-mon (λ m. tells-le (statesOf (m .kind)) s) (λ m. tells-marked (m .parts) s)
+told ls (continues (amp e d)) =
+    told-continuing ls _ _ _ _ _ _ tells-bal (λ m. tells-or (tells-le (eventsOf ls) e) (tells-outsideℤ (negℤ (pos 15)) (pos 15) d)) (λ m. tells-first (stepIn e) (amp e) (step-is e) (m .parts))
 told ls other = record { misformed = tells-always; misplaced = tells-empty ls; out-of-range = tells-never; clash = λ n. tells-never; again = tells-never; too-many = tells-never }
 
 -- ---- one line

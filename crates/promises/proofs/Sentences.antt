@@ -12,10 +12,10 @@ use Rattle.automaton.specs.Automaton as automaton
 use Rattle.automaton.specs.Automaton.{Automaton, bounded, Over, walk}
 use Rattle.automaton.proofs.Joint.{admits-last}
 use Rattle.automaton.proofs.Counting.{walk-append, admits-append}
-use Rattle.promises.specs.Text.{Kind, gap, reply, Part, go, stop, Line, begins, continues, Monitor, monitors, latest, statesOf, startOf, eventsOf, product, orderOf, decoded, Readable, OutOfRange, Equal, beginning, OfLatest, continuing, IsMon, cases, Case1, Case2, Case5, Case3, Case16, Case17, Case4, Case6, AllSound, LineFault, Fault}
+use Rattle.promises.specs.Text.{Kind, gap, reply, Part, go, stop, amp, Line, begins, continues, Monitor, monitors, latest, statesOf, startOf, eventsOf, product, orderOf, decoded, Readable, OutOfRange, Equal, beginning, OfLatest, continuing, IsMon, cases, Case1, Case2, Case5, Case3, Case16, Case17, Case4, Case6, AllSound, LineFault, Fault}
 use Rattle.promises.specs.Meaning.{Stands, Apart, Answered, StillDue, Replied, Says, Admits, Ends, MayStop, BelowE}
 use Rattle.promises.specs.Rig.{monitorOf}
-use Rattle.promises.specs.Sentences.{Agrees, RepliedAt, Begins, Continues, Sentences}
+use Rattle.promises.specs.Sentences.{Agrees, RepliedAt, Begins, Continues, OfMon, Sentences}
 use Rattle.promises.proofs.Lines.{readable-formed}
 use Rattle.promises.proofs.Reading.{bad-line}
 use Rattle.promises.proofs.Gap.{free, gap-agrees}
@@ -141,12 +141,13 @@ unfolding LineFault Case2 Case5 cases beginning AllSound
 not-first t k back short q = bad-line t [] (begins k) back 5 short q tt (inr (λ h. h, inl (refl, refl)))
 
 -- a line of the latest monitor
-not-mon : (t : List ℕ) (front : List Line) (p : Part) → Continues t front p → (m : Monitor) → latest (monitors front) ≡ some m → (IsMon (m .kind) → ⊥) → Fault t 5 (suc (length front))
-not-mon t front p z m last isn't = bad-line t front (continues p) (z .back) 5 (z .short) (z .lines-are) (z .sound) (misplaced p)
+not-mon : (t : List ℕ) (front : List Line) (p : Part) → OfMon p → Continues t front p → (m : Monitor) → latest (monitors front) ≡ some m → (IsMon (m .kind) → ⊥) → Fault t 5 (suc (length front))
+not-mon t front p of z m last isn't = bad-line t front (continues p) (z .back) 5 (z .short) (z .lines-are) (z .sound) (misplaced p of)
   where
-    misplaced : (p : Part) → LineFault front (continues p) 5
-    misplaced (go s e u) = unfold LineFault Case2 Case5 cases continuing OfLatest in inr (λ h. h, inl (λ h. isn't (rw last at h), refl))
-    misplaced (stop s) = unfold LineFault Case2 Case5 cases continuing OfLatest in inr (λ h. h, inl (λ h. isn't (rw last at h), refl))
+    misplaced : (p : Part) → OfMon p → LineFault front (continues p) 5
+    misplaced (go s e u) o = unfold LineFault Case2 Case5 cases continuing OfLatest in inr (λ h. h, inl (λ h. isn't (rw last at h), refl))
+    misplaced (amp e d) o = absurd (unfold OfMon in o)
+    misplaced (stop s) o = unfold LineFault Case2 Case5 cases continuing OfLatest in inr (λ h. h, inl (λ h. isn't (rw last at h), refl))
 
 pub sentences : Sentences
 unfolding MayStop Ends

@@ -4,22 +4,23 @@ use mathlib.Core.Path.{_≡_, refl, sym, ap, ap₂, _∙_, subst}
 use mathlib.Core.Logic.{_⊎_, inl, inr, _≢_, ⊎-elim}
 use mathlib.Core.Bool.{true, false, _&&_}
 use mathlib.Core.List.{List, [], _∷_, _++_, map}
-use mathlib.Core.List.{List·Memᴰ as In, List·Memᴰ·head as here, List·Memᴰ·tail as there, List·Memᴰ·not-nil}
+use mathlib.Core.List.{List·Memᴰ as In, List·Memᴰ·head as here, List·Memᴰ·tail as there, List·Memᴰ·not-nil, List·Memᴰ·eq-of-singleton}
 use mathlib.Core.Option.{Option, none, some}
-use Prim.Native.Nat.{ℕ, _+_, _≤_, _<_}
+use Prim.Native.Nat.{ℕ, zero, suc, _+_, _≤_, _<_}
 use Prim.Native.String.{String}
 use native.Mathlib.Omega.{arith}
+use lib.IntN.{ℤ, pos, negsuc, natAbs}
 use lib.ListN.{length, getD}
 use lib.Dec.{eqb, leb}
-use borrow.Author.Tests.{eq-eqb, ne-eqb, eqb-false, le-leb, leb-true}
-use Rattle.lists.specs.Lists.{concatMap, any}
+use borrow.Author.Tests.{eq-eqb, ne-eqb, eqb-true, eqb-false, le-leb, leb-true}
+use Rattle.lists.specs.Lists.{any}
 use Rattle.lists.specs.Decimal.{decimal, value, valueFrom, Digit}
 use Rattle.lists.proofs.Tests.{contra, case, and-left, and-right, or-left, or-rest, split}
 use Rattle.lists.proofs.Tells.{Tells, tells-eq, tells-and}
 use Rattle.lists.proofs.Decimal.{decimal-one, decimal-digit, decimal-some, decimal-lead, decimal-value, value-decimal, decimal-short, decimal-long}
-use Rattle.promises.specs.Text.{splitOn, init, lastOf, lines, unended, fields, digitsValue, number, ahead, numbers, same, mon, gap, reply, go, stop, Line, rig, ord, begins, continues, other, field, endOr, end, one, two, three, four, oneOrTwo, anyNumber, bytes, form, decode}
-use Rattle.promises.specs.Spelling.{spelled, Small, SpelledAs, Spelled, joined, Spelling}
-use Rattle.promises.proofs.Pieces.{preceded, Free, splitOn-some, splitOn-joined, splitOn-free, splitOn-pieces, init-last, in-init, last-in}
+use Rattle.promises.specs.Text.{splitOn, init, lastOf, lines, unended, fields, digitsValue, number, ahead, numbers, minus, plus, signed, same, mon, gap, reply, bal, go, stop, amp, Line, rig, ord, begins, continues, other, field, endOr, end, one, two, three, four, oneSigned, twoSigned, thenSigned, oneOrTwo, anyNumber, bytes, form, decode}
+use Rattle.promises.specs.Spelling.{preceded, written, spelled, Small, SpelledAs, signedDecimal, Spelled, joined, Spelling}
+use Rattle.promises.proofs.Pieces.{Free, splitOn-some, splitOn-joined, splitOn-free, splitOn-pieces, init-last, in-init, last-in}
 
 -- ---- numbers
 
@@ -74,6 +75,42 @@ number-is (b ∷ (c ∷ bs)) n q =
     below : length bs ≤ 3 → (b ∷ (c ∷ bs)) ≡ decimal n → ((b ∷ (c ∷ bs)) ≡ decimal n) × (n < 100000)
     below l e = (e, ⊎-elim (λ h. absurd (omega (arith, decimal-long 5 n h, ap length e))) (λ h. h) (split 100000 n))
 
+-- a field that is a signed number is that number written out
+signed-is : (f : List ℕ) (x : ℤ) → signed f ≡ some x → (f ≡ signedDecimal x) × (natAbs x < 100000)
+unfolding signed
+signed-is [] x q = let y : _≡_ {A = ℕ} 0 1 = cc in absurd (omega arith)
+signed-is (b ∷ f) x q =
+    case (eqb b 45)
+    (λ t. negative (number f) refl (rw t at q) (eqb-true b 45 t))
+    (λ t. positive (number (b ∷ f)) refl (rw t at q))
+  where
+    negative : (o : Option ℕ) → number f ≡ o → minus (number f) ≡ some x → b ≡ 45 → ((b ∷ f) ≡ signedDecimal x) × (natAbs x < 100000)
+    negative none e r s = let z : none ≡ some x = unfold minus in rw e at r in let y : _≡_ {A = ℕ} 0 1 = cc in absurd (omega arith)
+    negative (some zero) e r s = let z : none ≡ some x = unfold minus in rw e at r in let y : _≡_ {A = ℕ} 0 1 = cc in absurd (omega arith)
+    negative (some (suc n)) e r s =
+        let z : some (negsuc n) ≡ some x = unfold minus in rw e at r in
+        let y : negsuc n ≡ x = cc in
+        let (w, h) = number-is f (suc n) e in
+        rw (← y) (ap₂ _∷_ s w, h)
+
+    positive : (o : Option ℕ) → number (b ∷ f) ≡ o → plus (number (b ∷ f)) ≡ some x → ((b ∷ f) ≡ signedDecimal x) × (natAbs x < 100000)
+    positive none e r = let z : none ≡ some x = unfold plus in rw e at r in let y : _≡_ {A = ℕ} 0 1 = cc in absurd (omega arith)
+    positive (some n) e r =
+        let z : some (pos n) ≡ some x = unfold plus in rw e at r in
+        let y : pos n ≡ x = cc in
+        rw (← y) (number-is (b ∷ f) n e)
+
+signed-reads : (x : ℤ) → natAbs x < 100000 → signed (signedDecimal x) ≡ some x
+unfolding signed minus plus
+signed-reads (negsuc n) h = rw (number-reads (suc n) h (decimal (suc n)) refl)
+signed-reads (pos n) h = go (decimal n) refl
+  where
+    go : (f : List ℕ) → f ≡ decimal n → signed f ≡ some (pos n)
+    go [] q = absurd (omega (arith, decimal-some n, ap length q))
+    go (b ∷ f) q =
+        let digit = decimal-digit n b (subst (In b) q (here refl)) in
+        rw (ne-eqb b 45 (λ e. omega arith), number-reads n h (b ∷ f) q)
+
 -- ---- words
 
 pub same-tells : (u v : List ℕ) → Tells (same u v) (u ≡ v)
@@ -118,15 +155,30 @@ all-numbers (f ∷ fs) ns q = go (number f) (numbers fs) refl refl (all-numbers 
 
 -- what a form is read from
 module _ (k : Line) (ne : k ≢ other) where
-  field-is : (rest : ℕ → List (List ℕ) → Line) (fs : List (List ℕ)) → field number rest fs ≡ k
-      → (n : ℕ) × (gs : List (List ℕ)) × (fs ≡ decimal n ∷ gs) × (n < 100000) × (rest n gs ≡ k)
+  -- the first field, whatever reads it
+  field-is : {A : Type 0} (read : List ℕ → Option A) (rest : A → List (List ℕ) → Line) (fs : List (List ℕ)) → field read rest fs ≡ k
+      → (f : List ℕ) × (gs : List (List ℕ)) × (a : A) × (fs ≡ f ∷ gs) × (read f ≡ some a) × (rest a gs ≡ k)
   unfolding field
-  field-is rest [] q = absurd (ne (sym q))
-  field-is rest (f ∷ fs) q = go (number f) refl
+  field-is read rest [] q = absurd (ne (sym q))
+  field-is {A} read rest (f ∷ fs) q = go (read f) refl
     where
-      go : (o : Option ℕ) → number f ≡ o → (n : ℕ) × (gs : List (List ℕ)) × ((f ∷ fs) ≡ decimal n ∷ gs) × (n < 100000) × (rest n gs ≡ k)
+      go : (o : Option A) → read f ≡ o → (g : List ℕ) × (gs : List (List ℕ)) × (a : A) × ((f ∷ fs) ≡ g ∷ gs) × (read g ≡ some a) × (rest a gs ≡ k)
       go none e = absurd (ne (sym (rw e at q)))
-      go (some n) e = let (d, s) = number-is f n e in (n, fs, ap (λ g. g ∷ fs) d, s, rw e at q)
+      go (some a) e = (f, fs, a, refl, e, rw e at q)
+
+  number-first : (rest : ℕ → List (List ℕ) → Line) (fs : List (List ℕ)) → field number rest fs ≡ k
+      → (n : ℕ) × (gs : List (List ℕ)) × (fs ≡ decimal n ∷ gs) × (n < 100000) × (rest n gs ≡ k)
+  number-first rest fs q =
+      let (f, gs, n, e, r, m) = field-is number rest fs q in
+      let (d, s) = number-is f n r in
+      (n, gs, e ∙ ap (λ f. f ∷ gs) d, s, m)
+
+  signed-first : (rest : ℤ → List (List ℕ) → Line) (fs : List (List ℕ)) → field signed rest fs ≡ k
+      → (x : ℤ) × (gs : List (List ℕ)) × (fs ≡ signedDecimal x ∷ gs) × (natAbs x < 100000) × (rest x gs ≡ k)
+  signed-first rest fs q =
+      let (f, gs, x, e, r, m) = field-is signed rest fs q in
+      let (d, s) = signed-is f x r in
+      (x, gs, e ∙ ap (λ f. f ∷ gs) d, s, m)
 
   end-is : (l : Line) (fs : List (List ℕ)) → end l fs ≡ k → (fs ≡ []) × (l ≡ k)
   unfolding end endOr
@@ -136,14 +188,14 @@ module _ (k : Line) (ne : k ≢ other) where
   one-is : (f : ℕ → Line) (fs : List (List ℕ)) → one f fs ≡ k → (a : ℕ) × (fs ≡ map decimal (a ∷ [])) × Small (a ∷ []) × (f a ≡ k)
   unfolding one Small
   one-is f fs q =
-      let (a, gs, e, s, r) = field-is (λ a. end (f a)) fs q in
+      let (a, gs, e, s, r) = number-first (λ a. end (f a)) fs q in
       let (g, h) = end-is (f a) gs r in
       (a, e ∙ ap (λ gs. decimal a ∷ gs) g, small-more a [] s (λ n i. absurd (List·Memᴰ·not-nil i)), h)
 
   two-is : (f : ℕ → ℕ → Line) (fs : List (List ℕ)) → two f fs ≡ k → (a : ℕ) × (b : ℕ) × (fs ≡ map decimal (a ∷ b ∷ [])) × Small (a ∷ b ∷ []) × (f a b ≡ k)
   unfolding two
   two-is f fs q =
-      let (a, gs, e, s, r) = field-is (λ a. one (f a)) fs q in
+      let (a, gs, e, s, r) = number-first (λ a. one (f a)) fs q in
       let (b, g, t, h) = one-is (f a) gs r in
       (a, b, e ∙ ap (λ gs. decimal a ∷ gs) g, small-more a _ s t, h)
 
@@ -151,7 +203,7 @@ module _ (k : Line) (ne : k ≢ other) where
       → (a : ℕ) × (b : ℕ) × (c : ℕ) × (fs ≡ map decimal (a ∷ b ∷ c ∷ [])) × Small (a ∷ b ∷ c ∷ []) × (f a b c ≡ k)
   unfolding three
   three-is f fs q =
-      let (a, gs, e, s, r) = field-is (λ a. two (f a)) fs q in
+      let (a, gs, e, s, r) = number-first (λ a. two (f a)) fs q in
       let (b, c, g, t, h) = two-is (f a) gs r in
       (a, b, c, e ∙ ap (λ gs. decimal a ∷ gs) g, small-more a _ s t, h)
 
@@ -159,14 +211,37 @@ module _ (k : Line) (ne : k ≢ other) where
       → (a : ℕ) × (b : ℕ) × (c : ℕ) × (d : ℕ) × (fs ≡ map decimal (a ∷ b ∷ c ∷ d ∷ [])) × Small (a ∷ b ∷ c ∷ d ∷ []) × (f a b c d ≡ k)
   unfolding four
   four-is f fs q =
-      let (a, gs, e, s, r) = field-is (λ a. three (f a)) fs q in
+      let (a, gs, e, s, r) = number-first (λ a. three (f a)) fs q in
       let (b, c, d, g, t, h) = three-is (f a) gs r in
       (a, b, c, d, e ∙ ap (λ gs. decimal a ∷ gs) g, small-more a _ s t, h)
+
+  one-signed-is : (f : ℤ → Line) (fs : List (List ℕ)) → oneSigned f fs ≡ k → (x : ℤ) × (fs ≡ signedDecimal x ∷ []) × (natAbs x < 100000) × (f x ≡ k)
+  unfolding oneSigned
+  one-signed-is f fs q =
+      let (x, gs, e, s, r) = signed-first (λ d. end (f d)) fs q in
+      let (g, h) = end-is (f x) gs r in
+      (x, e ∙ ap (λ gs. signedDecimal x ∷ gs) g, s, h)
+
+  two-signed-is : (f : ℤ → ℤ → Line) (fs : List (List ℕ)) → twoSigned f fs ≡ k
+      → (x : ℤ) × (y : ℤ) × (fs ≡ signedDecimal x ∷ signedDecimal y ∷ []) × (natAbs x < 100000) × (natAbs y < 100000) × (f x y ≡ k)
+  unfolding twoSigned
+  two-signed-is f fs q =
+      let (x, gs, e, s, r) = signed-first (λ a. oneSigned (f a)) fs q in
+      let (y, g, t, h) = one-signed-is (f x) gs r in
+      (x, y, e ∙ ap (λ gs. signedDecimal x ∷ gs) g, s, t, h)
+
+  then-signed-is : (f : ℕ → ℤ → Line) (fs : List (List ℕ)) → thenSigned f fs ≡ k
+      → (a : ℕ) × (x : ℤ) × (fs ≡ decimal a ∷ signedDecimal x ∷ []) × (a < 100000) × (natAbs x < 100000) × (f a x ≡ k)
+  unfolding thenSigned
+  then-signed-is f fs q =
+      let (a, gs, e, s, r) = number-first (λ a. oneSigned (f a)) fs q in
+      let (x, g, t, h) = one-signed-is (f a) gs r in
+      (a, x, e ∙ ap (λ gs. decimal a ∷ gs) g, s, t, h)
 
   one-or-two-is : (f : ℕ → Line) (g : ℕ → ℕ → Line) (fs : List (List ℕ)) → oneOrTwo f g fs ≡ k
       → ((a : ℕ) × (fs ≡ map decimal (a ∷ [])) × Small (a ∷ []) × (f a ≡ k)) ⊎ ((a : ℕ) × (b : ℕ) × (fs ≡ map decimal (a ∷ b ∷ [])) × Small (a ∷ b ∷ []) × (g a b ≡ k))
   unfolding oneOrTwo endOr Small
-  one-or-two-is f g fs q = let (a, gs, e, s, r) = field-is (λ a. endOr (f a) (one (g a))) fs q in whole a gs e s r
+  one-or-two-is f g fs q = let (a, gs, e, s, r) = number-first (λ a. endOr (f a) (one (g a))) fs q in whole a gs e s r
     where
       whole : (a : ℕ) (gs : List (List ℕ)) → fs ≡ decimal a ∷ gs → a < 100000 → endOr (f a) (one (g a)) gs ≡ k
           → ((a : ℕ) × (fs ≡ map decimal (a ∷ [])) × Small (a ∷ []) × (f a ≡ k)) ⊎ ((a : ℕ) × (b : ℕ) × (fs ≡ map decimal (a ∷ b ∷ [])) × Small (a ∷ b ∷ []) × (g a b ≡ k))
@@ -185,6 +260,22 @@ module _ (k : Line) (ne : k ≢ other) where
 field-reads : (rest : ℕ → List (List ℕ) → Line) (n : ℕ) (gs : List (List ℕ)) → n < 100000 → field number rest (decimal n ∷ gs) ≡ rest n gs
 unfolding field
 field-reads rest n gs h = rw (number-reads n h (decimal n) refl)
+
+signed-field-reads : (rest : ℤ → List (List ℕ) → Line) (x : ℤ) (gs : List (List ℕ)) → natAbs x < 100000 → field signed rest (signedDecimal x ∷ gs) ≡ rest x gs
+unfolding field
+signed-field-reads rest x gs h = rw (signed-reads x h)
+
+one-signed-reads : (f : ℤ → Line) (x : ℤ) → natAbs x < 100000 → oneSigned f (signedDecimal x ∷ []) ≡ f x
+unfolding oneSigned end endOr
+one-signed-reads f x h = signed-field-reads (λ d. end (f d)) x [] h
+
+two-signed-reads : (f : ℤ → ℤ → Line) (x y : ℤ) → natAbs x < 100000 → natAbs y < 100000 → twoSigned f (signedDecimal x ∷ signedDecimal y ∷ []) ≡ f x y
+unfolding twoSigned
+two-signed-reads f x y h k = signed-field-reads (λ a. oneSigned (f a)) x (signedDecimal y ∷ []) h ∙ one-signed-reads (f x) y k
+
+then-signed-reads : (f : ℕ → ℤ → Line) (a : ℕ) (x : ℤ) → a < 100000 → natAbs x < 100000 → thenSigned f (decimal a ∷ signedDecimal x ∷ []) ≡ f a x
+unfolding thenSigned
+then-signed-reads f a x h k = field-reads (λ a. oneSigned (f a)) a (signedDecimal x ∷ []) h ∙ one-signed-reads (f a) x k
 
 one-reads : (f : ℕ → Line) (a : ℕ) → Small (a ∷ []) → one f (map decimal (a ∷ [])) ≡ f a
 unfolding one end endOr Small
@@ -217,25 +308,36 @@ numbers-read (n ∷ ns) s = rw (number-reads n (s n (here refl)) (decimal n) ref
 
 -- ---- a word and its numbers
 
-numbers-preceded : (ns : List ℕ) → concatMap (λ n. 9 ∷ decimal n) ns ≡ preceded 9 (map decimal ns)
-numbers-preceded [] = refl
-numbers-preceded (n ∷ ns) = ap (λ l. 9 ∷ (decimal n ++ l)) (numbers-preceded ns)
-
 decimal-free : (n : ℕ) → Free 9 (decimal n)
 decimal-free n i = omega (arith, decimal-digit n 9 i .0)
+
+signed-free : (x : ℤ) → Free 9 (signedDecimal x)
+signed-free (pos n) i = decimal-free n i
+signed-free (negsuc n) (here e) = omega arith
+signed-free (negsuc n) (there i) = decimal-free (suc n) i
 
 decimals-free : (ns : List ℕ) (q : List ℕ) → In q (map decimal ns) → Free 9 q
 decimals-free (n ∷ ns) q (here e) = subst (Free 9) (sym e) (decimal-free n)
 decimals-free (n ∷ ns) q (there i) = decimals-free ns q i
 
+two-free : (f g q : List ℕ) → Free 9 f → Free 9 g → In q (f ∷ g ∷ []) → Free 9 q
+two-free f g q a b (here e) = subst (Free 9) (sym e) a
+two-free f g q a b (there i) = subst (Free 9) (sym (List·Memᴰ·eq-of-singleton i)) b
+
+fields-written : (w : String) (fs : List (List ℕ)) → any (eqb 9) (bytes w) ≡ false → ((q : List ℕ) → In q fs → Free 9 q) → fields (written w fs) ≡ bytes w ∷ fs
+unfolding fields
+fields-written w fs q free = splitOn-pieces 9 (bytes w) fs (free-any 9 (bytes w) q) free
+
 pub fields-spelled : (w : String) (ns : List ℕ) → any (eqb 9) (bytes w) ≡ false → fields (spelled w ns) ≡ bytes w ∷ map decimal ns
-unfolding fields spelled
-fields-spelled w ns q = ap (λ l. splitOn 9 (bytes w ++ l)) (numbers-preceded ns) ∙ splitOn-pieces 9 (bytes w) (map decimal ns) (free-any 9 (bytes w) q) (decimals-free ns)
+unfolding spelled
+fields-spelled w ns q = fields-written w (map decimal ns) q (decimals-free ns)
+
+written-fields : (w : String) (gs : List (List ℕ)) (l v : List ℕ) (fs : List (List ℕ)) → splitOn 9 l ≡ v ∷ fs → same v (bytes w) ≡ true → fs ≡ gs → l ≡ written w gs
+written-fields w gs l v fs q t e = splitOn-joined 9 l v fs q ∙ ap₂ (λ v fs. v ++ preceded 9 fs) (same-tells v (bytes w) .yes t) e
 
 spelled-fields : (w : String) (ns l : List ℕ) (v : List ℕ) (fs : List (List ℕ)) → splitOn 9 l ≡ v ∷ fs → same v (bytes w) ≡ true → fs ≡ map decimal ns → Small ns → SpelledAs w ns l
 unfolding spelled
-spelled-fields w ns l v fs q t e s =
-    (splitOn-joined 9 l v fs q ∙ ap₂ (λ v fs. v ++ preceded 9 fs) (same-tells v (bytes w) .yes t) e ∙ ap (λ l. bytes w ++ l) (sym (numbers-preceded ns)), s)
+spelled-fields w ns l v fs q t e s = (written-fields w (map decimal ns) l v fs q t e, s)
 
 -- ---- the forms
 
@@ -259,7 +361,11 @@ form-spelled l v fs e k ne q =
     (λ m. let (a, b, g, s, r) = two-is k ne (λ e n. begins (gap e n)) fs (rw (t, u, x, y, z, m) at q) in subst (λ k. Spelled k l) r (spelled-fields "gap" (a ∷ b ∷ []) l v fs e m g s))
     (λ m. case (same v (bytes "reply"))
     (λ n. let (a, b, c, d, g, s, r) = four-is k ne (λ a b lo hi. begins (reply a b lo hi)) fs (rw (t, u, x, y, z, m, n) at q) in subst (λ k. Spelled k l) r (spelled-fields "reply" (a ∷ b ∷ c ∷ d ∷ []) l v fs e n g s))
-    (λ n. absurd (ne (sym (rw (t, u, x, y, z, m, n) at q))))))))))
+    (λ n. case (same v (bytes "bal"))
+    (λ o. let (a, b, g, c, d, r) = two-signed-is k ne (λ lo hi. begins (bal lo hi)) fs (rw (t, u, x, y, z, m, n, o) at q) in subst (λ k. Spelled k l) r (written-fields "bal" (signedDecimal a ∷ signedDecimal b ∷ []) l v fs e o g, c, d))
+    (λ o. case (same v (bytes "amp"))
+    (λ p. let (a, b, g, c, d, r) = then-signed-is k ne (λ e d. continues (amp e d)) fs (rw (t, u, x, y, z, m, n, o, p) at q) in subst (λ k. Spelled k l) r (written-fields "amp" (decimal a ∷ signedDecimal b ∷ []) l v fs e p g, c, d))
+    (λ p. absurd (ne (sym (rw (t, u, x, y, z, m, n, o, p) at q))))))))))))
 
 spelled-decodes : (k : Line) (l : List ℕ) → Spelled k l → decode l ≡ k
 unfolding decode Spelled form same
@@ -269,8 +375,14 @@ spelled-decodes (begins (mon S a)) l (inl (q, s)) = rw (q, fields-spelled "mon" 
 spelled-decodes (begins (mon S a)) l (inr (z, (q, s))) = rw (z, q, fields-spelled "mon" (S ∷ []) refl) (one-of-two-reads (λ S. begins (mon S 0)) (λ S a. begins (mon S a)) S s)
 spelled-decodes (begins (gap a b)) l (q, s) = rw (q, fields-spelled "gap" (a ∷ b ∷ []) refl) (two-reads (λ e n. begins (gap e n)) a b s)
 spelled-decodes (begins (reply a b c d)) l (q, s) = rw (q, fields-spelled "reply" (a ∷ b ∷ c ∷ d ∷ []) refl) (four-reads (λ a b lo hi. begins (reply a b lo hi)) a b c d s)
+spelled-decodes (begins (bal lo hi)) l (q, a, b) =
+    rw (q, fields-written "bal" (signedDecimal lo ∷ signedDecimal hi ∷ []) refl (λ f. two-free (signedDecimal lo) (signedDecimal hi) f (signed-free lo) (signed-free hi)))
+    (two-signed-reads (λ lo hi. begins (bal lo hi)) lo hi a b)
 spelled-decodes (continues (go a b c)) l (q, s) = rw (q, fields-spelled "go" (a ∷ b ∷ c ∷ []) refl) (three-reads (λ s e t. continues (go s e t)) a b c s)
 spelled-decodes (continues (stop a)) l (q, s) = rw (q, fields-spelled "stop" (a ∷ []) refl) (one-reads (λ s. continues (stop s)) a s)
+spelled-decodes (continues (amp e d)) l (q, a, b) =
+    rw (q, fields-written "amp" (decimal e ∷ signedDecimal d ∷ []) refl (λ f. two-free (decimal e) (signedDecimal d) f (decimal-free e) (signed-free d)))
+    (then-signed-reads (λ e d. continues (amp e d)) e d a b)
 spelled-decodes other l never = absurd never
 
 pub spelling : Spelling
@@ -278,6 +390,7 @@ unfolding decode fields lines unended
 spelling = record {
   forms = λ k ne l. (λ q. let (v, fs, e) = splitOn-some 9 l in form-spelled l v fs e k ne (sym (ap form e) ∙ q), spelled-decodes k l);
   numbers = λ f n. (number-is f n, λ (q, h). number-reads n h f q);
+  signed-numbers = λ f x. (signed-is f x, λ (q, h). rw q (signed-reads x h));
   whole = λ t. let (p, ps, e) = splitOn-some 10 t in ap (λ ps. joined (init ps) ++ lastOf ps) e ∙ init-last p ps ∙ sym (splitOn-joined 10 t p ps e);
   inside-line = λ t l i. splitOn-free 10 t l (in-init l (splitOn 10 t) i);
   inside-rest = λ t. let (p, ps, e) = splitOn-some 10 t in splitOn-free 10 t (lastOf (splitOn 10 t)) (rw e (last-in p ps));

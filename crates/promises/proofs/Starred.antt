@@ -1,7 +1,7 @@
 -- The starred lines hold: each side computes to the other. Assumes nothing.
 use mathlib.Core.Option.{orElse}
 use mathlib.Core.Path.{refl}
-use Rattle.lists.specs.Lists.{range}
+use Rattle.lists.specs.Lists.{range, firstOf}
 use Rattle.automaton.specs.Automaton.{bounded}
 use Rattle.automaton.specs.Joint.{both, join, idle, joint, sizes, jointState}
 use Rattle.automaton.specs.Pruning.{keep, prunedSet, size, passesFrom, passes, live}
@@ -9,14 +9,15 @@ use Rattle.automaton.specs.Counting.{N, most}
 use Rattle.automaton.specs.Ranking.{choose, before, unrank, rank, firstViolation}
 use Rattle.automaton.specs.Shuffle as swapping
 use Rattle.automaton.specs.Shuffle.{swap, shuffleFrom}
-use Rattle.promises.specs.Text.{onto, splitOn, init, lastOf, lines, unended, fields, digitsValue, number, ahead, numbers, same, field, endOr, end, one, two, three, four, oneOrTwo, anyNumber, form, decode, decoded, addPart, extended, monitorsFrom, monitors, statesOf, startOf, latest, product, eventsOf, reordered, orderFrom, orderOf, jointStates}
-use Rattle.promises.specs.Reading.{leadsTo, moveBy, marks, markedBy, testBeginning, ofLatest, testContinuing, tests, lineCase, readingFrom, reading}
-use Rattle.promises.specs.Rig.{gapNext, replyNext, nextOf, markedOf, monitorOf, standing, linesAutomaton, linesStart, rigAutomaton, start}
+use Rattle.promises.specs.Text.{onto, splitOn, init, lastOf, lines, unended, fields, digitsValue, number, ahead, numbers, same, field, endOr, end, one, two, three, four, oneOrTwo, anyNumber, form, decode, decoded, addPart, extended, monitorsFrom, monitors, statesOf, startOf, latest, product, eventsOf, reordered, orderFrom, orderOf, jointStates, signed, minus, plus, oneSigned, twoSigned, thenSigned, twoSigned, thenSigned}
+use Rattle.promises.specs.Meaning.{stepIn, stepOf}
+use Rattle.promises.specs.Reading.{leadsTo, marks, markedBy, testBeginning, ofLatest, testContinuing, tests, lineCase, readingFrom, reading}
+use Rattle.promises.specs.Rig.{gapNext, replyNext, nextOf, markedOf, monitorOf, standing, linesAutomaton, linesStart, rigAutomaton, start, balNext}
 use Rattle.promises.specs.Calls.{firstBadFrom, firstBad, unlessAt, outputAfter, sized, total, counted, count, scenarios, written, index, badDraw, shuffle, shuffled}
 use Rattle.promises.specs.Starred.{Starred}
 
 pub starred : Starred
-unfolding reading readingFrom lineCase tests testBeginning testContinuing ofLatest moveBy leadsTo markedBy marks orElse decoded lines unended splitOn onto init lastOf decode fields form one two three four oneOrTwo anyNumber field endOr end number numbers ahead digitsValue same monitors monitorsFrom extended addPart latest statesOf product eventsOf orderOf orderFrom reordered startOf jointStates gapNext replyNext nextOf markedOf bounded monitorOf standing linesAutomaton linesStart rigAutomaton start range both join idle joint sizes jointState keep prunedSet size passesFrom passes live N most choose before unrank rank firstViolation firstBadFrom firstBad unlessAt outputAfter sized total counted count scenarios written index badDraw shuffle shuffled swapping.shuffle shuffleFrom swap
+unfolding reading readingFrom lineCase tests testBeginning testContinuing ofLatest firstOf leadsTo stepIn markedBy marks orElse decoded lines unended splitOn onto init lastOf decode fields form one two three four oneOrTwo anyNumber field endOr end number numbers ahead digitsValue signed minus plus oneSigned twoSigned thenSigned same monitors monitorsFrom extended addPart latest statesOf product eventsOf orderOf orderFrom reordered startOf jointStates gapNext replyNext balNext stepOf nextOf markedOf bounded monitorOf standing linesAutomaton linesStart rigAutomaton start range both join idle joint sizes jointState keep prunedSet size passesFrom passes live N most choose before unrank rank firstViolation firstBadFrom firstBad unlessAt outputAfter sized total counted count scenarios written index badDraw shuffle shuffled swapping.shuffle shuffleFrom swap
 starred = record {
   a-0 = refl;
   a-1 = refl;
@@ -56,4 +57,11 @@ starred = record {
   reply-late = refl;
   unanswerable-2 = refl;
   unanswerable-index = refl;
+  meters-start = refl;
+  meters-2 = refl;
+  meters-bytes = refl;
+  meters-index = refl;
+  meters-above = refl;
+  table-2 = refl;
+  no-difference-3 = refl;
 }

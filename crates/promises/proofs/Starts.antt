@@ -1,14 +1,16 @@
 -- A rig whose states are renumbered has the same scenarios, in the same order.
 -- Why: a monitor moves along the renumbered lines just as it did along its own, so the same sequences belong; and their list in order is one. Assumes nothing.
-use mathlib.Core.Path.{_≡_, refl, sym, ap, ap₂, _∙_, subst}
-use mathlib.Core.Logic.{_↔_}
+use mathlib.Core.Path.{_≡_, refl, sym, ap, ap₂, _∙_, subst, fun-ext}
+use mathlib.Core.Logic.{_⊎_, inl, inr, _↔_}
 use mathlib.Core.List.{List, [], _∷_, map, List·Memᴰ as In, List·Memᴰ·head as here, List·Memᴰ·tail as there, List·Memᴰ·not-nil, Memᴰ·map as map-in}
+use mathlib.Core.Option.{orElse, Option·getD}
 use Prim.Native.Nat.{ℕ, _<_}
 use native.Mathlib.Omega.{arith}
+use lib.IntN.{pos}
 use lib.ListN.{length, getD}
 use lib.Dec.{eqb}
 use borrow.Author.Tests.{eq-eqb, eqb-true}
-use Rattle.lists.specs.Lists.{pick, indexOf, Pairwise}
+use Rattle.lists.specs.Lists.{pick, indexOf, firstOf, Pairwise}
 use Rattle.lists.proofs.Tests.{case}
 use Rattle.lists.proofs.Members.{in-map}
 use Rattle.lists.proofs.Ordered.{same-ordered}
@@ -17,8 +19,8 @@ use Rattle.automaton.specs.Counting as counting
 use Rattle.automaton.proofs.Counting.{scenarios-ordered}
 use Rattle.automaton.proofs.Ranking.{unrank-at}
 use Rattle.promises.specs.Answer.{served}
-use Rattle.promises.specs.Text.{onto, splitOn, init, lines, fields, digitsValue, number, ahead, numbers, same, field, endOr, end, one, two, three, four, oneOrTwo, anyNumber, form, decode, Kind, mon, gap, reply, Part, go, stop, Monitor, addPart, extended, monitorsFrom, monitors, decoded, startOf, eventsOf, orderOf, Readable, Case7, Case8}
-use Rattle.promises.specs.Meaning.{Leads, Says, Ends, Admits, MayStop, BelowE, AllAdmit, AllMayStop, Belongs, Earlier}
+use Rattle.promises.specs.Text.{onto, splitOn, init, lines, fields, digitsValue, number, ahead, numbers, same, field, endOr, end, one, two, three, four, oneOrTwo, anyNumber, form, decode, Kind, mon, gap, reply, bal, Part, go, stop, amp, IsBal, Monitor, addPart, extended, monitorsFrom, monitors, decoded, startOf, eventsOf, orderOf, Readable, Case7, Case8}
+use Rattle.promises.specs.Meaning.{Leads, stepIn, stepOf, Says, Ends, Admits, MayStop, BelowE, AllAdmit, AllMayStop, Belongs, Earlier}
 use Rattle.promises.specs.Rig.{rigAutomaton, start}
 use Rattle.promises.specs.Calls.{total, count}
 use Rattle.promises.specs.Demand3.{Gives}
@@ -47,6 +49,10 @@ module _ (f : ℕ → ℕ) (injective : (s t : ℕ) → f s ≡ f t → s ≡ t)
           let q′ : go (f s) e v ≡ stop (f x) = unfold renumberedPart in q in
           let z : _≡_ {A = ℕ} 0 1 = cc in
           absurd (omega arith)
+      back (amp x d) j q =
+          let q′ : go (f s) e v ≡ amp x d = unfold renumberedPart in q in
+          let z : _≡_ {A = ℕ} 0 1 = cc in
+          absurd (omega arith)
 
   -- so is a mark
   mark-back : (ps : List Part) (s : ℕ) → In (stop (f s)) (map (renumberedPart f) ps) → In (stop s) ps
@@ -60,6 +66,22 @@ module _ (f : ℕ → ℕ) (injective : (s t : ℕ) → f s ≡ f t → s ≡ t)
       back (stop x) j q =
           let q′ : stop (f s) ≡ stop (f x) = unfold renumberedPart in q in
           subst (λ x. In (stop x) ps) (sym (injective s x cc)) j
+      back (amp x d) j q =
+          let q′ : stop (f s) ≡ amp x d = unfold renumberedPart in q in
+          let z : _≡_ {A = ℕ} 0 1 = cc in
+          absurd (omega arith)
+
+  -- and a step stays as it is
+  step-same : (e : ℕ) (ps : List Part) → firstOf (stepIn e) (map (renumberedPart f) ps) ≡ firstOf (stepIn e) ps
+  unfolding firstOf stepIn renumberedPart orElse
+  step-same e [] = refl
+  step-same e (go a b c ∷ ps) = step-same e ps
+  step-same e (stop a ∷ ps) = step-same e ps
+  step-same e (amp a d ∷ ps) = ap (orElse (stepIn e (amp a d))) (step-same e ps)
+
+  steps-same : (ps : List Part) → stepOf (map (renumberedPart f) ps) ≡ stepOf ps
+  unfolding stepOf
+  steps-same ps = fun-ext (λ e. ap (λ o. Option·getD o (pos 0)) (step-same e ps))
 
   leads-on : (ps : List Part) (s : ℕ) (w : List ℕ) (u : ℕ) → Leads ps s w u → Leads (map (renumberedPart f) ps) (f s) w (f u)
   unfolding Leads renumberedPart
@@ -80,6 +102,7 @@ module _ (f : ℕ → ℕ) (injective : (s t : ℕ) → f s ≡ f t → s ≡ t)
   says w (mon S a) ps = (λ (u, l). (f u, leads-on ps a w u l), λ (v, l). let (u, m, q) = leads-back ps a w v l in (u, m))
   says w (gap e n) ps = (λ p. p, λ p. p)
   says w (reply a b lo hi) ps = (λ p. p, λ p. p)
+  says w (bal lo hi) ps = rw (steps-same ps) (λ p. p, λ p. p)
 
   ends : (w : List ℕ) (k : Kind) (ps : List Part) → Ends k ps (startOf k) w ↔ Ends (renumberedKind f k) (map (renumberedPart f) ps) (startOf (renumberedKind f k)) w
   unfolding Ends startOf renumberedKind renumberedPart
@@ -89,6 +112,7 @@ module _ (f : ℕ → ℕ) (injective : (s t : ℕ) → f s ≡ f t → s ≡ t)
   )
   ends w (gap e n) ps = (λ p. p, λ p. p)
   ends w (reply a b lo hi) ps = (λ p. p, λ p. p)
+  ends w (bal lo hi) ps = (λ p. p, λ p. p)
 
 -- ---- all monitors
 
@@ -155,7 +179,7 @@ module _ (t u : List ℕ) (n : Renumbered (monitors (decoded t)) (monitors (deco
 same-events : (t u : List ℕ) → Readable t → Readable u → orderOf (decoded t) ≡ orderOf (decoded u) → eventsOf (decoded t) ≡ eventsOf (decoded u)
 same-events t u r s o = sym (permutation-length _ _ (order-permutes t r)) ∙ ap length o ∙ permutation-length _ _ (order-permutes u s)
 
--- ---- every monitor from 0
+-- ---- every `mon` from 0
 
 -- the numbers a and 0 exchanged
 abbrev exchanged : ℕ → ℕ → ℕ
@@ -170,13 +194,14 @@ exchanged-twice a s =
 exchanged-injective : (a s t : ℕ) → exchanged a s ≡ exchanged a t → s ≡ t
 exchanged-injective a s t q = sym (exchanged-twice a s) ∙ ap (exchanged a) q ∙ exchanged-twice a t
 
-start-exchanged : (k : Kind) → startOf (renumberedKind (exchanged (startOf k)) k) ≡ 0
-unfolding startOf renumberedKind
-start-exchanged (mon S a) = rw (eq-eqb a a refl)
-start-exchanged (gap e n) = refl
-start-exchanged (reply a b lo hi) = refl
+start-exchanged : (k : Kind) → (startOf (renumberedKind (exchanged (startOf k)) k) ≡ 0) ⊎ IsBal (renumberedKind (exchanged (startOf k)) k)
+unfolding startOf renumberedKind IsBal
+start-exchanged (mon S a) = inl (rw (eq-eqb a a refl))
+start-exchanged (gap e n) = inl refl
+start-exchanged (reply a b lo hi) = inl refl
+start-exchanged (bal lo hi) = inr (lo, hi, refl)
 
-from-0 : (ms : List Monitor) → (ns : List Monitor) × Renumbered ms ns × ((n : Monitor) → In n ns → startOf (n .kind) ≡ 0)
+from-0 : (ms : List Monitor) → (ns : List Monitor) × Renumbered ms ns × ((n : Monitor) → In n ns → (startOf (n .kind) ≡ 0) ⊎ IsBal (n .kind))
 unfolding Renumbered
 from-0 [] = ([], tt, λ n i. absurd (List·Memᴰ·not-nil i))
 from-0 (m ∷ ms) =
@@ -184,8 +209,8 @@ from-0 (m ∷ ms) =
     let f = exchanged (startOf (m .kind)) in
     (renumbered f m ∷ ns, ((f, exchanged-injective (startOf (m .kind)), refl), r), each ns z)
   where
-    each : (ns : List Monitor) → ((n : Monitor) → In n ns → startOf (n .kind) ≡ 0) → (n : Monitor) → In n (renumbered (exchanged (startOf (m .kind))) m ∷ ns) → startOf (n .kind) ≡ 0
-    each ns z n (here q) = ap (λ n. startOf (n .kind)) q ∙ start-exchanged (m .kind)
+    each : (ns : List Monitor) → ((n : Monitor) → In n ns → (startOf (n .kind) ≡ 0) ⊎ IsBal (n .kind)) → (n : Monitor) → In n (renumbered (exchanged (startOf (m .kind))) m ∷ ns) → (startOf (n .kind) ≡ 0) ⊎ IsBal (n .kind)
+    each ns z n (here q) = subst (λ n. (startOf (n .kind) ≡ 0) ⊎ IsBal (n .kind)) (sym q) (start-exchanged (m .kind))
     each ns z n (there i) = z n i
 
 -- ---- two texts

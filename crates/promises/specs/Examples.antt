@@ -75,6 +75,24 @@ every-kind = bytes "rig\t2\ngap\t0\t2\nmon\t1\ngo\t0\t0\t0\nstop\t0\nreply\t0\t1
 abbrev pub widest-kinds : List ℕ
 widest-kinds = bytes "rig\t2\ngap\t1\t32\nreply\t0\t1\t31\t31\n"
 
+-- ---- two meters (02 no. 6)
+
+-- a difference from −1 to 2: event 0 adds 2, event 1 takes 1, event 2 leaves it
+abbrev pub meters : List ℕ
+meters = bytes "rig\t3\nbal\t-1\t2\namp\t0\t2\namp\t1\t-1\n"
+
+-- the same as a `mon` with every move, each state marked
+abbrev pub meters-table : List ℕ
+meters-table = bytes "rig\t3\nmon\t4\t1\ngo\t0\t0\t2\ngo\t1\t0\t3\ngo\t1\t1\t0\ngo\t2\t1\t1\ngo\t3\t1\t2\ngo\t0\t2\t0\ngo\t1\t2\t1\ngo\t2\t2\t2\ngo\t3\t2\t3\nstop\t0\nstop\t1\nstop\t2\nstop\t3\n"
+
+-- one state, and every step 0
+abbrev pub no-difference : List ℕ
+no-difference = bytes "rig\t1\nbal\t0\t0\n"
+
+-- 'lo from −15 to 0 and hi from 0 to 15', 'a signed step d, −15 to 15': 31 states; a later `bal` gives event 0 a step anew
+abbrev pub widest-band : List ℕ
+widest-band = bytes "rig\t1\nbal\t-15\t15\namp\t0\t-15\nbal\t0\t0\namp\t0\t15\n"
+
 -- ---- the largest rigs
 
 -- 'E from 1 to 16'
@@ -273,6 +291,110 @@ go-after-gap = bytes "rig\t1\nmon\t1\ngap\t0\t2\ngo\t9\t9\t9\n"
 abbrev pub stop-after-reply : List ℕ
 stop-after-reply = bytes "rig\t2\nreply\t0\t1\t1\t1\nstop\t0\n"
 
+-- 2, place 2: `bal` has two numbers
+abbrev pub bal-without-hi : List ℕ
+bal-without-hi = bytes "rig\t1\nbal\t0\n"
+
+-- 2, place 2: and no more
+abbrev pub field-after-band : List ℕ
+field-after-band = bytes "rig\t1\nbal\t0\t0\t0\n"
+
+-- 2, place 3: `amp` has two
+abbrev pub amp-without-step : List ℕ
+amp-without-step = bytes "rig\t1\nbal\t0\t0\namp\t0\n"
+
+-- 2, place 2: 'a minus sign .. may come before a nonzero number'
+abbrev pub minus-zero : List ℕ
+minus-zero = bytes "rig\t1\nbal\t-0\t1\n"
+
+-- 2, place 2: 'any other is 2'
+abbrev pub two-signs : List ℕ
+two-signs = bytes "rig\t1\nbal\t--1\t1\n"
+
+-- 2, place 2
+abbrev pub plus-sign : List ℕ
+plus-sign = bytes "rig\t1\nbal\t-1\t+1\n"
+
+-- 2, place 2: a leading zero
+abbrev pub sign-and-zero : List ℕ
+sign-and-zero = bytes "rig\t1\nbal\t-01\t1\n"
+
+-- 2, place 2
+abbrev pub lone-sign : List ℕ
+lone-sign = bytes "rig\t1\nbal\t-\t1\n"
+
+-- 2, place 3: 'In lo, hi and d', and not in e
+abbrev pub negative-event : List ℕ
+negative-event = bytes "rig\t1\nbal\t-1\t1\namp\t-1\t1\n"
+
+-- 2, place 2: nor in any other line
+abbrev pub negative-n : List ℕ
+negative-n = bytes "rig\t1\ngap\t0\t-2\n"
+
+-- 2, place 2: 'one to five digits'
+abbrev pub six-signed-digits : List ℕ
+six-signed-digits = bytes "rig\t1\nbal\t-100000\t0\n"
+
+-- 3, place 2: the sign is not one of the five
+abbrev pub five-signed-digits : List ℕ
+five-signed-digits = bytes "rig\t1\nbal\t-99999\t0\n"
+
+-- 3, place 2: 'lo from −15 to 0'
+abbrev pub lo-16 : List ℕ
+lo-16 = bytes "rig\t1\nbal\t-16\t0\n"
+
+-- 3, place 2
+abbrev pub lo-1 : List ℕ
+lo-1 = bytes "rig\t1\nbal\t1\t1\n"
+
+-- 3, place 2: 'hi from 0 to 15'
+abbrev pub hi-16 : List ℕ
+hi-16 = bytes "rig\t1\nbal\t0\t16\n"
+
+-- 3, place 2
+abbrev pub hi-below-0 : List ℕ
+hi-below-0 = bytes "rig\t1\nbal\t-2\t-1\n"
+
+-- 3, place 3: 'a signed step d, −15 to 15'
+abbrev pub step-16 : List ℕ
+step-16 = bytes "rig\t1\nbal\t0\t15\namp\t0\t16\n"
+
+-- 3, place 3
+abbrev pub step-below : List ℕ
+step-below = bytes "rig\t1\nbal\t-15\t0\namp\t0\t-16\n"
+
+-- 3, place 3
+abbrev pub step-of-no-event : List ℕ
+step-of-no-event = bytes "rig\t1\nbal\t0\t0\namp\t1\t0\n"
+
+-- 4, place 4: 'An event given twice is 4', also with step 0
+abbrev pub given-twice : List ℕ
+given-twice = bytes "rig\t1\nbal\t0\t1\namp\t0\t1\namp\t0\t0\n"
+
+-- 4, place 4: and if the first step is 0
+abbrev pub given-zero-twice : List ℕ
+given-zero-twice = bytes "rig\t1\nbal\t0\t1\namp\t0\t0\namp\t0\t1\n"
+
+-- 5, place 2: 'an `amp` is 5 if the latest monitor isn't a `bal`'
+abbrev pub amp-first : List ℕ
+amp-first = bytes "rig\t1\namp\t0\t0\n"
+
+-- 5, place 4: though there is one before it, and out of range
+abbrev pub amp-after-mon : List ℕ
+amp-after-mon = bytes "rig\t1\nbal\t0\t0\nmon\t1\namp\t9\t99\n"
+
+-- 5, place 3: 'A `go` or `stop` is 5 if the latest monitor isn't a `mon`'
+abbrev pub go-after-bal : List ℕ
+go-after-bal = bytes "rig\t1\nbal\t0\t0\ngo\t0\t0\t0\n"
+
+-- 5, place 3: though its state is marked already
+abbrev pub stop-after-bal : List ℕ
+stop-after-bal = bytes "rig\t1\nbal\t0\t0\nstop\t0\n"
+
+-- 6, place 4: 31 states, 2 and 17
+abbrev pub bal-too-many : List ℕ
+bal-too-many = bytes "rig\t1\nbal\t-15\t15\nbal\t-1\t0\nbal\t-15\t1\n"
+
 -- 5, place 1: 'empty text, place 1'
 abbrev pub nothing : List ℕ
 nothing = []
@@ -312,6 +434,10 @@ pub record Words : Type 0 where
   pub readable-unanswerable : Readable unanswerable
   pub readable-every-kind : Readable every-kind
   pub readable-widest-kinds : Readable widest-kinds
+  pub readable-meters : Readable meters
+  pub readable-meters-table : Readable meters-table
+  pub readable-no-difference : Readable no-difference
+  pub readable-widest-band : Readable widest-band
   pub readable-most-events : Readable most-events
   pub readable-most-joint-states : Readable most-joint-states
   -- A's scenario of index 4 belongs; '0 1 1' does not
@@ -342,6 +468,10 @@ pub record Words : Type 0 where
   pub none-twice : (w : List ℕ) → Belongs gap-alone 2 w → ⊥
   -- both sentences admit 1 0, and no reply can follow
   pub not-belongs-unanswered : Belongs unanswerable 2 (1 ∷ 0 ∷ []) → ⊥
+  -- 'An event is admitted if the running difference stays from lo to hi': −1 and then 1; not −2, nor 4
+  pub belongs-in-band : Belongs meters 2 (1 ∷ 0 ∷ [])
+  pub not-belongs-below : Belongs meters 2 (1 ∷ 1 ∷ []) → ⊥
+  pub not-belongs-above : Belongs meters 2 (0 ∷ 0 ∷ []) → ⊥
   pub fault-too-long : Fault too-long 1 0
   -- 'At most 65,535 bytes.'
   pub never-too-long : (t : List ℕ) → length t ≡ 65535 → Fault t 1 0 → ⊥
@@ -389,6 +519,32 @@ pub record Words : Type 0 where
   pub fault-gap-too-many : Fault gap-too-many 6 4
   pub fault-go-after-gap : Fault go-after-gap 5 4
   pub fault-stop-after-reply : Fault stop-after-reply 5 3
+  pub fault-bal-without-hi : Fault bal-without-hi 2 2
+  pub fault-field-after-band : Fault field-after-band 2 2
+  pub fault-amp-without-step : Fault amp-without-step 2 3
+  pub fault-minus-zero : Fault minus-zero 2 2
+  pub fault-two-signs : Fault two-signs 2 2
+  pub fault-plus-sign : Fault plus-sign 2 2
+  pub fault-sign-and-zero : Fault sign-and-zero 2 2
+  pub fault-lone-sign : Fault lone-sign 2 2
+  pub fault-negative-event : Fault negative-event 2 3
+  pub fault-negative-n : Fault negative-n 2 2
+  pub fault-six-signed-digits : Fault six-signed-digits 2 2
+  pub fault-five-signed-digits : Fault five-signed-digits 3 2
+  pub fault-lo-16 : Fault lo-16 3 2
+  pub fault-lo-1 : Fault lo-1 3 2
+  pub fault-hi-16 : Fault hi-16 3 2
+  pub fault-hi-below-0 : Fault hi-below-0 3 2
+  pub fault-step-16 : Fault step-16 3 3
+  pub fault-step-below : Fault step-below 3 3
+  pub fault-step-of-no-event : Fault step-of-no-event 3 3
+  pub fault-given-twice : Fault given-twice 4 4
+  pub fault-given-zero-twice : Fault given-zero-twice 4 4
+  pub fault-amp-first : Fault amp-first 5 2
+  pub fault-amp-after-mon : Fault amp-after-mon 5 4
+  pub fault-go-after-bal : Fault go-after-bal 5 3
+  pub fault-stop-after-bal : Fault stop-after-bal 5 3
+  pub fault-bal-too-many : Fault bal-too-many 6 4
   pub fault-nothing : Fault nothing 5 1
   pub fault-rig-alone : Fault rig-alone 5 2
   pub fault-rig-later : Fault rig-later 5 2

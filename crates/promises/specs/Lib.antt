@@ -19,4 +19,5 @@ pub mod Starts
 pub mod Ordering
 pub mod Stopping
 pub mod Sentences
+pub mod Differences
 pub mod Wrong

@@ -7,6 +7,10 @@
 --   StillDue .. s w     == it has none, and may have one after w
 --   Replied .. w        == the sentence of `reply`, a, b, lo, hi: every a of w has its reply, or it is still due
 --   NoneDue .. w        == every a of w has its reply
+--   stepOf ps e         == the step that the `amp` lines of ps give event e
+--   sumOf d w           == the steps d of the events of w, together
+--   InBand lo hi x      == the difference x is from lo to hi
+--   Balanced lo hi d x w == the sentence of `bal`, lo, hi with the steps d: from the difference x on, every partial sum is from lo to hi
 --   Says k ps s w       == what a monitor of the kind k with the further lines ps says of w in state s
 --   Ends k ps s w       == what it says of w as a sequence to stop after
 --   Admits m s w        == the monitor m, in state s, admits the sequence w
@@ -23,10 +27,14 @@
 use mathlib.Core.Path.{_≡_}
 use mathlib.Core.Logic.{_⊎_}
 use mathlib.Core.List.{List, [], _∷_, _++_, List·Memᴰ as In}
+use mathlib.Core.Option.{Option, none, some, Option·getD}
 use Prim.Native.Nat.{ℕ, zero, suc, _+_, _≤_, _<_}
-use lib.ListN.{length, drop}
-use Rattle.lists.specs.Lists.{indexOf}
-use Rattle.promises.specs.Text.{Kind, mon, gap, reply, Part, go, stop, Line, Monitor, monitors, startOf, eventsOf, orderOf, decoded}
+use lib.IntN.{ℤ, pos, _+ℤ_}
+use lib.Signed.{_≤ℤ_}
+use lib.ListN.{length, take, drop}
+use lib.Dec.{eqb}
+use Rattle.lists.specs.Lists.{pick, indexOf, firstOf}
+use Rattle.promises.specs.Text.{Kind, mon, gap, reply, bal, Part, go, stop, amp, Line, Monitor, monitors, startOf, eventsOf, orderOf, decoded}
 
 unfoldable pub Stands : ℕ → List ℕ → ℕ → Type 0
 Stands e [] i = ⊥
@@ -68,20 +76,46 @@ module _ (a b lo hi : ℕ) where
   unfoldable pub NoneDue : List ℕ → Type 0
   NoneDue w = (i : ℕ) → Stands a w i → Answered 1 (drop (suc i) w)
 
+-- ---- `bal` (02 no. 6)
+
+-- 'Each following `amp`, e, d line gives event e a signed step d'
+unfoldable pub stepIn : ℕ → Part → Option ℤ
+stepIn e (go a b c) = none
+stepIn e (stop a) = none
+stepIn e (amp f d) = pick (eqb f e) (some d) none
+
+-- 'an event without one has step 0'
+unfoldable pub stepOf : List Part → ℕ → ℤ
+stepOf ps e = Option·getD (firstOf (stepIn e) ps) (pos 0)
+
+unfoldable pub sumOf : (ℕ → ℤ) → List ℕ → ℤ
+sumOf d [] = pos 0
+sumOf d (e ∷ w) = d e +ℤ sumOf d w
+
+abbrev pub InBand : ℤ → ℤ → ℤ → Type 0
+InBand lo hi x = (lo ≤ℤ x) × (x ≤ℤ hi)
+
+-- 'An event is admitted if the running difference stays from lo to hi'; 'every partial sum', that of no event included
+unfoldable pub Balanced : ℤ → ℤ → (ℕ → ℤ) → ℤ → List ℕ → Type 0
+Balanced lo hi d x w = (k : ℕ) → k ≤ length w → InBand lo hi (x +ℤ sumOf d (take k w))
+
 -- ---- a monitor
 
 -- 'A user reading the sentence gets what the third demand says of monitors.' The state of `reply` 'is 0 with nothing due, 1 just after a, and one more each
--- step' (02 no. 5)
+-- step' (02 no. 5); of `bal`, 'state j is the difference lo+j' (02 no. 6)
 unfoldable pub Says : Kind → List Part → ℕ → List ℕ → Type 0
 Says (mon S a) ps s w = (u : ℕ) × Leads ps s w u
 Says (gap e n) ps s w = Barred e s w × Apart e n w
 Says (reply a b lo hi) ps s w = (0 < s → Answered a b lo hi s w ⊎ StillDue a b lo hi s w) × Replied a b lo hi w
+Says (bal lo hi) ps s w = Balanced lo hi (stepOf ps) (lo +ℤ pos s) w
 
--- 'A line `stop`, s marks a state of the latest monitor.' (02 no. 4) 'All `gap` states are marked `stop`, of `reply` only state 0.' (02 no. 5)
+-- 'A line `stop`, s marks a state of the latest monitor.' (02 no. 4) 'All `gap` states are marked `stop`, of `reply` only state 0.' (02 no. 5) Of `bal`, 'all
+-- marked `stop`' (02 no. 6)
 unfoldable pub Ends : Kind → List Part → ℕ → List ℕ → Type 0
 Ends (mon S a) ps s w = (u : ℕ) × Leads ps s w u × In (stop u) ps
 Ends (gap e n) ps s w = Unit {0}
 Ends (reply a b lo hi) ps s w = (0 < s → Answered a b lo hi s w) × NoneDue a b lo hi w
+Ends (bal lo hi) ps s w = Unit {0}
 
 -- 'A monitor admits a sequence if, from its start state, it admits each event in the state that the events before it led to.'
 unfoldable pub Admits : Monitor → ℕ → List ℕ → Type 0

@@ -1,50 +1,55 @@
 -- Reading a text: the first bad line, and the first case on it. What the reader's contract cites; that it agrees with the words of Text is a theorem.
 --   leadsTo s e p      == where the line p moves from s on e, if it does
 --   moveBy ps s e      == where the first of the lines ps that does so moves
+--   stepBy ps e        == the step that the first of the lines ps that does so gives event e
 --   marks s p          == the line p marks the state s
 --   markedBy ps s      == one of the lines ps marks s
---   isMon k            == k is a `mon`
+--   isMon k, isBal k   == k is a `mon`, a `bal`
 --   outOfRange, equal  == OutOfRange and Equal of Text, as tests
 --   repeats es         == some number stands twice in es
 --   tests ls l         == the cases 2, 5, 3, 16, 17, 4 and 6 of the line l after the lines ls, as tests
 --   lineCase ls l      == the number of the first case that holds of l, 0 where none does
 --   reading t          == served where t is readable, else refused by a number from 1 to 6, 16 or 17, and its place
--- A new Kind is one clause each of `isMon`, `outOfRange` and `equal`; a new Part one each of `tests`, `leadsTo` and `marks`. Assumes nothing.
+-- A new Kind is one clause each of `isMon`, `isBal`, `outOfRange` and `equal`; a new Part one each of `tests`, `leadsTo` and `marks`. Assumes nothing.
 use mathlib.Core.Bool.{Bool, true, false, not, _&&_, _||_}
 use mathlib.Core.List.{List, [], _∷_, _++_}
-use mathlib.Core.Option.{Option, none, some, orElse}
+use mathlib.Core.Option.{Option, none, some}
 use Prim.Native.Nat.{ℕ, suc, _*_}
+use lib.IntN.{ℤ, pos, negℤ}
+use lib.Signed.{ltZ}
 use lib.ListN.{length}
 use lib.Dec.{ltb, leb, eqb}
-use Rattle.lists.specs.Lists.{pick, any}
+use Rattle.lists.specs.Lists.{pick, any, firstOf, isSome}
 use Rattle.promises.specs.Answer.{Answer, served, unless}
-use Rattle.promises.specs.Text.{Kind, mon, gap, reply, Part, go, stop, Line, rig, ord, begins, continues, other, Monitor, monitors, latest, statesOf, eventsOf, product, decoded, unended}
+use Rattle.promises.specs.Text.{Kind, mon, gap, reply, bal, Part, go, stop, amp, Line, rig, ord, begins, continues, other, Monitor, monitors, latest, statesOf, eventsOf, product, decoded, unended}
+use Rattle.promises.specs.Meaning.{stepIn}
 
 abbrev pub empty : {A : Type 0} → List A → Bool
 empty [] = true
 empty (x ∷ l) = false
 
-abbrev pub isSome : {A : Type 0} → Option A → Bool
-isSome none = false
-isSome (some a) = true
-
 -- '`go`, s, e, t: the latest monitor moves from s to t on event e'
 unfoldable pub leadsTo : ℕ → ℕ → Part → Option ℕ
 leadsTo s e (go a b c) = pick (eqb a s && eqb b e) (some c) none
 leadsTo s e (stop a) = none
+leadsTo s e (amp a d) = none
 
-unfoldable pub moveBy : List Part → ℕ → ℕ → Option ℕ
-moveBy [] s e = none
-moveBy (p ∷ ps) s e = orElse (leadsTo s e p) (moveBy ps s e)
+abbrev pub moveBy : List Part → ℕ → ℕ → Option ℕ
+moveBy ps s e = firstOf (leadsTo s e) ps
 
 -- '`stop`, s marks a state of the latest monitor' (02 no. 4)
 unfoldable pub marks : ℕ → Part → Bool
 marks s (go a b c) = false
 marks s (stop a) = eqb a s
+marks s (amp a d) = false
 
 unfoldable pub markedBy : List Part → ℕ → Bool
 markedBy [] s = false
 markedBy (p ∷ ps) s = marks s p || markedBy ps s
+
+-- '`amp`, e, d line gives event e a signed step d' (02 no. 6)
+abbrev pub stepBy : List Part → ℕ → Option ℤ
+stepBy ps e = firstOf (stepIn e) ps
 
 pub record Tests : Type 0 where
   pub misformed : Bool
@@ -57,6 +62,9 @@ pub record Tests : Type 0 where
 abbrev pub outside : ℕ → ℕ → ℕ → Bool
 outside lo hi n = ltb n lo || ltb hi n
 
+abbrev pub outsideℤ : ℤ → ℤ → ℤ → Bool
+outsideℤ lo hi x = ltZ x lo || ltZ hi x
+
 abbrev pub noClash : ℕ → Bool
 noClash n = false
 
@@ -64,16 +72,25 @@ abbrev pub isMon : Kind → Bool
 isMon (mon S a) = true
 isMon (gap e n) = false
 isMon (reply a b lo hi) = false
+isMon (bal lo hi) = false
+
+abbrev pub isBal : Kind → Bool
+isBal (mon S a) = false
+isBal (gap e n) = false
+isBal (reply a b lo hi) = false
+isBal (bal lo hi) = true
 
 abbrev pub outOfRange : ℕ → Kind → Bool
 outOfRange E (mon S a) = outside 1 32 S || leb S a
 outOfRange E (gap e n) = leb E e || outside 2 32 n
 outOfRange E (reply a b lo hi) = leb E a || (leb E b || (ltb lo 1 || (ltb hi lo || ltb 31 hi)))
+outOfRange E (bal lo hi) = outsideℤ (negℤ (pos 15)) (pos 0) lo || outsideℤ (pos 0) (pos 15) hi
 
 abbrev pub equal : Kind → Bool
 equal (mon S a) = false
 equal (gap e n) = false
 equal (reply a b lo hi) = eqb a b
+equal (bal lo hi) = false
 
 -- a line that begins a monitor of the kind k
 unfoldable pub testBeginning : List Line → Kind → Tests
@@ -122,6 +139,7 @@ tests ls (continues (go s e t)) =
     (λ m. leb (statesOf (m .kind)) s || (leb (eventsOf ls) e || leb (statesOf (m .kind)) t))
     (λ m. isSome (moveBy (m .parts) s e))
 tests ls (continues (stop s)) = testContinuing ls isMon (λ m. leb (statesOf (m .kind)) s) (λ m. markedBy (m .parts) s)
+tests ls (continues (amp e d)) = testContinuing ls isBal (λ m. leb (eventsOf ls) e || outsideℤ (negℤ (pos 15)) (pos 15) d) (λ m. isSome (stepBy (m .parts) e))
 tests ls other = record { misformed = true; misplaced = empty ls; out-of-range = false; clash = noClash; again = false; too-many = false }
 
 -- 'on one line 2, 5, 3, 4, 6'; 16 'tested after 3' (02 no. 2), 17 'after 3' (02 no. 5)

@@ -2,6 +2,7 @@
 -- and from every state, and how the lines are refused.
 --   Agrees es m        == in any state, the automaton of m over the events es admits what m's sentence says of sequences of these events, and may stop where it says
 --   RepliedAt .. w     == the sentence of `reply` by places: every a at i has its b at j, or it may still come
+--   OfMon p            == p is a `go` or `stop` line
 --   Sentences          == the agreements, the sentences in the start state and in others, the marks and the refusals
 -- That the calls list what these sentences admit is demand 3. Assumes nothing.
 use mathlib.Core.Path.{_≡_}
@@ -13,7 +14,7 @@ use Prim.Native.Nat.{ℕ, suc, _+_, _*_, _≤_, _<_}
 use lib.ListN.{length}
 use Rattle.automaton.specs.Automaton as automaton
 use Rattle.automaton.specs.Automaton.{Over, walk}
-use Rattle.promises.specs.Text.{Kind, gap, reply, Part, Line, begins, continues, Monitor, monitors, latest, statesOf, startOf, eventsOf, product, orderOf, decoded, OutOfRange, Equal, IsMon, Case1, AllSound, Readable, Fault}
+use Rattle.promises.specs.Text.{Kind, gap, reply, Part, go, stop, amp, Line, begins, continues, Monitor, monitors, latest, statesOf, startOf, eventsOf, product, orderOf, decoded, OutOfRange, Equal, IsMon, Case1, AllSound, Readable, Fault}
 use Rattle.promises.specs.Meaning.{Stands, Apart, Admits, MayStop, BelowE}
 use Rattle.promises.specs.Rig.{monitorOf}
 
@@ -42,6 +43,11 @@ pub record Continues (t : List ℕ) (front : List Line) (p : Part) : Type 0 wher
   pub back : List Line
   pub lines-are : decoded t ≡ front ++ (continues p ∷ back)
   pub sound : AllSound [] front
+
+unfoldable pub OfMon : Part → Type 0
+OfMon (go s e t) = Unit {0}
+OfMon (stop s) = Unit {0}
+OfMon (amp e d) = ⊥
 
 pub record Sentences : Type 0 where
   -- 'That the table admits exactly the sequences of the sentence is shown for all n, lo and hi together.'
@@ -73,5 +79,5 @@ pub record Sentences : Type 0 where
   pub too-many : (t : List ℕ) (front : List Line) (k : Kind) → Begins t front k → (OutOfRange (eventsOf front) k → ⊥) → length (monitors front) < 4 → (Equal k → ⊥)
       → 1024 < product (monitors front) * statesOf k → Fault t 6 (suc (length front))
   -- 'A `go` or `stop` is 5 if the latest monitor isn't a `mon`', whatever its numbers
-  pub not-mon : (t : List ℕ) (front : List Line) (p : Part) → Continues t front p → (m : Monitor) → latest (monitors front) ≡ some m → (IsMon (m .kind) → ⊥)
+  pub not-mon : (t : List ℕ) (front : List Line) (p : Part) → OfMon p → Continues t front p → (m : Monitor) → latest (monitors front) ≡ some m → (IsMon (m .kind) → ⊥)
       → Fault t 5 (suc (length front))

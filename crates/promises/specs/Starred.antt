@@ -7,7 +7,7 @@ use lib.ListN.{replicate}
 use Rattle.promises.specs.Answer.{served, refused}
 use Rattle.promises.specs.Rig.{start}
 use Rattle.promises.specs.Calls.{count, scenarios, written, index, shuffle, shuffled}
-use Rattle.promises.specs.Examples.{A, B, A-from-1, A-exchanged, two-starts, A-ordered, closes, one-unmarked, both-marked, may-close, gap-alone, reply-alone, unanswerable}
+use Rattle.promises.specs.Examples.{A, B, A-from-1, A-exchanged, two-starts, A-ordered, closes, one-unmarked, both-marked, may-close, gap-alone, reply-alone, unanswerable, meters, meters-table, no-difference}
 
 -- n numbers to lend
 abbrev pub lent : ℕ → List ℕ
@@ -67,3 +67,13 @@ pub record Starred : Type 0 where
   -- what both sentences admit and no reply can follow is not live
   pub unanswerable-2 : count unanswerable 2 (lent 36) ≡ served (1 ∷ 2 ∷ [])
   pub unanswerable-index : index unanswerable (1 ∷ 0 ∷ []) (lent 36) ≡ refused 14 1
+  -- 02 no. 6. 'state j is the difference lo+j', so the start is −lo; every partial sum from −1 to 2
+  pub meters-start : start meters ≡ 1
+  pub meters-2 : count meters 2 (lent 12) ≡ served (7 ∷ 1 ∷ [])
+  pub meters-bytes : written meters 2 (0 ∷ 1 ∷ 2 ∷ 3 ∷ []) (lent 12) (lent 8) ≡ 0 ∷ 1 ∷ 0 ∷ 2 ∷ 1 ∷ 0 ∷ 1 ∷ 2 ∷ []
+  pub meters-index : index meters (2 ∷ 1 ∷ []) (lent 12) ≡ served (5 ∷ [])
+  pub meters-above : index meters (0 ∷ 1 ∷ 0 ∷ []) (lent 16) ≡ refused 14 2
+  -- so of the table that it replaces
+  pub table-2 : count meters-table 2 (lent 12) ≡ served (7 ∷ 1 ∷ [])
+  -- 'an event without one has step 0'
+  pub no-difference-3 : count no-difference 3 (lent 4) ≡ served (1 ∷ 1 ∷ [])

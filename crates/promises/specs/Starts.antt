@@ -1,15 +1,15 @@
 -- Monitors that start in any state, paper 02 no. 1: 'Scenarios from any such start are owed as they were from 0.' The demands say so of every readable
--- text; here, what a start means: the same rig with its states renumbered, so that every monitor starts in 0, has the same scenarios.
+-- text; here, what a start means: the same rig with its states renumbered, so that every `mon` starts in 0, has the same scenarios.
 --   renumbered f m     == the monitor m with every state s written as f s
 --   Renumbered ms ns   == the monitors ns are the monitors ms, the states of each renumbered
 --   Starts             == such rigs have the same count, and in one order of events an index gives the same sequence in both
 -- A new Kind is one clause of renumberedKind, a new Part one of renumberedPart; where states have no numbers to choose, it stays as it is. Assumes nothing.
 use mathlib.Core.Path.{_≡_}
-use mathlib.Core.Logic.{_↔_}
+use mathlib.Core.Logic.{_⊎_, _↔_}
 use mathlib.Core.List.{List, [], _∷_, map, List·Memᴰ as In}
 use Prim.Native.Nat.{ℕ, _<_}
 use Rattle.promises.specs.Answer.{served}
-use Rattle.promises.specs.Text.{Kind, mon, gap, reply, Part, go, stop, Monitor, monitors, decoded, startOf, eventsOf, orderOf, Readable, Case7, Case8}
+use Rattle.promises.specs.Text.{Kind, mon, gap, reply, bal, Part, go, stop, amp, IsBal, Monitor, monitors, decoded, startOf, eventsOf, orderOf, Readable, Case7, Case8}
 use Rattle.promises.specs.Meaning.{Belongs}
 use Rattle.promises.specs.Demand3.{Gives}
 use Rattle.promises.specs.Calls.{count}
@@ -20,10 +20,12 @@ unfoldable pub renumberedKind : (ℕ → ℕ) → Kind → Kind
 renumberedKind f (mon S a) = mon S (f a)
 renumberedKind f (gap e n) = gap e n
 renumberedKind f (reply a b lo hi) = reply a b lo hi
+renumberedKind f (bal lo hi) = bal lo hi
 
 unfoldable pub renumberedPart : (ℕ → ℕ) → Part → Part
 renumberedPart f (go s e t) = go (f s) e (f t)
 renumberedPart f (stop s) = stop (f s)
+renumberedPart f (amp e d) = amp e d
 
 abbrev pub renumbered : (ℕ → ℕ) → Monitor → Monitor
 renumbered f m = record { kind = renumberedKind f (m .kind); parts = map (renumberedPart f) (m .parts) }
@@ -36,8 +38,8 @@ Renumbered (m ∷ ms) [] = ⊥
 Renumbered (m ∷ ms) (n ∷ ns) = ((f : ℕ → ℕ) × ((s t : ℕ) → f s ≡ f t → s ≡ t) × (n ≡ renumbered f m)) × Renumbered ms ns
 
 pub record Starts : Type 0 where
-  -- any monitors can be renumbered so that each starts in 0
-  pub from-0 : (ms : List Monitor) → (ns : List Monitor) × Renumbered ms ns × ((n : Monitor) → In n ns → startOf (n .kind) ≡ 0)
+  -- any monitors can be renumbered so that each starts in 0, a `bal` apart, whose states are differences (02 no. 6)
+  pub from-0 : (ms : List Monitor) → (ns : List Monitor) × Renumbered ms ns × ((n : Monitor) → In n ns → (startOf (n .kind) ≡ 0) ⊎ IsBal (n .kind))
   -- then, with as many events, the same sequences belong
   pub same-belong : (t u : List ℕ) → Renumbered (monitors (decoded t)) (monitors (decoded u)) → eventsOf (decoded t) ≡ eventsOf (decoded u) → (h : ℕ) (w : List ℕ) → Belongs t h w ↔ Belongs u h w
   -- the count is the same

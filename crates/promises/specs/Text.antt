@@ -3,6 +3,7 @@
 --   unended t          == what stands after the last line end
 --   number f           == the number that the field f is, if it is one
 --   numbers fs         == the numbers that the fields fs are, if each is one
+--   signed f           == the signed number that the field f is, if it is one
 --   Kind               == a line that begins a monitor, with its numbers
 --   Part               == a line of the latest monitor, with its numbers
 --   decode l           == the line form that l is, with its numbers, or `other` where it is none
@@ -26,9 +27,11 @@ use mathlib.Core.Logic.{_⊎_, _≢_}
 use mathlib.Core.Bool.{Bool, true, false, _&&_}
 use mathlib.Core.List.{List, [], _∷_, _++_, map, List·Memᴰ as In}
 use mathlib.Core.Option.{Option, none, some}
-use Prim.Native.Nat.{ℕ, suc, _+_, _-_, _*_, _≤_, _<_}
+use Prim.Native.Nat.{ℕ, zero, suc, _+_, _-_, _*_, _≤_, _<_}
 use Prim.Native.Char.{code}
 use Prim.Native.String.{String, [] as no-character, _∷_ as _before_}
+use lib.IntN.{ℤ, pos, negsuc, negℤ, natAbs, _-ℤ_}
+use lib.Signed.{_<ℤ_}
 use lib.ListN.{length, getD}
 use lib.Dec.{eqb, leb}
 use Rattle.lists.specs.Lists.{pick, range}
@@ -86,6 +89,21 @@ unfoldable pub numbers : List (List ℕ) → Option (List ℕ)
 numbers [] = some []
 numbers (f ∷ fs) = ahead (number f) (numbers fs)
 
+-- −n, of a nonzero number n
+unfoldable pub minus : Option ℕ → Option ℤ
+minus none = none
+minus (some zero) = none
+minus (some (suc n)) = some (negsuc n)
+
+unfoldable pub plus : Option ℕ → Option ℤ
+plus none = none
+plus (some n) = some (pos n)
+
+-- 'In lo, hi and d a minus sign, byte 45, may come before a nonzero number; any other is 2.' (02 no. 6)
+unfoldable pub signed : List ℕ → Option ℤ
+signed [] = none
+signed (b ∷ f) = pick (eqb b 45) (minus (number f)) (plus (number (b ∷ f)))
+
 unfoldable pub same : List ℕ → List ℕ → Bool
 same [] [] = true
 same [] (b ∷ bs) = false
@@ -99,11 +117,13 @@ pub data Kind : Type 0 where
   mon : ℕ → ℕ → Kind  -- `mon`, S, and 'the monitor's start state'
   gap : ℕ → ℕ → Kind  -- `gap`, e, n (02 no. 5)
   reply : ℕ → ℕ → ℕ → ℕ → Kind  -- `reply`, a, b, lo, hi (02 no. 5)
+  bal : ℤ → ℤ → Kind  -- `bal`, lo, hi (02 no. 6)
 
 -- a line of 'the latest monitor'
 pub data Part : Type 0 where
   go : ℕ → ℕ → ℕ → Part  -- `go`, s, e, t
   stop : ℕ → Part  -- `stop`, s, which 'marks a state' (02 no. 4)
+  amp : ℕ → ℤ → Part  -- `amp`, e, d, which 'gives event e a signed step d' (02 no. 6)
 
 pub data Line : Type 0 where
   rig : ℕ → Line  -- `rig`, E
@@ -142,6 +162,16 @@ three f = field number (λ a. two (f a))
 unfoldable pub four : (ℕ → ℕ → ℕ → ℕ → Line) → List (List ℕ) → Line
 four f = field number (λ a. three (f a))
 
+-- one signed number, two, and a number before one
+unfoldable pub oneSigned : (ℤ → Line) → List (List ℕ) → Line
+oneSigned f = field signed (λ a. end (f a))
+
+unfoldable pub twoSigned : (ℤ → ℤ → Line) → List (List ℕ) → Line
+twoSigned f = field signed (λ a. oneSigned (f a))
+
+unfoldable pub thenSigned : (ℕ → ℤ → Line) → List (List ℕ) → Line
+thenSigned f = field number (λ a. oneSigned (f a))
+
 -- one number, or two
 unfoldable pub oneOrTwo : (ℕ → Line) → (ℕ → ℕ → Line) → List (List ℕ) → Line
 oneOrTwo f g = field number (λ a. endOr (f a) (one (g a)))
@@ -170,7 +200,9 @@ form (w ∷ fs) =
     (pick (same w (bytes "stop")) (one (λ s. continues (stop s)) fs)
     (pick (same w (bytes "gap")) (two (λ e n. begins (gap e n)) fs)
     (pick (same w (bytes "reply")) (four (λ a b lo hi. begins (reply a b lo hi)) fs)
-    other))))))
+    (pick (same w (bytes "bal")) (twoSigned (λ lo hi. begins (bal lo hi)) fs)
+    (pick (same w (bytes "amp")) (thenSigned (λ e d. continues (amp e d)) fs)
+    other))))))))
 
 unfoldable pub decode : List ℕ → Line
 decode l = form (fields l)
@@ -205,17 +237,20 @@ monitorsFrom ms (l ∷ ls) = monitorsFrom (extended ms l) ls
 unfoldable pub monitors : List Line → List Monitor
 monitors ls = monitorsFrom [] ls
 
--- '`mon`, S: a new monitor with states 0 to S−1'; `gap` and `reply`: 'a monitor, with n or hi+1 states' (02 no. 5)
+-- '`mon`, S: a new monitor with states 0 to S−1'; `gap` and `reply`: 'a monitor, with n or hi+1 states' (02 no. 5); `bal`: 'It has hi−lo+1 states' (02 no. 6)
 unfoldable pub statesOf : Kind → ℕ
 statesOf (mon S a) = S
 statesOf (gap e n) = n
 statesOf (reply a b lo hi) = hi + 1
+statesOf (bal lo hi) = natAbs (hi -ℤ lo) + 1
 
--- 'the monitor's start state' (02 no. 1); `gap`: no coming step bars e; `reply`: '0 with nothing due' (02 no. 5)
+-- 'the monitor's start state' (02 no. 1); `gap`: no coming step bars e; `reply`: '0 with nothing due' (02 no. 5); `bal`: 'beginning at 0', and 'state j is the
+-- difference lo+j', so −lo (02 no. 6)
 unfoldable pub startOf : Kind → ℕ
 startOf (mon S a) = a
 startOf (gap e n) = 0
 startOf (reply a b lo hi) = 0
+startOf (bal lo hi) = natAbs lo
 
 -- 'the latest monitor'
 unfoldable pub latest : List Monitor → Option Monitor
@@ -258,10 +293,10 @@ orderOf ls = orderFrom [] ls
 
 pub record Cases : Type 1 where
   pub misformed : Type 0  -- 2, 'no such line form; a field that isn't a number as above'; `ord`, 'the wrong number of fields'
-  pub misplaced : Type 0  -- 5, 'first line not `rig`; `rig` later'; `ord` 'elsewhere'; `go` or `stop` 'if the latest monitor isn't a `mon`'
+  pub misplaced : Type 0  -- 5, 'first line not `rig`; `rig` later'; `ord` 'elsewhere'; `go` or `stop` 'if the latest monitor isn't a `mon`', `amp` if it isn't a `bal`
   pub out-of-range : Type 0  -- 3, 'a number out of its range, or a fifth `mon`'
   pub clash : ℕ → Type 0  -- by its number: 16, 'an event named twice in `ord`'; 17, 'a equals b'
-  pub again : Type 0  -- 4, 's and e again in one monitor'; 'A state marked twice'
+  pub again : Type 0  -- 4, 's and e again in one monitor'; 'A state marked twice'; 'An event given twice'
   pub too-many : Type 0  -- 6, 'P over 1,024'
 
 abbrev pub never : ℕ → Type 0
@@ -271,6 +306,9 @@ never n = ⊥
 abbrev pub Outside : ℕ → ℕ → ℕ → Type 0
 Outside lo hi n = (n < lo) ⊎ (hi < n)
 
+abbrev pub Outsideℤ : ℤ → ℤ → ℤ → Type 0
+Outsideℤ lo hi x = (x <ℤ lo) ⊎ (hi <ℤ x)
+
 unfoldable pub OutOfRange : ℕ → Kind → Type 0
 -- 'S from 1 to 32'; 'A start not below S is refused 3.' (02 no. 1)
 OutOfRange E (mon S a) = Outside 1 32 S ⊎ (S ≤ a)
@@ -278,12 +316,15 @@ OutOfRange E (mon S a) = Outside 1 32 S ⊎ (S ≤ a)
 OutOfRange E (gap e n) = (E ≤ e) ⊎ Outside 2 32 n
 -- '1 ≤ lo ≤ hi ≤ 31' (02 no. 5)
 OutOfRange E (reply a b lo hi) = (E ≤ a) ⊎ ((E ≤ b) ⊎ ((lo < 1) ⊎ ((hi < lo) ⊎ (31 < hi))))
+-- 'lo from −15 to 0 and hi from 0 to 15' (02 no. 6)
+OutOfRange E (bal lo hi) = Outsideℤ (negℤ (pos 15)) (pos 0) lo ⊎ Outsideℤ (pos 0) (pos 15) hi
 
 -- '17, a equals b' (02 no. 5)
 unfoldable pub Equal : Kind → Type 0
 Equal (mon S a) = ⊥
 Equal (gap e n) = ⊥
 Equal (reply a b lo hi) = a ≡ b
+Equal (bal lo hi) = ⊥
 
 -- a line that begins a monitor of the kind k: it 'counts as a `mon` in 3, 5 and 6, as do all later kinds' (02 no. 5)
 unfoldable pub beginning : List Line → Kind → Cases
@@ -315,6 +356,9 @@ continuing ls right out again = record {
 unfoldable pub IsMon : Kind → Type 0
 IsMon k = (S : ℕ) × (a : ℕ) × (k ≡ mon S a)
 
+unfoldable pub IsBal : Kind → Type 0
+IsBal k = (lo : ℤ) × (hi : ℤ) × (k ≡ bal lo hi)
+
 -- 'an event named twice in `ord`'
 unfoldable pub Twice : List ℕ → Type 0
 Twice es = (i : ℕ) × (j : ℕ) × (i < j) × (j < length es) × (getD es i 0 ≡ getD es j 0)
@@ -340,6 +384,8 @@ cases ls (continues (go s e t)) =
     (λ m. (u : ℕ) × In (go s e u) (m .parts))
 -- 'A state marked twice is 4, a state not below S is 3, a `stop` before any `mon` is 5.' (02 no. 4)
 cases ls (continues (stop s)) = continuing ls IsMon (λ m. statesOf (m .kind) ≤ s) (λ m. In (stop s) (m .parts))
+-- 'a signed step d, −15 to 15'; 'An event given twice is 4; an `amp` is 5 if the latest monitor isn't a `bal`.' (02 no. 6)
+cases ls (continues (amp e d)) = continuing ls IsBal (λ m. (eventsOf ls ≤ e) ⊎ Outsideℤ (negℤ (pos 15)) (pos 15) d) (λ m. (c : ℤ) × In (amp e c) (m .parts))
 cases ls other = record { misformed = Unit {0}; misplaced = ls ≡ []; out-of-range = ⊥; clash = never; again = ⊥; too-many = ⊥ }
 
 unfoldable pub Case2 : List Line → Line → Type 0

@@ -167,29 +167,63 @@ slice-aggregate-same-7 c = search needs
 same-requires-7 : tie.Need-same-requires-7
 same-requires-7 c κs = search needs
 
+bal-form-requires : tie.Need-bal-form-requires
+bal-form-requires c κs = search needs
+
+returns-8 : tie.Need-returns-8
+unfolding text.form text.same
+returns-8 c =
+    let l = c .before .before .before .before .before .before .before .before .before .before .before .before .before .before .before .before .before .before .before .before .before .before .before .before .before .before .before .before .args .line .now in
+    let u = c .before .before .before .before .before .before .before .before .before .before .before .before .before .before .before .before .before .before .before .before .before .before .before .before .before .until in
+    let p = sym (c .before .before .same7 .ensures) ∙ c .before .if8 .taken in
+    by-word l (u .result) (u .ensures) (c .before .before .before .before .before .before .before .before .before .before .before .before .before .before .before .before .before .before .before .before .before .before .before .if1 .taken) "bal" p refl _ _ (c .bal-form .ensures)
+
+slice-aggregate-same-8 : tie.Need-slice-aggregate-same-8
+slice-aggregate-same-8 c = search needs
+
+same-requires-8 : tie.Need-same-requires-8
+same-requires-8 c κs = search needs
+
+amp-form-requires : tie.Need-amp-form-requires
+amp-form-requires c κs = search needs
+
+returns-9 : tie.Need-returns-9
+unfolding text.form text.same
+returns-9 c =
+    let l = c .before .before .before .before .before .before .before .before .before .before .before .before .before .before .before .before .before .before .before .before .before .before .before .before .before .before .before .before .before .before .before .args .line .now in
+    let u = c .before .before .before .before .before .before .before .before .before .before .before .before .before .before .before .before .before .before .before .before .before .before .before .before .before .before .before .before .until in
+    let p = sym (c .before .before .same8 .ensures) ∙ c .before .if9 .taken in
+    by-word l (u .result) (u .ensures) (c .before .before .before .before .before .before .before .before .before .before .before .before .before .before .before .before .before .before .before .before .before .before .before .before .before .before .if1 .taken) "amp" p refl _ _ (c .amp-form .ensures)
+
+slice-aggregate-same-9 : tie.Need-slice-aggregate-same-9
+slice-aggregate-same-9 c = search needs
+
+same-requires-9 : tie.Need-same-requires-9
+same-requires-9 c κs = search needs
+
 ord-form-requires : tie.Need-ord-form-requires
 ord-form-requires c κs = search needs
 
 same-length : tie.Need-same-length
 same-length c = search needs
 
-returns-8 : tie.Need-returns-8
-returns-8 c =
+returns-10 : tie.Need-returns-10
+returns-10 c =
     let l = c .before .before .before .before .before .before .before .before .before .before .before .before .args .line .now in
     let u = c .before .before .before .before .before .before .before .before .before .until in
-    let p = sym (c .before .before .before .before .before .same7 .ensures) ∙ c .before .before .before .before .if8 .taken in
+    let p = sym (c .before .before .before .before .before .same9 .ensures) ∙ c .before .before .before .before .if10 .taken in
     let f = c .before .before .ord-form .ensures in
     (rw (decode-ord l (u .result) (u .ensures) p) (f .0), rw (listed-ord l (u .result) (u .ensures) p) (f .1))
 
-returns-9 : tie.Need-returns-9
-returns-9 c =
+returns-11 : tie.Need-returns-11
+returns-11 c =
     let l = c .before .before .before .before .before .before .before .before .args .line .now in
     let u = c .before .before .before .before .before .until in
-    let not-ord = sym (c .before .same7 .ensures) ∙ c .if8 .left in
+    let not-ord = sym (c .before .same9 .ensures) ∙ c .if10 .left in
     let q : text.decode l ≡ other = ⊎-elim
-    (λ (x, rest, a, is-rig, not-rig, b, is-mon, not-mon, d, is-go, not-go, e, is-stop, not-stop, f, is-gap, not-gap, g, is-reply, not-reply).
+    (λ (x, rest, a, is-rig, not-rig, b, is-mon, not-mon, d, is-go, not-go, e, is-stop, not-stop, f, is-gap, not-gap, g, is-reply, not-reply, h, is-bal, not-bal, i, is-amp, not-amp).
     decode-more l (u .result) (u .ensures) (x .taken)
-    ∙ form-other (take (u .result) l) _ (sym (is-rig .ensures) ∙ not-rig .left) (sym (is-mon .ensures) ∙ not-mon .left) (sym (is-go .ensures) ∙ not-go .left) not-ord (sym (is-stop .ensures) ∙ not-stop .left) (sym (is-gap .ensures) ∙ not-gap .left) (sym (is-reply .ensures) ∙ not-reply .left))
+    ∙ form-other (take (u .result) l) _ (sym (is-rig .ensures) ∙ not-rig .left) (sym (is-mon .ensures) ∙ not-mon .left) (sym (is-go .ensures) ∙ not-go .left) not-ord (sym (is-stop .ensures) ∙ not-stop .left) (sym (is-gap .ensures) ∙ not-gap .left) (sym (is-reply .ensures) ∙ not-reply .left) (sym (is-bal .ensures) ∙ not-bal .left) (sym (is-amp .ensures) ∙ not-amp .left))
     (λ x. decode-alone l (u .result) (u .ensures) (x .left) not-ord)
     (c .before .before .before .if1 .came) in
     (rw q, rw (listed-none l (u .result) (u .ensures) not-ord) (unfold over in refl))
@@ -233,7 +267,15 @@ decode-spec =
     returns-7
     slice-aggregate-same-7
     same-requires-7
+    bal-form-requires
+    returns-8
+    slice-aggregate-same-8
+    same-requires-8
+    amp-form-requires
+    returns-9
+    slice-aggregate-same-9
+    same-requires-9
     ord-form-requires
     same-length
-    returns-8
-    returns-9)
+    returns-10
+    returns-11)
