@@ -1,2 +1,3 @@
 -- The laws of the tables.
 pub mod Tables
+pub mod Bands

@@ -1,43 +1,67 @@
--- The kinds of monitor in the words of `promises`, and the tables that a line fills that begins one. Paper 02 no. 5.
+-- The kinds of monitor in the words of `promises`, and the tables that a line fills that begins one, or that gives a step. Paper 02 no. 5, 6.
 --   asKind k           == the kind k, as `promises` writes it
+--   InRange k          == the numbers of k are in their ranges, in a rig with some number of events
 --   monStates k        == how many states a `go` or `stop` line can name: those of a `mon`, 0 of any other kind
+--   bandOf k           == the band in which an `amp` line moves: that of a `bal`, none of any other kind
 --   entryOf S t        == the state t of S states as an entry of the move table: 255 where it is no state
---   withRows mv m E S f n == the table mv with the rows of the first n states of monitor m, which moves from s on u to f s u
+--   withColumn mv m u k d == the move table mv with the moves of monitor m, of the kind k, on the event u of the step d
+--   withColumns mv m k E == with those on each of E events, without further lines
 --   kindMoves mv m E k == the move table mv with what the line says that begins monitor m of the kind k
 --   kindStops sp m k   == the marks sp likewise
--- A new Kind is one clause of asKind and one of monStates; its automaton is that of promises/specs/Rig. Assumes nothing.
-use mathlib.Core.List.{List, []}
+-- A new Kind is one clause each of asKind, monStates and bandOf; its automaton is that of promises/specs/Rig. Assumes nothing.
+use mathlib.Core.Path.{_≡_}
+use mathlib.Core.Bool.{false}
+use mathlib.Core.List.{List, [], _∷_}
 use Prim.Native.Nat.{ℕ, zero, suc}
+use lib.IntN.{ℤ, pos}
 use lib.Dec.{ltb}
 use Rattle.lists.specs.Lists.{pick, overwrite}
 use Rattle.promises.specs.Text as text
-use Rattle.promises.specs.Text.{mon, gap, reply, statesOf}
-use Rattle.promises.specs.Reading.{isMon}
+use Rattle.promises.specs.Text.{mon, gap, reply, bal, amp, statesOf}
+use Rattle.promises.specs.Reading.{isMon, outOfRange, equal}
 use Rattle.promises.specs.Rig.{nextOf, markedOf}
 use Rattle.rig.specs.Record.{moveIndex, stopIndex}
 use Rattle.decoding.specs.declared.Kind.{Kind}
-use Rattle.decoding.specs.declared.Kind.the-variants.{Mon, Gap, Reply}
+use Rattle.decoding.specs.declared.Kind.the-variants.{Mon, Gap, Reply, Bal}
+use Rattle.kinds.specs.declared.Band.{Band}
+use Rattle.kinds.specs.declared.Band.the-variants.{From, Absent}
 
 abbrev pub asKind : Kind → text.Kind
 asKind (Mon S a) = mon S a
 asKind (Gap e n) = gap e n
 asKind (Reply a b lo hi) = reply a b lo hi
+asKind (Bal lo hi) = bal lo hi
+
+abbrev pub InRange : text.Kind → Type 0
+InRange k = (E : ℕ) × (outOfRange E k ≡ false) × (equal k ≡ false)
 
 abbrev pub monStates : Kind → ℕ
 monStates (Mon S a) = S
 monStates (Gap e n) = 0
 monStates (Reply a b lo hi) = 0
+monStates (Bal lo hi) = 0
+
+abbrev pub bandOf : Kind → Band
+bandOf (Mon S a) = Absent
+bandOf (Gap e n) = Absent
+bandOf (Reply a b lo hi) = Absent
+bandOf (Bal lo hi) = From lo hi
 
 abbrev pub entryOf : ℕ → ℕ → ℕ
 entryOf S t = pick (ltb t S) t 255
 
-unfoldable pub withRows : List ℕ → ℕ → ℕ → ℕ → (ℕ → ℕ → ℕ) → ℕ → List ℕ
-withRows mv m E S f zero = mv
-withRows mv m E S f (suc s) = overwrite (withRows mv m E S f s) (moveIndex m s 0) (λ u. entryOf S (f s u)) E
+-- what stood there before, as the moves of another step, is written over
+unfoldable pub withColumn : List ℕ → ℕ → ℕ → text.Kind → ℤ → List ℕ
+withColumn mv m u k d = overwrite mv (λ s. moveIndex m s u) (λ s. entryOf (statesOf k) (nextOf k (amp u d ∷ []) s u)) (statesOf k)
+
+-- 'an event without one has step 0' (02 no. 6)
+unfoldable pub withColumns : List ℕ → ℕ → text.Kind → ℕ → List ℕ
+withColumns mv m k zero = mv
+withColumns mv m k (suc u) = withColumn (withColumns mv m k u) m u k (pos 0)
 
 -- 'Each line is a monitor' (02 no. 5): its whole table. A `mon` line has no move yet, and no mark
 unfoldable pub kindMoves : List ℕ → ℕ → ℕ → text.Kind → List ℕ
-kindMoves mv m E k = pick (isMon k) mv (withRows mv m E (statesOf k) (nextOf k []) (statesOf k))
+kindMoves mv m E k = pick (isMon k) mv (withColumns mv m k E)
 
 unfoldable pub kindStops : List ℕ → ℕ → text.Kind → List ℕ
-kindStops sp m k = pick (isMon k) sp (overwrite sp (stopIndex m 0) (λ s. pick (markedOf k [] s) 1 0) (statesOf k))
+kindStops sp m k = pick (isMon k) sp (overwrite sp (stopIndex m) (λ s. pick (markedOf k [] s) 1 0) (statesOf k))

@@ -1,14 +1,23 @@
 // The kinds of monitor: what a line that begins one says. Each function up to `mark` has a clause for each kind; the others fill the tables of any.
 use decoding::Kind;
 ghost use mathlib.Core.Path.{_≡_};
-ghost use mathlib.Core.List.{[]};
-ghost use Prim.Native.Nat.{_+_, _≤_, _<_};
+ghost use mathlib.Core.Bool.{false};
+ghost use mathlib.Core.List.{[], _∷_};
+ghost use Prim.Native.Nat.{_≤_, _<_};
+ghost use lib.IntN.{pos, negℤ};
 ghost use lib.ListN.{length};
 ghost use Rattle.lists.specs.Lists.{pick, overwrite};
-ghost use Rattle.promises.specs.Text.{statesOf, startOf};
+ghost use Rattle.promises.specs.Text.{bal, amp, statesOf, startOf};
 ghost use Rattle.promises.specs.Reading as promised;
-ghost use Rattle.promises.specs.Rig.{gapNext, replyNext, nextOf, markedOf};
-ghost use Rattle.kinds.specs.Kinds.{asKind, monStates, entryOf, withRows, kindMoves, kindStops};
+ghost use Rattle.promises.specs.Rig.{gapNext, replyNext, balNext, nextOf, markedOf};
+ghost use Rattle.rig.specs.Record.{stopIndex};
+ghost use Rattle.kinds.specs.Kinds.{asKind, InRange, monStates, bandOf, entryOf, withColumn, withColumns, kindMoves, kindStops};
+
+// The band of a `bal`, from lo to hi.
+pub enum Band {
+    From(i64, i64),
+    Absent,
+}
 
 // Whether n is not 'from lo to hi'.
 fn outside(lo: usize, hi: usize, n: usize) -> bool
@@ -18,6 +27,16 @@ fn outside(lo: usize, hi: usize, n: usize) -> bool
         return true;
     }
     hi < n
+}
+
+// Whether the signed number x is not 'from lo to hi'.
+pub fn outside_signed(lo: i64, hi: i64, x: i64) -> bool
+    ensures { λ r. ⌜ r ≡ promised.outsideℤ lo hi x ⌝ }
+{
+    if x < lo {
+        return true;
+    }
+    hi < x
 }
 
 // Whether a number of the line is out of its range.
@@ -52,6 +71,12 @@ pub fn out_of_range(k: Kind, events: usize) -> bool
             }
             31 < hi
         }
+        Kind::Bal(lo, hi) => {
+            if outside_signed(-15, 0, lo) {
+                return true;
+            }
+            outside_signed(0, 15, hi)
+        }
     }
 }
 
@@ -63,29 +88,41 @@ pub fn equal(k: Kind) -> bool
         Kind::Mon(_, _) => false,
         Kind::Gap(_, _) => false,
         Kind::Reply(a, b, _, _) => a == b,
+        Kind::Bal(_, _) => false,
     }
+}
+
+// How many states a `bal` has: 'It has hi−lo+1 states'.
+fn band_states(lo: i64, hi: i64) -> usize
+    requires { ⌜ InRange (bal lo hi) ⌝ }
+    ensures { λ n. ⌜ n ≡ statesOf (bal lo hi) ⌝ }
+{
+    (hi - lo) as usize + 1
 }
 
 // How many states the monitor has.
 pub fn states(k: Kind) -> usize
-    requires { ⌜ statesOf (asKind k) ≤ 32 ⌝ }
+    requires { ⌜ InRange (asKind k) ⌝ }
     ensures { λ n. ⌜ n ≡ statesOf (asKind k) ⌝ }
 {
     match k {
         Kind::Mon(s, _) => s,
         Kind::Gap(_, n) => n,
         Kind::Reply(_, _, _, hi) => hi + 1,
+        Kind::Bal(lo, hi) => band_states(lo, hi),
     }
 }
 
 // The state that it starts in.
 pub fn start(k: Kind) -> usize
+    requires { ⌜ InRange (asKind k) ⌝ }
     ensures { λ s. ⌜ s ≡ startOf (asKind k) ⌝ }
 {
     match k {
         Kind::Mon(_, a) => a,
         Kind::Gap(_, _) => 0,
         Kind::Reply(_, _, _, _) => 0,
+        Kind::Bal(lo, _) => (0 - lo) as usize, // the difference 0
     }
 }
 
@@ -97,6 +134,7 @@ fn is_mon(k: Kind) -> bool
         Kind::Mon(_, _) => true,
         Kind::Gap(_, _) => false,
         Kind::Reply(_, _, _, _) => false,
+        Kind::Bal(_, _) => false,
     }
 }
 
@@ -108,6 +146,19 @@ pub fn mon_states(k: Kind) -> usize
         Kind::Mon(s, _) => s,
         Kind::Gap(_, _) => 0,
         Kind::Reply(_, _, _, _) => 0,
+        Kind::Bal(_, _) => 0,
+    }
+}
+
+// The band in which an `amp` line moves: that of a `bal`.
+pub fn band_of(k: Kind) -> Band
+    ensures { λ b. ⌜ b ≡ bandOf k ⌝ }
+{
+    match k {
+        Kind::Mon(_, _) => Band::Absent,
+        Kind::Gap(_, _) => Band::Absent,
+        Kind::Reply(_, _, _, _) => Band::Absent,
+        Kind::Bal(lo, hi) => Band::From(lo, hi),
     }
 }
 
@@ -150,15 +201,28 @@ fn reply_next(a: usize, b: usize, lo: usize, hi: usize, s: usize, u: usize) -> u
     s + 1
 }
 
-// Where it moves from s on u, without further lines; a number that is no state where it does not admit u.
-fn next(k: Kind, s: usize, u: usize) -> usize
-    requires { ⌜ (1 ≤ statesOf (asKind k)) × (statesOf (asKind k) ≤ 32) × (s ≤ 31) ⌝ }
-    ensures { λ t. ⌜ t ≡ nextOf (asKind k) [] s u ⌝ }
+// Where a `bal` moves from s by a step d: 'state j is the difference lo+j', 'admitted if the running difference stays from lo to hi'.
+fn bal_next(lo: i64, hi: i64, d: i64, s: usize) -> usize
+    requires { ⌜ InRange (bal lo hi) × (promised.outsideℤ (negℤ (pos 15)) (pos 15) d ≡ false) × (s ≤ 31) ⌝ }
+    ensures { λ t. ⌜ t ≡ balNext lo hi d s ⌝ }
+{
+    let difference = lo + s as i64 + d;
+    if outside_signed(lo, hi, difference) {
+        return band_states(lo, hi); // no state
+    }
+    (difference - lo) as usize
+}
+
+// Where it moves from s on u, which has the step d; a number that is no state where it does not admit u. Only a `bal` has steps.
+fn next(k: Kind, d: i64, s: usize, u: usize) -> usize
+    requires { ⌜ InRange (asKind k) × (promised.outsideℤ (negℤ (pos 15)) (pos 15) d ≡ false) × (s ≤ 31) ⌝ }
+    ensures { λ t. ⌜ t ≡ nextOf (asKind k) (amp u d ∷ []) s u ⌝ }
 {
     match k {
         Kind::Mon(n, _) => n,
         Kind::Gap(e, n) => gap_next(e, n, s, u),
         Kind::Reply(a, b, lo, hi) => reply_next(a, b, lo, hi, s, u),
+        Kind::Bal(lo, hi) => bal_next(lo, hi, d, s),
     }
 }
 
@@ -170,10 +234,11 @@ fn mark(k: Kind, s: usize) -> u8
         Kind::Mon(_, _) => 0,
         Kind::Gap(_, _) => 1,
         Kind::Reply(_, _, _, _) => { if s == 0 { 1 } else { 0 } }
+        Kind::Bal(_, _) => 1,
     }
 }
 
-// ---- the tables of a line that begins a monitor
+// ---- the tables of a monitor
 
 // A state as an entry of the move table: 255 where it is none of the n.
 fn entry(n: usize, t: usize) -> u8
@@ -183,50 +248,51 @@ fn entry(n: usize, t: usize) -> u8
     if t < n { t as u8 } else { 255 }
 }
 
-// The row of state s, which starts at `at`.
-fn fill_row(moves: &mut [u8], at: usize, events: usize, k: Kind, n: usize, s: usize)
-    requires { ⌜ (at + events ≤ length (now moves)) × (n ≤ 32) ⌝ }
-    requires { ⌜ (1 ≤ statesOf (asKind k)) × (statesOf (asKind k) ≤ 32) × (s ≤ 31) ⌝ }
-    ensures { λ _. ⌜ now (moves .exit) ≡ overwrite (now (moves .entry)) at (λ u. entryOf n (nextOf (asKind k) [] s u)) events ⌝ }
+// The moves of monitor m on u, which has the step d, from each of its states.
+pub fn fill_column(moves: &mut [u8], m: usize, u: usize, k: Kind, d: i64)
+    requires { ⌜ (length (now moves) ≡ 2048) × (m < 4) × (u < 16) ⌝ }
+    requires { ⌜ InRange (asKind k) × (promised.outsideℤ (negℤ (pos 15)) (pos 15) d ≡ false) ⌝ }
+    ensures { λ _. ⌜ now (moves .exit) ≡ withColumn (now (moves .entry)) m u (asKind k) d ⌝ }
+{
+    let n = states(k);
+    for s in 0..n {
+        let at = (m * 32 + s) * 16 + u;
+        moves[at] = entry(n, next(k, d, s, u));
+    }
+}
+
+// The moves of monitor m on each event, without further lines.
+fn fill_moves(moves: &mut [u8], m: usize, events: usize, k: Kind)
+    requires { ⌜ (length (now moves) ≡ 2048) × (m < 4) × (events ≤ 16) ⌝ }
+    requires { ⌜ InRange (asKind k) ⌝ }
+    ensures { λ _. ⌜ now (moves .exit) ≡ withColumns (now (moves .entry)) m (asKind k) events ⌝ }
 {
     for u in 0..events {
-        moves[at + u] = entry(n, next(k, s, u));
+        fill_column(moves, m, u, k, 0);
     }
 }
 
-// The rows of the n states of monitor m.
-fn fill_moves(moves: &mut [u8], m: usize, events: usize, k: Kind, n: usize)
-    requires { ⌜ (length (now moves) ≡ 2048) × (m < 4) × (events ≤ 16) × (n ≤ 32) ⌝ }
-    requires { ⌜ (1 ≤ statesOf (asKind k)) × (statesOf (asKind k) ≤ 32) ⌝ }
-    ensures { λ _. ⌜ now (moves .exit) ≡ withRows (now (moves .entry)) m events n (nextOf (asKind k) []) n ⌝ }
+// The marks of the states of monitor m.
+fn fill_marks(stops: &mut [u8], m: usize, k: Kind)
+    requires { ⌜ (length (now stops) ≡ 128) × (m < 4) ⌝ }
+    requires { ⌜ InRange (asKind k) ⌝ }
+    ensures { λ _. ⌜ now (stops .exit) ≡ overwrite (now (stops .entry)) (stopIndex m) (λ s. pick (markedOf (asKind k) [] s) 1 0) (statesOf (asKind k)) ⌝ }
 {
-    for s in 0..n {
-        let at = (m * 32 + s) * 16;
-        fill_row(moves, at, events, k, n, s);
-    }
-}
-
-// The marks of n states, from `at` on.
-fn fill_marks(stops: &mut [u8], at: usize, k: Kind, n: usize)
-    requires { ⌜ at + n ≤ length (now stops) ⌝ }
-    ensures { λ _. ⌜ now (stops .exit) ≡ overwrite (now (stops .entry)) at (λ s. pick (markedOf (asKind k) [] s) 1 0) n ⌝ }
-{
-    for s in 0..n {
-        stops[at + s] = mark(k, s);
+    for s in 0..states(k) {
+        stops[m * 32 + s] = mark(k, s);
     }
 }
 
 // Writes what the line says into the tables of monitor m: all moves and marks of its kind. A `mon` line leaves them as they are.
 pub fn fill_tables(moves: &mut [u8], stops: &mut [u8], m: usize, events: usize, k: Kind)
     requires { ⌜ (length (now moves) ≡ 2048) × (length (now stops) ≡ 128) × (m < 4) × (events ≤ 16) ⌝ }
-    requires { ⌜ (1 ≤ statesOf (asKind k)) × (statesOf (asKind k) ≤ 32) ⌝ }
+    requires { ⌜ InRange (asKind k) ⌝ }
     ensures { λ _. ⌜ now (moves .exit) ≡ kindMoves (now (moves .entry)) m events (asKind k) ⌝ }
     ensures { λ _. ⌜ now (stops .exit) ≡ kindStops (now (stops .entry)) m (asKind k) ⌝ }
 {
     if is_mon(k) {
         return;
     }
-    let n = states(k);
-    fill_moves(moves, m, events, k, n);
-    fill_marks(stops, m * 32, k, n);
+    fill_moves(moves, m, events, k);
+    fill_marks(stops, m, k);
 }

@@ -1,19 +1,16 @@
 -- The order of the integers by differences: a ≤ b where b is some natural number more than a. Assumes nothing.
 use mathlib.Core.Path.{_≡_, refl, sym, ap, _∙_, subst}
-use mathlib.Core.Bool.{true, false}
-use Prim.Native.Nat.{ℕ, zero, suc, _+_, _-_}
+use mathlib.Core.Bool.{Bool, true, false, cond}
+use Prim.Native.Nat.{ℕ, zero, suc, _+_, _-_, _≤_}
 use native.Mathlib.Omega.{arith}
-use lib.IntN.{ℤ, pos, negsuc, _+ℤ_, _-ℤ_, natAbs, +ℤ-comm, +ℤ-assoc, +ℤ-negℤ-cancel, -ℤ-+ℤ-cancel}
-use lib.Signed.{leZ, ltZ, nonNeg, _≤ℤ_, _<ℤ_, ltZ-no, clashℤ, pos-natAbs}
+use lib.IntN.{ℤ, pos, negsuc, negℤ, _+ℤ_, _-ℤ_, natAbs, +ℤ-comm, +ℤ-assoc, +ℤ-idl, +ℤ-negℤ-cancel, -ℤ-+ℤ-cancel}
+use lib.Signed.{mag, leZ, ltZ, nonNeg, _≤ℤ_, _<ℤ_, ltZ-no, pos-natAbs}
 use lib.Dec.{T, ltb, leb→le, le→leb}
 use borrow.Author.Tests.{le-ltb}
 use Rattle.lists.proofs.Tests.{case}
 use Rattle.lists.proofs.Tells.{Tells}
 
--- the tests of the order
-pub tells-leℤ : (a b : ℤ) → Tells (leZ a b) (a ≤ℤ b)
-tells-leℤ a b = record { yes = λ q. record { le = subst T (sym q) tt }; no = λ q h. subst T q (h .le) }
-
+-- the test of the order
 pub tells-ltℤ : (a b : ℤ) → Tells (ltZ a b) (a <ℤ b)
 tells-ltℤ a b = record { yes = λ q. record { lt = subst T (sym q) tt }; no = λ q h. subst T q (h .lt) }
 
@@ -56,3 +53,37 @@ pub more-zero : (a : ℤ) → a ≤ℤ pos 0 → a +ℤ pos (natAbs a) ≡ pos 0
 more-zero (pos zero) h = refl
 more-zero (pos (suc n)) h = absurd (omega (arith, leb→le (suc n) 0 (h .le)))
 more-zero (negsuc n) h = rw (le-ltb (suc n) (suc n) (omega arith)) (ap pos (omega arith))
+
+-- ---- how large a number is
+
+mag-sub : (t : Bool) (a b : ℕ) → mag (cond t (negsuc (b - suc a)) (pos (a - b))) ≤ a + b
+mag-sub true a b = omega arith
+mag-sub false a b = omega arith
+
+pub mag-add : (a b : ℤ) → mag (a +ℤ b) ≤ mag a + mag b + 1
+mag-add (pos a) (pos b) = omega arith
+mag-add (pos a) (negsuc b) = omega (arith, mag-sub (ltb a (suc b)) a (suc b))
+mag-add (negsuc a) (pos b) = omega (arith, mag-sub (ltb b (suc a)) b (suc a))
+mag-add (negsuc a) (negsuc b) = omega arith
+
+mag-neg : (a : ℤ) → mag (negℤ a) ≤ mag a + 1
+mag-neg (pos zero) = omega arith
+mag-neg (pos (suc n)) = omega arith
+mag-neg (negsuc n) = omega arith
+
+pub mag-minus : (a b : ℤ) → mag (a -ℤ b) ≤ mag a + mag b + 2
+mag-minus a b = omega (arith, mag-add a (negℤ b), mag-neg b)
+
+pub mag-within : (n : ℕ) (a : ℤ) → negℤ (pos n) ≤ℤ a → a ≤ℤ pos n → mag a ≤ n
+mag-within n (pos a) l h = leb→le a n (h .le)
+mag-within zero (negsuc a) l h = absurd (l .le)
+mag-within (suc n) (negsuc a) l h = omega (arith, leb→le a n (l .le))
+
+pub natAbs-mag : (a : ℤ) → natAbs a ≤ mag a + 1
+natAbs-mag (pos n) = omega arith
+natAbs-mag (negsuc n) = omega arith
+
+pub minus-abs : (a : ℤ) → natAbs (pos 0 -ℤ a) ≡ natAbs a
+minus-abs (pos zero) = refl
+minus-abs (pos (suc n)) = ap natAbs (+ℤ-idl (negsuc n))
+minus-abs (negsuc n) = omega arith

@@ -2,22 +2,23 @@
 -- Why: its states and the differences of the band are the same numbers, lo apart, so the sentence of u ∷ w in the difference x is that of w in x and the step of u.
 -- Assumes nothing.
 use mathlib.Core.Path.{_≡_, refl, sym, ap, _∙_, subst}
-use mathlib.Core.Logic.{_↔_}
-use mathlib.Core.Bool.{true, _&&_}
+use mathlib.Core.Logic.{inl, inr, _↔_, ⊎-elim}
+use mathlib.Core.Bool.{true, false}
 use mathlib.Core.List.{List, [], _∷_}
 use Prim.Native.Nat.{ℕ, zero, suc, _+_, _-_, _<_}
 use native.Mathlib.Omega.{arith}
 use lib.ListN.{take}
 use lib.IntN.{ℤ, pos, _+ℤ_, _-ℤ_, natAbs, +ℤ-assoc, +ℤ-idr}
-use lib.Signed.{leZ, _≤ℤ_}
+use lib.Signed.{_≤ℤ_, clashℤ}
 use Rattle.lists.proofs.Tests.{case}
-use Rattle.lists.proofs.Tells.{Tells, tells-and}
-use Rattle.lists.proofs.Integers.{tells-leℤ, le-more, more-le, more-back, more-more}
+use Rattle.lists.proofs.Integers.{not-belowℤ, le-more, more-le, more-back, more-more}
 use Rattle.automaton.proofs.Sentences.{Steps}
 use Rattle.promises.specs.Text.{bal, Part, statesOf}
 use Rattle.promises.specs.Meaning.{stepOf, sumOf, InBand, Balanced, Says, Admits, Ends, MayStop}
+use Rattle.promises.specs.Reading.{outsideℤ}
 use Rattle.promises.specs.Rig.{balNext, nextOf, markedOf}
 use Rattle.promises.specs.Sentences.{Agrees}
+use Rattle.promises.proofs.Reading.{tells-outsideℤ}
 use Rattle.promises.proofs.Agreeing.{agrees}
 
 module _ (lo hi : ℤ) (band : lo ≤ℤ hi) where
@@ -42,23 +43,27 @@ module _ (lo hi : ℤ) (band : lo ≤ℤ hi) where
           let wide : width ≡ s + n = ap (λ c. natAbs (c -ℤ lo)) (sym (more-le (lo +ℤ pos s) hi h) ∙ more-more lo s n) ∙ more-back lo (s + n) in
           omega arith
 
-  tells-band : (x : ℤ) → Tells (leZ lo x && leZ x hi) (InBand lo hi x)
-  tells-band x = tells-and (tells-leℤ lo x) (tells-leℤ x hi)
+  -- the test of the band
+  pub inside : (x : ℤ) → outsideℤ lo hi x ≡ false → InBand lo hi x
+  inside x q = let out = tells-outsideℤ lo hi x .no q in (not-belowℤ x lo (λ h. out (inl h)), not-belowℤ hi x (λ h. out (inr h)))
+
+  leaves : (x : ℤ) → outsideℤ lo hi x ≡ true → InBand lo hi x → ⊥
+  leaves x q (l, h) = ⊎-elim (λ k. clashℤ k l) (λ k. clashℤ k h) (tells-outsideℤ lo hi x .yes q)
 
   -- one step: it is admitted if it stays in the band, and then the state is the new difference
   pub moves : (d : ℤ) (s : ℕ) → (balNext lo hi d s < natAbs (hi -ℤ lo) + 1) ↔ InBand lo hi (lo +ℤ pos s +ℤ d)
   unfolding balNext
   moves d s =
       let y = lo +ℤ pos s +ℤ d in
-      case (leZ lo y && leZ y hi)
-      (λ t. let i = tells-band y .yes t in rw t (λ h. i, λ i. state-band (natAbs (y -ℤ lo)) .1 (rw (band-state y i) i)))
-      (λ t. rw t (λ h. absurd (omega arith), λ i. absurd (tells-band y .no t i)))
+      case (outsideℤ lo hi y)
+      (λ t. rw t (λ h. absurd (omega arith), λ i. absurd (leaves y t i)))
+      (λ t. let i = inside y t in rw t (λ h. i, λ i. state-band (natAbs (y -ℤ lo)) .1 (rw (band-state y i) i)))
 
   pub moved-to : (d : ℤ) (s : ℕ) → InBand lo hi (lo +ℤ pos s +ℤ d) → lo +ℤ pos (balNext lo hi d s) ≡ lo +ℤ pos s +ℤ d
   unfolding balNext
   moved-to d s i =
       let y = lo +ℤ pos s +ℤ d in
-      case (leZ lo y && leZ y hi) (λ t. rw t (band-state y i)) (λ t. absurd (tells-band y .no t i))
+      case (outsideℤ lo hi y) (λ t. absurd (leaves y t i)) (λ t. rw t (band-state y i))
 
   module _ (step : ℕ → ℤ) where
     balanced-now : (x : ℤ) (w : List ℕ) → Balanced lo hi step x w → InBand lo hi x

@@ -199,7 +199,6 @@ module _ (ls : List Line) (m : Monitor) (q : latest (monitors ls) ≡ some m) wh
     within (suc t) (statesOf (m .kind)) (λ l. h .ranged (rw q (inr (inr (omega arith))))),
   )
   continued (stop s) h = within (suc s) (statesOf (m .kind)) (λ l. h .ranged (rw q (let k : statesOf (m .kind) ≤ s = omega arith in k)))
-
   continued (amp e d) h = (
     within (suc e) (eventsOf ls) (λ l. h .ranged (rw q (inl (omega arith)))),
     not-belowℤ d (negℤ (pos 15)) (λ l. h .ranged (rw q (inr (inl l)))),

@@ -33,7 +33,7 @@ tells-empty (x ∷ l) = record { yes = λ q. contra q refl; no = λ q. not-empty
 tells-outside : (lo hi n : ℕ) → Tells (outside lo hi n) (Outside lo hi n)
 tells-outside lo hi n = tells-or (tells-lt n lo) (tells-lt hi n)
 
-tells-outsideℤ : (lo hi x : ℤ) → Tells (outsideℤ lo hi x) (Outsideℤ lo hi x)
+pub tells-outsideℤ : (lo hi x : ℤ) → Tells (outsideℤ lo hi x) (Outsideℤ lo hi x)
 tells-outsideℤ lo hi x = tells-or (tells-ltℤ x lo) (tells-ltℤ hi x)
 
 -- a line that moves from s on e to u is `go` s e u

@@ -12,13 +12,12 @@ use mathlib.Core.List.{List, map}
 use mathlib.Core.Option.{Option·getD}
 use Prim.Native.Nat.{ℕ, _+_, _-_}
 use lib.IntN.{ℤ, pos, natAbs, _+ℤ_, _-ℤ_}
-use lib.Signed.{leZ}
 use lib.Dec.{eqb, leb}
 use Rattle.lists.specs.Lists.{pick}
 use Rattle.automaton.specs.Automaton.{Automaton, bounded}
 use Rattle.automaton.specs.Joint.{At, joint, jointState}
 use Rattle.promises.specs.Meaning.{stepOf}
-use Rattle.promises.specs.Reading.{moveBy, markedBy}
+use Rattle.promises.specs.Reading.{moveBy, markedBy, outsideℤ}
 use Rattle.promises.specs.Text.{Kind, mon, gap, reply, bal, Part, Line, Monitor, monitors, statesOf, startOf, orderOf, decoded}
 
 -- 'The state of `gap` is the number of coming steps that bar e' (02 no. 5): on e it moves if none does, to the n − 1 steps that follow
@@ -32,7 +31,7 @@ replyNext a b lo hi s u = pick (eqb s 0) (pick (eqb u a) 1 0) (pick (eqb u a) (h
 -- 'An event is admitted if the running difference stays from lo to hi'; 'state j is the difference lo+j' (02 no. 6): in state s an event of step d leads to the
 -- difference x; hi−lo+1 is the number that is no state
 unfoldable pub balNext : ℤ → ℤ → ℤ → ℕ → ℕ
-balNext lo hi d s = let x = lo +ℤ pos s +ℤ d in pick (leZ lo x && leZ x hi) (natAbs (x -ℤ lo)) (natAbs (hi -ℤ lo) + 1)
+balNext lo hi d s = let x = lo +ℤ pos s +ℤ d in pick (outsideℤ lo hi x) (natAbs (hi -ℤ lo) + 1) (natAbs (x -ℤ lo))
 
 -- '`mon`, S: a new monitor with states 0 to S−1'; S itself is the number that is no state. 'Without such a line it doesn't admit e in s.'
 unfoldable pub nextOf : Kind → List Part → ℕ → ℕ → ℕ

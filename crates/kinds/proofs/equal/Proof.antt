@@ -13,6 +13,9 @@ enum-told-2 c = search needs
 enum-known-k : tie.Need-enum-known-k
 enum-known-k c = search needs
 
+enum-told-3 : tie.Need-enum-told-3
+enum-told-3 c = search needs
+
 returns : tie.Need-returns
 returns c = search needs
 
@@ -22,5 +25,10 @@ returns-2 c = search needs
 returns-3 : tie.Need-returns-3
 returns-3 c = rw (c .before .k .given .1)
 
+returns-4 : tie.Need-returns-4
+returns-4 c = search needs
+
 pub equal-spec : {M : Type 1} → statement M
-equal-spec = tie.close (tie.spec enum-told enum-told-2 enum-known-k returns returns-2 returns-3)
+equal-spec =
+    tie.close
+    (tie.spec enum-told enum-told-2 enum-known-k enum-told-3 returns returns-2 returns-3 returns-4)

@@ -1,47 +1,34 @@
--- The rows so far are those of the kind's automaton, and the rest is as it was.
+-- The columns so far are those of the kind's automaton, and the rest is as it was.
 -- Assumes nothing.
 use mathlib.Core.Path.{_≡_, refl, ap, _∙_}
-use mathlib.Core.List.{List, []}
-use Prim.Native.Nat.{ℕ, _+_, _-_, _*_, _≤_}
+use mathlib.Core.List.{List}
+use Prim.Native.Nat.{ℕ, _-_, _≤_}
 use native.Mathlib.Omega.{arith}
+use lib.IntN.{pos}
 use lib.ListN.{length}
-use Rattle.lists.specs.Lists.{overwrite}
-use Rattle.promises.specs.Rig.{nextOf}
-use Rattle.rig.specs.Record.{moveIndex}
-use Rattle.kinds.specs.Kinds.{asKind, entryOf, withRows}
-use Rattle.kinds.proofs.Tables.{rows-more}
+use Rattle.kinds.specs.Kinds.{asKind, withColumn, withColumns}
+use Rattle.kinds.proofs.Tables.{columns-more}
+use Rattle.kinds.proofs.Bands.{few}
 use borrow.Author.Needs.{needs}
 use Rattle.kinds.proofs.fill_moves.Statement.{statement}
 use Rattle.kinds.proofs.fill_moves.Tie as tie
 
 abbrev Inv-loop : tie.InvT-loop
-Inv-loop moves₀ m events k n s₀ moves s =
-    (s ≤ n) × (length moves ≡ length moves₀) × (moves ≡ withRows moves₀ m events n (nextOf (asKind k) []) s)
+Inv-loop moves₀ m events k u₀ moves u =
+    (u ≤ events) × (length moves ≡ length moves₀) × (moves ≡ withColumns moves₀ m (asKind k) u)
 
 abbrev μ-loop : tie.MeasureT-loop
-μ-loop moves₀ m events k n s₀ moves s = n - s
+μ-loop moves₀ m events k u₀ moves u = events - u
 
 loop-holds : tie.Need-loop-holds Inv-loop μ-loop
-unfolding withRows
+unfolding withColumns
 loop-holds c = (omega arith, refl, refl)
 
-mul-at : tie.Need-mul-at Inv-loop μ-loop
-mul-at c = search needs
+fill-column-requires : tie.Need-fill-column-requires Inv-loop μ-loop
+fill-column-requires c κs = let st = c .before .before .before .before in ((c .before .before .loop .inv .1 ∙ st .pre .0 .0, st .pre .0 .1, omega (arith, st .pre .0 .2)), (st .pre .1, refl))
 
-add-at : tie.Need-add-at Inv-loop μ-loop
-add-at c = search needs
-
-mul-at-2 : tie.Need-mul-at-2 Inv-loop μ-loop
-mul-at-2 c = search needs
-
-fill-row-requires : tie.Need-fill-row-requires Inv-loop μ-loop
-fill-row-requires c κs =
-    let st = c .before .before .before .before in
-    let lp = c .before .before .loop in
-    ((omega (arith, lp .inv .1), st .pre .0 .3), (st .pre .1 .0, st .pre .1 .1, omega arith))
-
-add-s : tie.Need-add-s Inv-loop μ-loop
-add-s c = search needs
+add-u : tie.Need-add-u Inv-loop μ-loop
+add-u c = search needs
 
 loop-less : tie.Need-loop-less Inv-loop μ-loop
 loop-less c = search needs
@@ -50,11 +37,10 @@ loop-again : tie.Need-loop-again Inv-loop μ-loop
 loop-again c =
     let st = c .before .before .before .before .before .before .before in
     let lp = c .before .before .before .before .before .loop in
-    let fr = c .before .before .fill-row in
-    let at : (st .args .m * 32 + lp .s) * 16 ≡ moveIndex (st .args .m) (lp .s) 0 = omega arith in (
+    let fc = c .before .before .fill-column in (
       omega arith,
-      fr .kept .0 ∙ lp .inv .1,
-      fr .ensures ∙ ap (λ (l : List ℕ). overwrite l ((st .args .m * 32 + lp .s) * 16) (λ u. entryOf (st .args .n) (nextOf (asKind (st .args .k)) [] (lp .s) u)) (st .args .events)) (lp .inv .2) ∙ rw at (rows-more (st .args .moves .now) (st .args .m) (st .args .events) (st .args .n) (nextOf (asKind (st .args .k)) []) (st .pre .0 .2) (lp .s)),
+      fc .kept .0 ∙ lp .inv .1,
+      fc .ensures ∙ ap (λ (l : List ℕ). withColumn l (st .args .m) (lp .u) (asKind (st .args .k)) (pos 0)) (lp .inv .2) ∙ columns-more (st .args .moves .now) (st .args .m) (asKind (st .args .k)) (few (asKind (st .args .k)) (st .pre .1)) (lp .u),
     )
 
 same-length : tie.Need-same-length Inv-loop μ-loop
@@ -64,8 +50,8 @@ returns : tie.Need-returns Inv-loop μ-loop
 returns c =
     let st = c .before .before .before in
     let lp = c .before .loop in
-    let e : lp .s ≡ st .args .n = omega arith in
-    lp .inv .2 ∙ ap (withRows (st .args .moves .now) (st .args .m) (st .args .events) (st .args .n) (nextOf (asKind (st .args .k)) [])) e
+    let e : lp .u ≡ st .args .events = omega arith in
+    lp .inv .2 ∙ ap (withColumns (st .args .moves .now) (st .args .m) (asKind (st .args .k))) e
 
 pub fill-moves-spec : {M : Type 1} → statement M
 fill-moves-spec =
@@ -74,11 +60,8 @@ fill-moves-spec =
     Inv-loop
     μ-loop
     loop-holds
-    mul-at
-    add-at
-    mul-at-2
-    fill-row-requires
-    add-s
+    fill-column-requires
+    add-u
     loop-less
     loop-again
     same-length

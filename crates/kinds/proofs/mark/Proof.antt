@@ -16,6 +16,9 @@ enum-told-2 c = search needs
 enum-told-3 : tie.Need-enum-told-3
 enum-told-3 c = search needs
 
+enum-told-4 : tie.Need-enum-told-4
+enum-told-4 c = search needs
+
 returns : tie.Need-returns
 unfolding markedOf markedBy
 returns c = rw (c .enum-told .given .1)
@@ -32,6 +35,20 @@ returns-4 : tie.Need-returns-4
 unfolding markedOf markedBy
 returns-4 c = rw (c .before .enum-told3 .given .1, ne-eqb _ _ (c .if1 .left))
 
+returns-5 : tie.Need-returns-5
+unfolding markedOf markedBy
+returns-5 c = rw (c .enum-told4 .given .1)
+
 pub mark-spec : {M : Type 1} → statement M
 mark-spec =
-    tie.close (tie.spec enum-told enum-told-2 enum-told-3 returns returns-2 returns-3 returns-4)
+    tie.close
+    (tie.spec
+    enum-told
+    enum-told-2
+    enum-told-3
+    enum-told-4
+    returns
+    returns-2
+    returns-3
+    returns-4
+    returns-5)

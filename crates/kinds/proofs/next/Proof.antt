@@ -1,10 +1,20 @@
 -- By the kind.
 -- Assumes nothing.
+use mathlib.Core.Path.{_≡_, refl, subst}
+use mathlib.Core.Option.{orElse}
 use Prim.Native.Nat.{_+_, _≤_}
 use native.Mathlib.Omega.{arith}
+use mir.Syntax.{w64}
+use mir.Val.{toZ, ofZ}
+use mir.ValLaws.{toZ-ofZ}
+use borrow.Author.Tests.{eq-eqb}
+use Rattle.lists.specs.Lists.{firstOf}
 use Rattle.promises.specs.Text.{statesOf}
-use Rattle.promises.specs.Reading.{moveBy}
+use Rattle.promises.specs.Meaning.{stepIn, stepOf}
+use Rattle.promises.specs.Reading.{leadsTo}
 use Rattle.promises.specs.Rig.{nextOf}
+use Rattle.kinds.specs.Kinds.{asKind, InRange}
+use Rattle.kinds.proofs.Bands.{few, some-state}
 use borrow.Author.Needs.{needs}
 use Rattle.kinds.proofs.next.Statement.{statement}
 use Rattle.kinds.proofs.next.Tie as tie
@@ -16,16 +26,26 @@ enum-known-k-2 : tie.Need-enum-known-k-2
 enum-known-k-2 c = search needs
 
 gap-next-requires : tie.Need-gap-next-requires
-gap-next-requires c κs = let k = c .before .k2 .given in (unfold statesOf in rw (k .1) at (c .before .before .before .pre .0))
+gap-next-requires c κs = let k = c .before .k2 .given in unfold statesOf in rw (k .1) at (some-state (asKind (c .before .before .before .args .k)) (c .before .before .before .pre .0))
 
 enum-known-k-3 : tie.Need-enum-known-k-3
 enum-known-k-3 c = search needs
 
 reply-next-requires : tie.Need-reply-next-requires
-reply-next-requires c κs = let k = c .before .k3 .given in let h : k .0 .1 .1 .1 .0 + 1 ≤ 32 = unfold statesOf in rw (k .1) at (c .before .before .before .pre .1) in (omega arith, c .before .before .before .pre .2)
+reply-next-requires c κs = let k = c .before .k3 .given in let h : k .0 .1 .1 .1 .0 + 1 ≤ 32 = unfold statesOf in rw (k .1) at (few (asKind (c .before .before .before .args .k)) (c .before .before .before .pre .0)) in (omega arith, c .before .before .before .pre .2)
+
+enum-known-k-4 : tie.Need-enum-known-k-4
+enum-known-k-4 c = search needs
+
+bal-next-requires : tie.Need-bal-next-requires
+bal-next-requires c κs =
+    let k = c .before .k4 .given in
+    let lo : toZ w64 (ofZ w64 (k .0 .0)) ≡ k .0 .0 = search needs in
+    let hi : toZ w64 (ofZ w64 (k .0 .1 .0)) ≡ k .0 .1 .0 = search needs in
+    rw (lo, hi, toZ-ofZ w64 (c .before .before .before .args .d) (c .before .before .before .fits .d)) (subst (λ k. InRange (asKind k)) (k .1) (c .before .before .before .pre .0), c .before .before .before .pre .1, c .before .before .before .pre .2)
 
 returns : tie.Need-returns
-unfolding nextOf moveBy
+unfolding nextOf firstOf leadsTo orElse
 returns c = rw (c .before .k .given .1)
 
 returns-2 : tie.Need-returns-2
@@ -36,6 +56,15 @@ returns-3 : tie.Need-returns-3
 unfolding nextOf
 returns-3 c = rw (c .before .before .k3 .given .1) (c .reply-next .ensures)
 
+returns-4 : tie.Need-returns-4
+unfolding nextOf stepOf firstOf stepIn orElse
+returns-4 c =
+    let k = c .before .before .k4 .given in
+    let lo : toZ w64 (ofZ w64 (k .0 .0)) ≡ k .0 .0 = search needs in
+    let hi : toZ w64 (ofZ w64 (k .0 .1 .0)) ≡ k .0 .1 .0 = search needs in
+    let q = c .bal-next .ensures in
+    rw (k .1, eq-eqb (c .before .before .before .before .args .u) (c .before .before .before .before .args .u) refl) (rw (lo, hi, toZ-ofZ w64 (c .before .before .before .before .args .d) (c .before .before .before .before .fits .d)) at q)
+
 pub next-spec : {M : Type 1} → statement M
 next-spec =
     tie.close
@@ -45,6 +74,9 @@ next-spec =
     gap-next-requires
     enum-known-k-3
     reply-next-requires
+    enum-known-k-4
+    bal-next-requires
     returns
     returns-2
-    returns-3)
+    returns-3
+    returns-4)

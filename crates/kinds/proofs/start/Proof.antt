@@ -1,6 +1,15 @@
 -- By the kind.
 -- Assumes nothing.
+use mathlib.Core.Path.{_≡_, subst}
+use native.Mathlib.Omega.{arith}
+use lib.IntN.{pos, _-ℤ_}
+use mir.Syntax.{w64}
+use mir.Val.{toZ, ofZ}
+use mir.ValLaws.{toZ-ofZ}
+use Rattle.lists.proofs.Integers.{less-nonNeg, minus-abs, natAbs-mag}
 use Rattle.promises.specs.Text.{startOf}
+use Rattle.kinds.specs.Kinds.{asKind, InRange}
+use Rattle.kinds.proofs.Bands.{bounds, minus-fits}
 use borrow.Author.Needs.{needs}
 use Rattle.kinds.proofs.start.Statement.{statement}
 use Rattle.kinds.proofs.start.Tie as tie
@@ -14,6 +23,23 @@ enum-told c = search needs
 enum-told-2 : tie.Need-enum-told-2
 enum-told-2 c = search needs
 
+enum-known-k-2 : tie.Need-enum-known-k-2
+enum-known-k-2 c = search needs
+
+sub-result : tie.Need-sub-result
+sub-result c =
+    let k = c .before .k2 .given in
+    let lo : toZ w64 (ofZ w64 (k .0 .0)) ≡ k .0 .0 = search needs in
+    let b = bounds (k .0 .0) (k .0 .1 .0) (subst (λ k. InRange (asKind k)) (k .1) (c .before .before .before .pre)) in
+    rw lo (minus-fits (k .0 .0) (k .0 .1 .0) b)
+
+cast-result : tie.Need-cast-result
+cast-result c =
+    let k = c .before .k2 .given in
+    let lo : toZ w64 (ofZ w64 (k .0 .0)) ≡ k .0 .0 = search needs in
+    let b = bounds (k .0 .0) (k .0 .1 .0) (subst (λ k. InRange (asKind k)) (k .1) (c .before .before .before .pre)) in
+    rw (lo, toZ-ofZ w64 (pos 0 -ℤ k .0 .0) (minus-fits (k .0 .0) (k .0 .1 .0) b)) (less-nonNeg (k .0 .0) (pos 0) (b .with-zero), record { fits = omega (arith, minus-abs (k .0 .0), natAbs-mag (k .0 .0), b .low) })
+
 returns : tie.Need-returns
 unfolding startOf
 returns c = rw (c .before .k .given .1)
@@ -26,5 +52,25 @@ returns-3 : tie.Need-returns-3
 unfolding startOf
 returns-3 c = rw (c .enum-told2 .given .1)
 
+returns-4 : tie.Need-returns-4
+unfolding startOf
+returns-4 c =
+    let k = c .before .k2 .given in
+    let lo : toZ w64 (ofZ w64 (k .0 .0)) ≡ k .0 .0 = search needs in
+    let b = bounds (k .0 .0) (k .0 .1 .0) (subst (λ k. InRange (asKind k)) (k .1) (c .before .before .before .pre)) in
+    rw (lo, toZ-ofZ w64 (pos 0 -ℤ k .0 .0) (minus-fits (k .0 .0) (k .0 .1 .0) b), k .1) (minus-abs (k .0 .0))
+
 pub start-spec : {M : Type 1} → statement M
-start-spec = tie.close (tie.spec enum-known-k enum-told enum-told-2 returns returns-2 returns-3)
+start-spec =
+    tie.close
+    (tie.spec
+    enum-known-k
+    enum-told
+    enum-told-2
+    enum-known-k-2
+    sub-result
+    cast-result
+    returns
+    returns-2
+    returns-3
+    returns-4)
