@@ -1,40 +1,49 @@
 -- What the reader's state says of the lines that it has read, none of them bad: every test that the reader makes is the paper's, and a line more keeps it so.
 --   Tabled ms E mv sp ct st == the tables are those of the monitors ms over E events; past the last they are blank
---   Holds r ls z mv sp ct st os == the sizes z, the tables mv, sp, ct and st and the list os are those of the lines ls, read into the record r
+--   Given ms gv        == the list gv has which events the `amp` lines of the monitors ms give a step
+--   Holds r ls z mv sp gv ct st os == the sizes z, the tables mv, sp, gv, ct and st and the list os are those of the lines ls, read into the record r
 -- Assumes nothing.
 use mathlib.Core.Path.{_≡_, refl, sym, ap, ap₂, _∙_, subst}
 use mathlib.Core.Logic.{_≢_, ⊎-elim}
-use mathlib.Core.Bool.{Bool, true, false, not, _||_}
+use mathlib.Core.Bool.{Bool, true, false, not, _&&_, _||_}
 use mathlib.Core.List.{List, [], _∷_, _++_, List·Memᴰ as In}
-use mathlib.Core.Option.{some}
+use mathlib.Core.Option.{Option, none, some, orElse}
 use Prim.Native.Nat.{ℕ, suc, _+_, _-_, _*_, _≤_, _<_}
 use native.Mathlib.Nat.{eq-or-lt-of-le}
 use native.Mathlib.Omega.{arith}
+use lib.IntN.{ℤ, pos, negℤ, natAbs, _+ℤ_, _-ℤ_, -ℤ-+ℤ-cancel}
+use lib.Signed.{clashℤ, pos-natAbs}
 use lib.ListN.{length, getD, take, drop, set, length-set, length-append}
 use lib.Seq.{getD-set-same, getD-set-other, take-at}
 use lib.Dec.{eqb, leb}
 use borrow.Author.Tests.{eq-eqb, ne-eqb, eqb-true, eqb-false, leb-false, not-false}
-use Rattle.lists.specs.Lists.{pick, any}
+use Rattle.lists.specs.Lists.{pick, any, firstOf, isSome}
 use Rattle.lists.proofs.Tables.{length-range, take-range}
-use Rattle.lists.proofs.Tests.{contra, case, or-left, or-rest}
+use Rattle.lists.proofs.Tests.{contra, case, and-left, and-right, or-left, or-rest}
+use Rattle.lists.proofs.Tells.{tells-false}
+use Rattle.lists.proofs.Firsts.{or-none, first-snoc}
+use Rattle.lists.proofs.Integers.{less-nonNeg, minus-back}
 use Rattle.lists.proofs.Members.{getD-in}
-use Rattle.promises.specs.Text.{Kind, mon, gap, reply, Part, go, stop, Line, rig, ord, begins, continues, other, Monitor, addPart, extended, monitorsFrom, monitors, statesOf, startOf, latest, product, eventsOf, reordered, orderFrom, orderOf, beginning, cases, Case5}
-use Rattle.promises.specs.Reading.{empty, isSome, moveBy, markedBy, isMon, testBeginning, ofLatest, testContinuing, tests, lineCase}
-use Rattle.promises.proofs.Lines.{monitors-more, order-more, length-addPart, product-addPart, product-append, Ranged, PartRanged, Kept, Headed, Formed, few-states, begun, sound-formed, nothing-formed}
-use Rattle.promises.proofs.Reading.{moved, case-sound}
+use Rattle.promises.specs.Text.{Kind, mon, gap, reply, bal, Part, go, stop, amp, Line, rig, ord, begins, continues, other, Monitor, addPart, extended, monitorsFrom, monitors, statesOf, startOf, latest, product, eventsOf, reordered, orderFrom, orderOf, OutOfRange, beginning, cases, Case5}
+use Rattle.promises.specs.Meaning.{stepIn}
+use Rattle.promises.specs.Reading.{empty, moveBy, markedBy, stepBy, outsideℤ, isMon, isBal, testBeginning, ofLatest, testContinuing, tests, lineCase}
+use Rattle.promises.proofs.Lines.{monitors-more, order-more, length-addPart, product-addPart, product-append, Ranged, PartRanged, Kept, Headed, Formed, band, few-states, begun, sound-formed, nothing-formed}
+use Rattle.promises.proofs.Reading.{moved, tells-out, case-sound}
 use Rattle.rig.specs.declared.Rig.{Rig}
 use Rattle.rig.specs.Record.{moveIndex, moveAt, stopIndex, stopAt, lowerFirst}
 use Rattle.decoding.specs.Forms.{over, kindOf, formOf}
 use Rattle.decoding.proofs.Listed.{length-over, Leaves}
-use Rattle.kinds.specs.Kinds.{asKind, monStates, kindMoves, kindStops}
-use Rattle.kinds.proofs.Tables.{Blank, OfKind, length-moves, length-stops, moves-beside, stops-beside, fills}
+use Rattle.kinds.specs.declared.Band.{Band}
+use Rattle.kinds.specs.declared.Band.the-variants.{From, Absent}
+use Rattle.kinds.specs.Kinds.{asKind, InRange, monStates, bandOf, withColumn, kindMoves, kindStops}
+use Rattle.kinds.proofs.Tables.{Blank, OfKind, length-column, length-moves, length-stops, moves-beside, stops-beside, fills}
 use Rattle.reader.specs.declared.Sizes.{Sizes}
 use Rattle.reader.specs.Reading.{withPart, withLine, recordFrom}
 use Rattle.reader.specs.Record.{nobody}
-use Rattle.reader.specs.Taking.{Allowed, rigCase, rigSizes, ordCase, kindCase, goCase, goMoves, stopCase, stopStops, caseOf, sizesAfter, movesAfter, stopsAfter, countsAfter, startsAfter}
-use Rattle.reader.proofs.Monitors.{monitorAt, events-snoc, empty-nil, empty-snoc, empty-length, addPart-at, addPart-beside, latest-at, new-before, new-at}
+use Rattle.reader.specs.Taking.{Allowed, rigCase, rigSizes, ordCase, kindCase, goCase, goMoves, stopCase, stopStops, isBand, givenIndex, givenAt, ampCase, columnIn, ampMoves, ampGiven, caseOf, sizesAfter, movesAfter, stopsAfter, givenAfter, countsAfter, startsAfter}
+use Rattle.reader.proofs.Monitors.{monitorAt, events-snoc, empty-nil, empty-snoc, empty-length, addPart-at, addPart-beside, latest-at, new-before, new-at, new-parts}
 use Rattle.reader.proofs.Listed.{over-events, front-any, ord-case}
-use Rattle.reader.proofs.Tables.{Same, same-blank, same-kind, go-beside, stop-beside, seen, seen-mark, with-go, with-stop}
+use Rattle.reader.proofs.Tables.{Same, same-blank, same-kind, go-beside, stop-beside, amp-beside, seen, seen-mark, with-go, with-stop, with-amp}
 
 pub record Tabled (ms : List Monitor) (E : ℕ) (mv sp ct st : List ℕ) : Type 0 where
   pub tables : (k : ℕ) → k < length ms → OfKind mv sp k E (monitorAt ms k .kind) (monitorAt ms k .parts)
@@ -42,18 +51,24 @@ pub record Tabled (ms : List Monitor) (E : ℕ) (mv sp ct st : List ℕ) : Type 
   pub counts : (k : ℕ) → k < length ms → getD ct k 0 ≡ statesOf (monitorAt ms k .kind)
   pub starts : (k : ℕ) → k < length ms → getD st k 0 ≡ startOf (monitorAt ms k .kind)
 
-pub record Holds (r : Rig) (ls : List Line) (z : Sizes) (mv sp ct st os : List ℕ) : Type 0 where
+unfoldable pub Given : List Monitor → List ℕ → Type 0
+Given ms gv = (k e : ℕ) → k < 4 → e < 16 → givenAt gv k e ≡ pick (isSome (stepBy (monitorAt ms k .parts) e)) 1 0
+
+pub record Holds (r : Rig) (ls : List Line) (z : Sizes) (mv sp gv ct st os : List ℕ) : Type 0 where
   pub formed : Formed ls
   pub events-are : eventsOf ls ≡ z .events
   pub monitors-are : length (monitors ls) ≡ z .monitors
   pub joint-is : product (monitors ls) ≡ z .joint
   pub latest-is : monStates (kindOf (monitorAt (monitors ls) (z .monitors - 1) .kind)) ≡ z .latest
+  pub band-is : bandOf (kindOf (monitorAt (monitors ls) (z .monitors - 1) .kind)) ≡ z .band
   pub tabled : Tabled (monitors ls) (z .events) mv sp ct st
+  pub given-are : Given (monitors ls) gv
   pub ordered : take (z .events) os ≡ orderOf ls
   pub unordered : z .events ≡ 0 → os ≡ lowerFirst
   pub recorded : recordFrom r ls ≡ record { moves = mv; stops = sp; counts = ct; starts = st; order = os; monitors = z .monitors; events = z .events }
   pub long : length mv ≡ 2048
   pub wide-stops : length sp ≡ 128
+  pub wide-given : length gv ≡ 64
   pub wide : length ct ≡ 4
   pub wide-starts : length st ≡ 4
   pub wide-order : length os ≡ 16
@@ -65,15 +80,18 @@ recordFrom-snoc r (k ∷ ls) l = recordFrom-snoc (withLine r k) ls l
 
 -- ---- no line yet
 
-pub holds-none : (mv sp ct st : List ℕ) → ((i : ℕ) → i < 2048 → getD mv i 0 ≡ 255) → ((i : ℕ) → i < 128 → getD sp i 0 ≡ 0) → length mv ≡ 2048 → length sp ≡ 128 → length ct ≡ 4 → length st ≡ 4
-    → Holds (record { moves = mv; stops = sp; counts = ct; starts = st; order = lowerFirst; monitors = 0; events = 0 }) [] (record { events = 0; monitors = 0; latest = 0; joint = 1 }) mv sp ct st lowerFirst
-unfolding eventsOf orderOf orderFrom monitors monitorsFrom product recordFrom
-holds-none mv sp ct st blank unmarked long wide-stops wide wide-starts = record {
+pub holds-none : (mv sp gv ct st : List ℕ) → ((i : ℕ) → i < 2048 → getD mv i 0 ≡ 255) → ((i : ℕ) → i < 128 → getD sp i 0 ≡ 0) → ((i : ℕ) → i < 64 → getD gv i 0 ≡ 0)
+    → length mv ≡ 2048 → length sp ≡ 128 → length gv ≡ 64 → length ct ≡ 4 → length st ≡ 4
+    → Holds (record { moves = mv; stops = sp; counts = ct; starts = st; order = lowerFirst; monitors = 0; events = 0 }) [] (record { events = 0; monitors = 0; latest = 0; band = Absent; joint = 1 }) mv sp gv ct st lowerFirst
+unfolding eventsOf orderOf orderFrom monitors monitorsFrom product recordFrom Given firstOf
+holds-none mv sp gv ct st blank unmarked none-given long wide-stops wide-given wide wide-starts = record {
   formed = nothing-formed;
   events-are = refl;
   monitors-are = refl;
   joint-is = refl;
   latest-is = refl;
+  band-is = refl;
+  given-are = λ k e hk he. none-given (givenIndex k e) (omega arith);
   tabled = record {
     tables = λ k h. absurd (omega arith);
     blank = λ k h l. record { no-move = λ s e hs he. blank (moveIndex k s e) (omega arith); no-mark = λ s hs. unmarked (stopIndex k s) (omega arith) };
@@ -85,6 +103,7 @@ holds-none mv sp ct st blank unmarked long wide-stops wide wide-starts = record 
   recorded = refl;
   long = long;
   wide-stops = wide-stops;
+  wide-given = wide-given;
   wide = wide;
   wide-starts = wide-starts;
   wide-order = length-range 16;
@@ -126,6 +145,7 @@ as-kind : (k : Kind) → asKind (kindOf k) ≡ k
 as-kind (mon S a) = refl
 as-kind (gap e n) = refl
 as-kind (reply a b lo hi) = refl
+as-kind (bal lo hi) = refl
 
 -- in range, a kind that a `go` or `stop` line can be of has states to name, and no other has
 mon-named : (E : ℕ) (k : Kind) → Ranged E k → not (isMon k) ≡ eqb (monStates (kindOf k)) 0
@@ -133,17 +153,51 @@ unfolding Ranged
 mon-named E (mon S a) r = sym (ne-eqb S 0 (λ q. omega arith))
 mon-named E (gap e n) r = refl
 mon-named E (reply a b lo hi) r = refl
+mon-named E (bal lo hi) r = refl
 
 few-named : (E : ℕ) (k : Kind) → Ranged E k → monStates (kindOf k) ≤ 32
 unfolding Ranged
 few-named E (mon S a) r = omega arith
 few-named E (gap e n) r = omega arith
 few-named E (reply a b lo hi) r = omega arith
+few-named E (bal lo hi) r = omega arith
 
 is-mon : (k : Kind) → eqb (monStates (kindOf k)) 0 ≡ false → (S : ℕ) × (a : ℕ) × (k ≡ mon S a) × (monStates (kindOf k) ≡ S)
 is-mon (mon S a) p = (S, a, refl, refl)
 is-mon (gap e n) p = contra refl p
 is-mon (reply a b lo hi) p = contra refl p
+is-mon (bal lo hi) p = contra refl p
+
+-- a kind that an `amp` line can be of has a band, and no other has
+bal-banded : (k : Kind) → isBal k ≡ isBand (bandOf (kindOf k))
+bal-banded (mon S a) = refl
+bal-banded (gap e n) = refl
+bal-banded (reply a b lo hi) = refl
+bal-banded (bal lo hi) = refl
+
+is-bal : (k : Kind) (lo hi : ℤ) → bandOf (kindOf k) ≡ From lo hi → k ≡ bal lo hi
+is-bal (mon S a) lo hi q = let z : _≡_ {A = ℕ} 0 1 = cc in absurd (omega arith)
+is-bal (gap e n) lo hi q = let z : _≡_ {A = ℕ} 0 1 = cc in absurd (omega arith)
+is-bal (reply a b l h) lo hi q = let z : _≡_ {A = ℕ} 0 1 = cc in absurd (omega arith)
+is-bal (bal l h) lo hi q = let x : l ≡ lo = cc in let y : h ≡ hi = cc in ap₂ bal x y
+
+from-band : (b : Band) → not (isBand b) ≡ false → (lo : ℤ) × (hi : ℤ) × (b ≡ From lo hi)
+from-band (From lo hi) p = (lo, hi, refl)
+from-band Absent p = contra refl p
+
+-- a band is in its range, and its ends are told by the start and the number of states
+module _ (E : ℕ) (lo hi : ℤ) (r : Ranged E (bal lo hi)) where
+  bal-in-range : InRange (bal lo hi)
+  unfolding Ranged OutOfRange
+  bal-in-range = let (l, low, high, h) = r in (E, tells-false (tells-out E (bal lo hi)) (λ o. ⊎-elim (⊎-elim (λ x. clashℤ x l) (λ x. clashℤ x low)) (⊎-elim (λ x. clashℤ x high) (λ x. clashℤ x h)) o), refl)
+
+  bal-back : bal (negℤ (pos (startOf (bal lo hi)))) (pos (statesOf (bal lo hi) - 1) -ℤ pos (startOf (bal lo hi))) ≡ bal lo hi
+  unfolding Ranged startOf statesOf
+  bal-back =
+      let (l, low, high, h) = r in
+      let start : negℤ (pos (natAbs lo)) ≡ lo = minus-back lo low in
+      let width : pos (natAbs (hi -ℤ lo) + 1 - 1) ≡ hi -ℤ lo = ap pos (let q : natAbs (hi -ℤ lo) + 1 - 1 ≡ natAbs (hi -ℤ lo) = omega arith in q) ∙ pos-natAbs (hi -ℤ lo) (less-nonNeg lo hi (band lo hi low high)) in
+      ap₂ bal start (ap₂ _+ℤ_ width start ∙ -ℤ-+ℤ-cancel hi lo)
 
 -- ---- the tables with one line more
 
@@ -204,7 +258,49 @@ module _ (p : Part) (ms : List Monitor) (E m : ℕ) (mv sp mv′ sp′ ct st : L
       there : (k : ℕ) → k < length ms → (k ≡ m → ⊥) → OfKind mv′ sp′ k E (monitorAt (addPart p ms) k .kind) (monitorAt (addPart p ms) k .parts)
       there k h ne = rw (addPart-beside p ms k (λ q. ne (omega arith))) (same-kind mv sp mv′ sp′ k (beside k ne) E (monitorAt ms k .kind) (monitorAt ms k .parts) fewE (ranged (monitorAt ms k) (getD-in ms k nobody h)) (T .tables k h))
 
-module _ (r : Rig) (ls : List Line) (z : Sizes) (mv sp ct st os : List ℕ) (H : Holds r ls z mv sp ct st os) where
+-- ---- the steps given with one line more
+
+given-kept : (p : Part) (ms : List Monitor) (gv : List ℕ) → ((e : ℕ) → stepIn e p ≡ none) → Given ms gv → Given (addPart p ms) gv
+unfolding Given
+given-kept p ms gv no-step G k e hk he = G k e hk he ∙ ap (λ o. pick (isSome o) 1 0) (sym same)
+  where
+    same : stepBy (monitorAt (addPart p ms) k .parts) e ≡ stepBy (monitorAt ms k .parts) e
+    same = case (eqb (suc k) (length ms))
+        (λ q. rw (addPart-at p ms k (eqb-true (suc k) (length ms) q)) (first-snoc (stepIn e) (monitorAt ms k .parts) p ∙ ap (orElse (stepBy (monitorAt ms k .parts) e)) (no-step e) ∙ or-none (stepBy (monitorAt ms k .parts) e)))
+        (λ q. rw (addPart-beside p ms k (eqb-false (suc k) (length ms) q)))
+
+-- an `amp` line gives no other event a step
+other-event : (e u : ℕ) (d : ℤ) → eqb e u ≡ false → stepIn u (amp e d) ≡ none
+unfolding stepIn
+other-event e u d q = rw q
+
+given-amp : (e : ℕ) (d : ℤ) (ms : List Monitor) (m : ℕ) (gv : List ℕ) → suc m ≡ length ms → m < 4 → e < 16 → length gv ≡ 64 → Given ms gv → Given (addPart (amp e d) ms) (set gv (givenIndex m e) 1)
+unfolding Given
+given-amp e d ms m gv last hm he wide G k u hk hu = case (eqb k m && eqb e u) (λ q. here (eqb-true k m (and-left (eqb k m) (eqb e u) q)) (eqb-true e u (and-right (eqb k m) (eqb e u) q))) (λ q. elsewhere q)
+  where
+    found : isSome (stepBy (monitorAt (addPart (amp e d) ms) m .parts) e) ≡ true
+    found = rw (addPart-at (amp e d) ms m last, first-snoc (stepIn e) (monitorAt ms m .parts) (amp e d)) (some-or (stepBy (monitorAt ms m .parts) e))
+      where
+        some-or : (o : Option ℤ) → isSome (orElse o (stepIn e (amp e d))) ≡ true
+        some-or none = unfold stepIn orElse in rw (eq-eqb e e refl)
+        some-or (some c) = unfold orElse in refl
+
+    here : k ≡ m → e ≡ u → givenAt (set gv (givenIndex m e) 1) k u ≡ pick (isSome (stepBy (monitorAt (addPart (amp e d) ms) k .parts) u)) 1 0
+    here p q = rw (p, ← q, found) (getD-set-same gv (givenIndex m e) 1 0 (omega arith))
+
+    elsewhere : (eqb k m && eqb e u) ≡ false → givenAt (set gv (givenIndex m e) 1) k u ≡ pick (isSome (stepBy (monitorAt (addPart (amp e d) ms) k .parts) u)) 1 0
+    elsewhere q =
+        getD-set-other gv (givenIndex m e) (givenIndex k u) 1 0 (λ p. contra (ap₂ _&&_ (eq-eqb k m (omega arith)) (eq-eqb e u (omega arith))) q)
+        ∙ G k u hk hu ∙ ap (λ o. pick (isSome o) 1 0) (sym (same (eqb k m) refl))
+      where
+        same : (b : Bool) → eqb k m ≡ b → stepBy (monitorAt (addPart (amp e d) ms) k .parts) u ≡ stepBy (monitorAt ms k .parts) u
+        same false p = rw (addPart-beside (amp e d) ms k (λ w. eqb-false k m p (omega arith)))
+        same true p =
+            let other : eqb e u ≡ false = ap (λ b. b && eqb e u) (sym p) ∙ q in
+            rw (addPart-at (amp e d) ms k (omega (arith, eqb-true k m p)))
+            (first-snoc (stepIn u) (monitorAt ms k .parts) (amp e d) ∙ ap (orElse (stepBy (monitorAt ms k .parts) u)) (other-event e u d other) ∙ or-none (stepBy (monitorAt ms k .parts) u))
+
+module _ (r : Rig) (ls : List Line) (z : Sizes) (mv sp gv ct st os : List ℕ) (H : Holds r ls z mv sp gv ct st os) where
   kept : (m : Monitor) → In m (monitors ls) → Kept (eventsOf ls) m
   kept = H .formed .monitored .each
 
@@ -231,6 +327,24 @@ module _ (r : Rig) (ls : List Line) (z : Sizes) (mv sp ct st os : List ℕ) (H :
       nothing [] e = refl
       nothing (m ∷ ms) e = absurd (omega arith)
 
+  none-banded : z .monitors ≡ 0 → Absent ≡ z .band
+  none-banded q = rw (← H .band-is, q) (nothing (monitors ls) (H .monitors-are ∙ q))
+    where
+      nothing : (ms : List Monitor) → length ms ≡ 0 → Absent ≡ bandOf (kindOf (monitorAt ms (0 - 1) .kind))
+      nothing [] e = refl
+      nothing (m ∷ ms) e = absurd (omega arith)
+
+  -- where there is a band, the latest monitor is a `bal`
+  module _ (lo hi : ℤ) (b : z .band ≡ From lo hi) where
+    some-banded : 1 ≤ z .monitors
+    some-banded = case (eqb (z .monitors) 0) (λ q. let n = none-banded (eqb-true _ 0 q) ∙ b in let w : _≡_ {A = ℕ} 0 1 = cc in absurd (omega arith)) (λ q. omega (arith, eqb-false (z .monitors) 0 q))
+
+    last-bal : last .kind ≡ bal lo hi
+    last-bal = is-bal (last .kind) lo hi (H .band-is ∙ b)
+
+    last-band : Ranged (eventsOf ls) (bal lo hi)
+    last-band = subst (Ranged (eventsOf ls)) last-bal (last-kept some-banded .ranged)
+
   pub room : Allowed z
   room = record {
     few-events = few-z;
@@ -238,6 +352,8 @@ module _ (r : Rig) (ls : List Line) (z : Sizes) (mv sp ct st os : List ℕ) (H :
     few-latest = case (eqb (z .monitors) 0) (λ q. omega (arith, none-named (eqb-true _ 0 q)))
         (λ q. rw (← H .latest-is) (few-named (eventsOf ls) (last .kind) (last-kept (omega (arith, eqb-false (z .monitors) 0 q)) .ranged)));
     none-latest = none-named;
+    some-band = some-banded;
+    in-band = λ lo hi b. bal-in-range (eventsOf ls) lo hi (last-band lo hi b);
     few-joint = rw (← H .joint-is) (H .formed .monitored .small);
   }
 
@@ -261,16 +377,21 @@ module _ (r : Rig) (ls : List Line) (z : Sizes) (mv sp ct st os : List ℕ) (H :
       nothing [] e = unfold latest ofLatest in refl
       nothing (m ∷ ms) e = absurd (omega arith)
 
-  -- the latest monitor, which is a `mon`
-  module _ (placed : eqb (z .latest) 0 ≡ false) where
-    some-monitor : 1 ≤ z .monitors
-    some-monitor = case (eqb (z .monitors) 0) (λ q. absurd (eqb-false (z .latest) 0 placed (none-named (eqb-true _ 0 q)))) (λ q. omega (arith, eqb-false (z .monitors) 0 q))
-
+  -- the latest monitor, where there is one
+  module _ (there : 1 ≤ z .monitors) where
     last-at : suc (z .monitors - 1) ≡ length (monitors ls)
-    last-at = omega (arith, some-monitor, H .monitors-are)
+    last-at = omega (arith, there, H .monitors-are)
 
     latest-is-last : latest (monitors ls) ≡ some last
     latest-is-last = latest-at (monitors ls) (z .monitors - 1) last-at
+
+    last-table : OfKind mv sp (z .monitors - 1) (z .events) (last .kind) (last .parts)
+    last-table = H .tabled .tables (z .monitors - 1) (omega (arith, last-at))
+
+  -- which is a `mon`
+  module _ (placed : eqb (z .latest) 0 ≡ false) where
+    some-monitor : 1 ≤ z .monitors
+    some-monitor = case (eqb (z .monitors) 0) (λ q. absurd (eqb-false (z .latest) 0 placed (none-named (eqb-true _ 0 q)))) (λ q. omega (arith, eqb-false (z .monitors) 0 q))
 
     last-mon : (S : ℕ) × (a : ℕ) × (last .kind ≡ mon S a) × (z .latest ≡ S)
     last-mon = let (S, a, q, e) = is-mon (last .kind) (rw (H .latest-is) placed) in (S, a, q, sym (H .latest-is) ∙ e)
@@ -284,14 +405,11 @@ module _ (r : Rig) (ls : List Line) (z : Sizes) (mv sp ct st os : List ℕ) (H :
     unfolding PartRanged
     moves-within s e u q = rw (← last-states) (last-kept some-monitor .parts-ranged (go s e u) (moved (last .parts) s e u q) .2)
 
-    last-table : OfKind mv sp (z .monitors - 1) (z .events) (last .kind) (last .parts)
-    last-table = H .tabled .tables (z .monitors - 1) (omega (arith, last-at))
-
     out-of-range : (s e t : ℕ)
         → ofLatest (λ m. leb (statesOf (m .kind)) s || (leb (eventsOf ls) e || leb (statesOf (m .kind)) t)) (latest (monitors ls))
         ≡ (leb (z .latest) s || (leb (z .events) e || leb (z .latest) t))
     unfolding ofLatest
-    out-of-range s e t = rw (latest-is-last, last-states, H .events-are)
+    out-of-range s e t = rw (latest-is-last some-monitor, last-states, H .events-are)
 
     again : (s e t : ℕ) → (leb (z .latest) s || (leb (z .events) e || leb (z .latest) t)) ≡ false
         → ofLatest (λ m. isSome (moveBy (m .parts) s e)) (latest (monitors ls)) ≡ not (eqb (moveAt mv (z .monitors - 1) s e) 255)
@@ -300,18 +418,18 @@ module _ (r : Rig) (ls : List Line) (z : Sizes) (mv sp ct st os : List ℕ) (H :
         let (S, a, q, n) = last-mon in
         let hs = leb-false (z .latest) s (or-left (leb (z .latest) s) _ p) in
         let he = leb-false (z .events) e (or-left (leb (z .events) e) _ (or-rest (leb (z .latest) s) _ p)) in
-        rw latest-is-last (seen mv sp (z .monitors - 1) (z .events) S a (last .parts) (subst (λ k. OfKind mv sp (z .monitors - 1) (z .events) k (last .parts)) q last-table)
+        rw (latest-is-last some-monitor) (seen mv sp (z .monitors - 1) (z .events) S a (last .parts) (subst (λ k. OfKind mv sp (z .monitors - 1) (z .events) k (last .parts)) q (last-table some-monitor))
         (rw (← n) (room .few-latest)) (λ s e u m. rw (← n) (moves-within s e u m)) s e (rw (← n) hs) he)
 
     state-out-of-range : (s : ℕ) → ofLatest (λ m. leb (statesOf (m .kind)) s) (latest (monitors ls)) ≡ leb (z .latest) s
     unfolding ofLatest
-    state-out-of-range s = rw (latest-is-last, last-states)
+    state-out-of-range s = rw (latest-is-last some-monitor, last-states)
 
     marked-again : (s : ℕ) → leb (z .latest) s ≡ false → ofLatest (λ m. markedBy (m .parts) s) (latest (monitors ls)) ≡ not (eqb (stopAt sp (z .monitors - 1) s) 0)
     unfolding ofLatest
     marked-again s p =
         let (S, a, q, n) = last-mon in
-        rw latest-is-last (seen-mark mv sp (z .monitors - 1) (z .events) S a (last .parts) (subst (λ k. OfKind mv sp (z .monitors - 1) (z .events) k (last .parts)) q last-table)
+        rw (latest-is-last some-monitor) (seen-mark mv sp (z .monitors - 1) (z .events) S a (last .parts) (subst (λ k. OfKind mv sp (z .monitors - 1) (z .events) k (last .parts)) q (last-table some-monitor))
         (rw (← n) (room .few-latest)) s (rw (← n) (leb-false (z .latest) s p)))
 
   go-case : (s e t : ℕ) → goCase mv z s e t ≡ lineCase ls (continues (go s e t))
@@ -322,14 +440,48 @@ module _ (r : Rig) (ls : List Line) (z : Sizes) (mv sp ct st os : List ℕ) (H :
   unfolding stopCase lineCase tests testContinuing
   stop-case s = sym (same-picks _ _ _ _ _ _ misplaced (λ p. state-out-of-range p s) (λ p. marked-again p s))
 
+  amp-misplaced : not (ofLatest (λ m. isBal (m .kind)) (latest (monitors ls))) ≡ not (isBand (z .band))
+  unfolding ofLatest
+  amp-misplaced = case (eqb (z .monitors) 0)
+      (λ q. rw (← none-banded (eqb-true (z .monitors) 0 q)) (nothing (monitors ls) (H .monitors-are ∙ eqb-true (z .monitors) 0 q)))
+      (λ q. let h = eqb-false (z .monitors) 0 q in rw (latest-is-last (omega arith), ← H .band-is) (ap not (bal-banded (last .kind))))
+    where
+      nothing : (ms : List Monitor) → length ms ≡ 0 → not (ofLatest (λ m. isBal (m .kind)) (latest ms)) ≡ true
+      nothing [] e = unfold latest ofLatest in refl
+      nothing (m ∷ ms) e = absurd (omega arith)
+
+  module _ (placed : not (isBand (z .band)) ≡ false) (e : ℕ) (d : ℤ) where
+    amp-there : 1 ≤ z .monitors
+    amp-there = let (lo, hi, b) = from-band (z .band) placed in some-banded lo hi b
+
+    amp-out : ofLatest (λ m. leb (eventsOf ls) e || outsideℤ (negℤ (pos 15)) (pos 15) d) (latest (monitors ls)) ≡ (leb (z .events) e || outsideℤ (negℤ (pos 15)) (pos 15) d)
+    unfolding ofLatest
+    amp-out = rw (latest-is-last amp-there, H .events-are)
+
+    given-again : (leb (z .events) e || outsideℤ (negℤ (pos 15)) (pos 15) d) ≡ false
+        → ofLatest (λ m. isSome (stepBy (m .parts) e)) (latest (monitors ls)) ≡ not (eqb (givenAt gv (z .monitors - 1) e) 0)
+    unfolding ofLatest Given
+    given-again p =
+        let he = leb-false (z .events) e (or-left (leb (z .events) e) _ p) in
+        rw (latest-is-last amp-there, H .given-are (z .monitors - 1) e (omega (arith, room .few-monitors, amp-there)) (omega (arith, few-z))) (told (isSome (stepBy (last .parts) e)))
+      where
+        told : (b : Bool) → b ≡ not (eqb (pick b 1 0) 0)
+        told true = refl
+        told false = refl
+
+  amp-case : (e : ℕ) (d : ℤ) → ampCase gv z e d ≡ lineCase ls (continues (amp e d))
+  unfolding ampCase lineCase tests testContinuing
+  amp-case e d = sym (same-picks _ _ _ _ _ _ amp-misplaced (λ p. amp-out p e d) (λ p. given-again p e d))
+
   -- `left` is what decoding the line leaves of the list os
-  pub case-is : (l : Line) (line : ℕ) (left : List ℕ) → suc (length ls) ≡ line → Leaves l os left → caseOf mv sp left z line (formOf l) ≡ lineCase ls l
+  pub case-is : (l : Line) (line : ℕ) (left : List ℕ) → suc (length ls) ≡ line → Leaves l os left → caseOf mv sp gv left z line (formOf l) ≡ lineCase ls l
   unfolding lineCase tests
   case-is (rig e) line left n q = rig-case e
   case-is (ord es) line left n q = rw q (ord-case ls z line es os (H .events-are) few-z n (H .wide-order))
   case-is (begins k) line left n q = kind-case k
   case-is (continues (go s e t)) line left n q = go-case s e t
   case-is (continues (stop s)) line left n q = stop-case s
+  case-is (continues (amp e d)) line left n q = amp-case e d
   case-is other line left n q = refl
 
   -- ---- one line more
@@ -340,7 +492,7 @@ module _ (r : Rig) (ls : List Line) (z : Sizes) (mv sp ct st os : List ℕ) (H :
   formed-more : (l : Line) → lineCase ls l ≡ 0 → Formed (ls ++ (l ∷ []))
   formed-more l q = sound-formed ls l (H .formed) (case-sound ls l q)
 
-  holds-rig : (e : ℕ) → rigCase z e ≡ 0 → Holds r (ls ++ (rig e ∷ [])) (rigSizes z e) mv sp ct st os
+  holds-rig : (e : ℕ) → rigCase z e ≡ 0 → Holds r (ls ++ (rig e ∷ [])) (rigSizes z e) mv sp gv ct st os
   unfolding rigCase withLine extended eventsOf reordered
   holds-rig e q =
       let (p, q₁) = pick-zero (not (eqb (z .events) 0)) 5 _ (omega arith) q in
@@ -355,21 +507,28 @@ module _ (r : Rig) (ls : List Line) (z : Sizes) (mv sp ct st os : List ℕ) (H :
         monitors-are = rw ms (H .monitors-are);
         joint-is = rw ms (H .joint-is);
         latest-is = rw ms (H .latest-is);
+        band-is = rw ms (H .band-is);
+        given-are = rw ms (H .given-are);
         tabled = rw ms (more-events (monitors ls) (z .events) e mv sp ct st (no-monitor ls (begun-z ∙ first)) (H .tabled));
         ordered = ap (take e) (H .unordered (eqb-true (z .events) 0 first)) ∙ take-range e 16 (rw (← events) (few-events _ formed)) ∙ sym (order-more ls (rig e));
         unordered = λ n. contra (eq-eqb e 0 n) (ap (λ n. eqb n 0) (sym events) ∙ sym (some-event _ formed) ∙ empty-snoc ls (rig e));
         recorded = recorded-more (rig e);
         long = H .long;
         wide-stops = H .wide-stops;
+        wide-given = H .wide-given;
         wide = H .wide;
         wide-starts = H .wide-starts;
         wide-order = H .wide-order;
       }
 
+  given-fresh : (k : Kind) → Given (monitors ls ++ (fresh k ∷ [])) gv
+  unfolding Given
+  given-fresh k i e hi he = H .given-are i e hi he ∙ ap (λ ps. pick (isSome (stepBy ps e)) 1 0) (sym (new-parts (monitors ls) (fresh k) refl i))
+
   -- a line that begins a monitor of the kind k
   holds-begins : (k : Kind) → kindCase z (kindOf k) ≡ 0
-      → Holds r (ls ++ (begins k ∷ [])) (record { events = z .events; monitors = z .monitors + 1; latest = monStates (kindOf k); joint = z .joint * statesOf k })
-      (kindMoves mv (z .monitors) (z .events) k) (kindStops sp (z .monitors) k) (set ct (z .monitors) (statesOf k)) (set st (z .monitors) (startOf k)) os
+      → Holds r (ls ++ (begins k ∷ [])) (record { events = z .events; monitors = z .monitors + 1; latest = monStates (kindOf k); band = bandOf (kindOf k); joint = z .joint * statesOf k })
+      (kindMoves mv (z .monitors) (z .events) k) (kindStops sp (z .monitors) k) gv (set ct (z .monitors) (statesOf k)) (set st (z .monitors) (startOf k)) os
   unfolding withLine extended reordered
   holds-begins k q =
       let sound = case-sound ls (begins k) (sym (kind-case k) ∙ q) in
@@ -384,6 +543,8 @@ module _ (r : Rig) (ls : List Line) (z : Sizes) (mv sp ct st os : List ℕ) (H :
         monitors-are = rw (ms, length-append, H .monitors-are);
         joint-is = rw (ms, product-append, H .joint-is);
         latest-is = rw ms (ap (λ m. monStates (kindOf (m .kind))) (new-at (monitors ls) (fresh k) (z .monitors + 1 - 1) (omega (arith, H .monitors-are))));
+        band-is = rw ms (ap (λ m. bandOf (kindOf (m .kind))) (new-at (monitors ls) (fresh k) (z .monitors + 1 - 1) (omega (arith, H .monitors-are))));
+        given-are = rw ms (given-fresh k);
         tabled = rw (ms, ← H .monitors-are) (one-more (monitors ls) (z .events) k mv sp (kindMoves mv (length (monitors ls)) (z .events) k) (kindStops sp (length (monitors ls)) k) ct st (H .wide) (H .wide-starts) few-z few ranged
             (λ i ne. record {
               moves = λ x y hx hy. moves-beside mv sp (length (monitors ls)) (z .events) k few few-z fewS (H .long) (H .wide-stops) i x y ne hx hy;
@@ -395,19 +556,20 @@ module _ (r : Rig) (ls : List Line) (z : Sizes) (mv sp ct st os : List ℕ) (H :
         recorded = recorded-more (begins k);
         long = length-moves mv sp (z .monitors) (z .events) k few-m few-z fewS (H .long) (H .wide-stops);
         wide-stops = length-stops mv sp (z .monitors) (z .events) k few-m few-z fewS (H .long) (H .wide-stops);
+        wide-given = H .wide-given;
         wide = length-set ct (z .monitors) (statesOf k) ∙ H .wide;
         wide-starts = length-set st (z .monitors) (startOf k) ∙ H .wide-starts;
         wide-order = H .wide-order;
       }
 
   -- a line p of the latest monitor, with what it makes of the tables
-  holds-continues : (p : Part) (mv′ sp′ : List ℕ) → 1 ≤ z .monitors → lineCase ls (continues p) ≡ 0 → length mv′ ≡ 2048 → length sp′ ≡ 128
+  holds-continues : (p : Part) (mv′ sp′ gv′ : List ℕ) → 1 ≤ z .monitors → lineCase ls (continues p) ≡ 0 → length mv′ ≡ 2048 → length sp′ ≡ 128 → length gv′ ≡ 64
       → withPart (record { moves = mv; stops = sp; counts = ct; starts = st; order = os; monitors = z .monitors; events = z .events }) p
       ≡ record { moves = mv′; stops = sp′; counts = ct; starts = st; order = os; monitors = z .monitors; events = z .events }
-      → Tabled (addPart p (monitors ls)) (z .events) mv′ sp′ ct st
-      → Holds r (ls ++ (continues p ∷ [])) z mv′ sp′ ct st os
+      → Tabled (addPart p (monitors ls)) (z .events) mv′ sp′ ct st → Given (addPart p (monitors ls)) gv′
+      → Holds r (ls ++ (continues p ∷ [])) z mv′ sp′ gv′ ct st os
   unfolding withLine extended reordered
-  holds-continues p mv′ sp′ some-monitor sound long wide-stops made tabled =
+  holds-continues p mv′ sp′ gv′ some-monitor sound long wide-stops wide-given made tabled given =
       let ms : monitors (ls ++ (continues p ∷ [])) ≡ addPart p (monitors ls) = monitors-more ls (continues p) in
       record {
         formed = formed-more (continues p) sound;
@@ -415,12 +577,15 @@ module _ (r : Rig) (ls : List Line) (z : Sizes) (mv sp ct st os : List ℕ) (H :
         monitors-are = rw (ms, length-addPart) (H .monitors-are);
         joint-is = rw (ms, product-addPart) (H .joint-is);
         latest-is = rw ms (ap (λ k. monStates (kindOf k)) (kind-addPart p (monitors ls) (z .monitors - 1)) ∙ H .latest-is);
+        band-is = rw ms (ap (λ k. bandOf (kindOf k)) (kind-addPart p (monitors ls) (z .monitors - 1)) ∙ H .band-is);
+        given-are = rw ms given;
         tabled = rw ms tabled;
         ordered = H .ordered ∙ sym (order-more ls (continues p));
         unordered = H .unordered;
         recorded = recorded-more (continues p) ∙ made;
         long = long;
         wide-stops = wide-stops;
+        wide-given = wide-given;
         wide = H .wide;
         wide-starts = H .wide-starts;
         wide-order = H .wide-order;
@@ -429,7 +594,7 @@ module _ (r : Rig) (ls : List Line) (z : Sizes) (mv sp ct st os : List ℕ) (H :
       not-empty : empty ls ≡ false
       not-empty = case (empty ls) (λ e. absurd (omega (arith, no-monitor ls e, H .monitors-are))) (λ e. e)
 
-  holds-go : (s e t : ℕ) → goCase mv z s e t ≡ 0 → Holds r (ls ++ (continues (go s e t) ∷ [])) z (goMoves mv z s e t) sp ct st os
+  holds-go : (s e t : ℕ) → goCase mv z s e t ≡ 0 → Holds r (ls ++ (continues (go s e t) ∷ [])) z (goMoves mv z s e t) sp gv ct st os
   unfolding goCase withPart
   holds-go s e t q =
       let (p, q₁) = pick-zero (eqb (z .latest) 0) 5 _ (omega arith) q in
@@ -442,15 +607,16 @@ module _ (r : Rig) (ls : List Line) (z : Sizes) (mv sp ct st os : List ℕ) (H :
       let few : z .latest ≤ 32 = room .few-latest in
       let hm : z .monitors - 1 < 4 = omega (arith, room .few-monitors, some-monitor p) in
       let (S, a, k, n) = last-mon p in
-      holds-continues (go s e t) (goMoves mv z s e t) sp (some-monitor p) (sym (go-case s e t) ∙ q) (length-set mv (moveIndex (z .monitors - 1) s e) t ∙ H .long) (H .wide-stops) refl
-      (one-part (go s e t) (monitors ls) (z .events) (z .monitors - 1) mv sp (goMoves mv z s e t) sp ct st (last-at p) few-z ranged
+      holds-continues (go s e t) (goMoves mv z s e t) sp gv (some-monitor p) (sym (go-case s e t) ∙ q) (length-set mv (moveIndex (z .monitors - 1) s e) t ∙ H .long) (H .wide-stops) (H .wide-given) refl
+      (one-part (go s e t) (monitors ls) (z .events) (z .monitors - 1) mv sp (goMoves mv z s e t) sp ct st (last-at (some-monitor p)) few-z ranged
       (λ T. subst (λ k. OfKind (goMoves mv z s e t) sp (z .monitors - 1) (z .events) k (last .parts ++ (go s e t ∷ []))) (sym k)
       (with-go mv sp (z .monitors - 1) (z .events) S a (last .parts) (subst (λ k. OfKind mv sp (z .monitors - 1) (z .events) k (last .parts)) k T) (rw (← n) few) s e t hm (H .long) few-z (rw (← n) hs) he (rw (← n) ht)
       (λ s e u m. rw (← n) (moves-within p s e u m)) (eqb-true _ 255 (not-false _ f))))
       (λ i ne. go-beside mv sp i (z .monitors - 1) s e t ne (omega arith) (omega (arith, few-z)))
       (H .tabled))
+      (given-kept (go s e t) (monitors ls) gv (λ e. unfold stepIn in refl) (H .given-are))
 
-  holds-stop : (s : ℕ) → stopCase sp z s ≡ 0 → Holds r (ls ++ (continues (stop s) ∷ [])) z mv (stopStops sp z s) ct st os
+  holds-stop : (s : ℕ) → stopCase sp z s ≡ 0 → Holds r (ls ++ (continues (stop s) ∷ [])) z mv (stopStops sp z s) gv ct st os
   unfolding stopCase withPart
   holds-stop s q =
       let (p, q₁) = pick-zero (eqb (z .latest) 0) 5 _ (omega arith) q in
@@ -459,14 +625,45 @@ module _ (r : Rig) (ls : List Line) (z : Sizes) (mv sp ct st os : List ℕ) (H :
       let few : z .latest ≤ 32 = room .few-latest in
       let hm : z .monitors - 1 < 4 = omega (arith, room .few-monitors, some-monitor p) in
       let (S, a, k, n) = last-mon p in
-      holds-continues (stop s) mv (stopStops sp z s) (some-monitor p) (sym (stop-case s) ∙ q) (H .long) (length-set sp (stopIndex (z .monitors - 1) s) 1 ∙ H .wide-stops) refl
-      (one-part (stop s) (monitors ls) (z .events) (z .monitors - 1) mv sp mv (stopStops sp z s) ct st (last-at p) few-z ranged
+      holds-continues (stop s) mv (stopStops sp z s) gv (some-monitor p) (sym (stop-case s) ∙ q) (H .long) (length-set sp (stopIndex (z .monitors - 1) s) 1 ∙ H .wide-stops) (H .wide-given) refl
+      (one-part (stop s) (monitors ls) (z .events) (z .monitors - 1) mv sp mv (stopStops sp z s) ct st (last-at (some-monitor p)) few-z ranged
       (λ T. subst (λ k. OfKind mv (stopStops sp z s) (z .monitors - 1) (z .events) k (last .parts ++ (stop s ∷ []))) (sym k)
       (with-stop mv sp (z .monitors - 1) (z .events) S a (last .parts) (subst (λ k. OfKind mv sp (z .monitors - 1) (z .events) k (last .parts)) k T) (rw (← n) few) s hm (H .wide-stops) (rw (← n) hs)))
       (λ i ne. stop-beside mv sp i (z .monitors - 1) s ne (omega arith))
       (H .tabled))
+      (given-kept (stop s) (monitors ls) gv (λ e. unfold stepIn in refl) (H .given-are))
 
-  holds-ord : (es : List ℕ) (line : ℕ) → suc (length ls) ≡ line → ordCase (over es os) z line (length es) ≡ 0 → Holds r (ls ++ (ord es ∷ [])) z mv sp ct st (over es os)
+  holds-amp : (e : ℕ) (d : ℤ) → ampCase gv z e d ≡ 0 → Holds r (ls ++ (continues (amp e d) ∷ [])) z (ampMoves mv z e d) sp (ampGiven gv z e) ct st os
+  unfolding ampCase withPart ofLatest
+  holds-amp e d q =
+      let (p, q₁) = pick-zero (not (isBand (z .band))) 5 _ (omega arith) q in
+      let (o, q₂) = pick-zero (leb (z .events) e || outsideℤ (negℤ (pos 15)) (pos 15) d) 3 _ (omega arith) q₁ in
+      let (f, q₃) = pick-zero (not (eqb (givenAt gv (z .monitors - 1) e) 0)) 4 0 (omega arith) q₂ in
+      let he : e < z .events = leb-false (z .events) e (or-left (leb (z .events) e) _ o) in
+      let there : 1 ≤ z .monitors = amp-there p e d in
+      let hm : z .monitors - 1 < 4 = omega (arith, room .few-monitors) in
+      let (lo, hi, b) = from-band (z .band) p in
+      let k = last-bal lo hi b in
+      let few : statesOf (bal lo hi) ≤ 32 = few-states (eventsOf ls) (bal lo hi) (last-band lo hi b) in
+      let column : ampMoves mv z e d ≡ withColumn mv (z .monitors - 1) e (bal lo hi) d = ap (λ b. columnIn mv (z .monitors - 1) b e d) b in
+      let start : getD st (z .monitors - 1) 0 ≡ startOf (bal lo hi) = H .tabled .starts (z .monitors - 1) (omega (arith, last-at there)) ∙ ap startOf k in
+      let count : getD ct (z .monitors - 1) 0 ≡ statesOf (bal lo hi) = H .tabled .counts (z .monitors - 1) (omega (arith, last-at there)) ∙ ap statesOf k in
+      let new : stepBy (last .parts) e ≡ none = not-some (stepBy (last .parts) e) (rw (latest-is-last there) at (given-again p e d o ∙ f)) in
+      holds-continues (amp e d) (ampMoves mv z e d) sp (ampGiven gv z e) there (sym (amp-case e d) ∙ q) (ap length column ∙ length-column mv (z .monitors - 1) e (bal lo hi) d ∙ H .long) (H .wide-stops)
+      (length-set gv (givenIndex (z .monitors - 1) e) 1 ∙ H .wide-given)
+      (rw (column, start, count, bal-back (eventsOf ls) lo hi (last-band lo hi b)))
+      (rw column (one-part (amp e d) (monitors ls) (z .events) (z .monitors - 1) mv sp (withColumn mv (z .monitors - 1) e (bal lo hi) d) sp ct st (last-at there) few-z ranged
+      (λ T. subst (λ k. OfKind (withColumn mv (z .monitors - 1) e (bal lo hi) d) sp (z .monitors - 1) (z .events) k (last .parts ++ (amp e d ∷ []))) (sym k)
+      (with-amp mv sp (z .monitors - 1) (z .events) lo hi (last .parts) (subst (λ k. OfKind mv sp (z .monitors - 1) (z .events) k (last .parts)) k T) few e d hm (H .long) few-z he new))
+      (λ i ne. amp-beside mv sp i (z .monitors - 1) e (bal lo hi) d ne few (omega (arith, few-z)))
+      (H .tabled)))
+      (given-amp e d (monitors ls) (z .monitors - 1) gv (last-at there) hm (omega (arith, few-z)) (H .wide-given) (H .given-are))
+    where
+      not-some : (o : Option ℤ) → isSome o ≡ false → o ≡ none
+      not-some none q = refl
+      not-some (some c) q = contra refl q
+
+  holds-ord : (es : List ℕ) (line : ℕ) → suc (length ls) ≡ line → ordCase (over es os) z line (length es) ≡ 0 → Holds r (ls ++ (ord es ∷ [])) z mv sp gv ct st (over es os)
   unfolding ordCase withLine extended reordered
   holds-ord es line n q =
       let (p, q₁) = pick-zero (not (eqb line 2)) 5 _ (omega arith) q in
@@ -483,22 +680,26 @@ module _ (r : Rig) (ls : List Line) (z : Sizes) (mv sp ct st os : List ℕ) (H :
         monitors-are = rw ms (H .monitors-are);
         joint-is = rw ms (H .joint-is);
         latest-is = rw ms (H .latest-is);
+        band-is = rw ms (H .band-is);
+        given-are = rw ms (H .given-are);
         tabled = rw ms (H .tabled);
         ordered = ap₂ take (sym full) left ∙ take-at es (drop (length es) os) (length es) refl ∙ sym (order-more ls (ord es));
         unordered = λ e. contra (eq-eqb (z .events) 0 e) (sym begun-z ∙ not-empty);
         recorded = recorded-more (ord es) ∙ rw left;
         long = H .long;
         wide-stops = H .wide-stops;
+        wide-given = H .wide-given;
         wide = H .wide;
         wide-starts = H .wide-starts;
         wide-order = length-over es os ∙ H .wide-order;
       }
 
-  pub holds-more : (l : Line) (line : ℕ) (left : List ℕ) → suc (length ls) ≡ line → Leaves l os left → caseOf mv sp left z line (formOf l) ≡ 0
-      → Holds r (ls ++ (l ∷ [])) (sizesAfter z (formOf l)) (movesAfter mv z (formOf l)) (stopsAfter sp z (formOf l)) (countsAfter ct z (formOf l)) (startsAfter st z (formOf l)) left
+  pub holds-more : (l : Line) (line : ℕ) (left : List ℕ) → suc (length ls) ≡ line → Leaves l os left → caseOf mv sp gv left z line (formOf l) ≡ 0
+      → Holds r (ls ++ (l ∷ [])) (sizesAfter z (formOf l)) (movesAfter mv z (formOf l)) (stopsAfter sp z (formOf l)) (givenAfter gv z (formOf l)) (countsAfter ct z (formOf l)) (startsAfter st z (formOf l)) left
   holds-more (rig e) line left n k q = rw k (holds-rig e q)
   holds-more (ord es) line left n k q = rw k (holds-ord es line n (rw k at q))
   holds-more (begins kind) line left n k q = rw (k, as-kind kind) (holds-begins kind q)
   holds-more (continues (go s e t)) line left n k q = rw k (holds-go s e t q)
   holds-more (continues (stop s)) line left n k q = rw k (holds-stop s q)
+  holds-more (continues (amp e d)) line left n k q = rw k (holds-amp e d q)
   holds-more other line left n k q = absurd (omega arith)

@@ -1,17 +1,18 @@
 -- The monitors of some lines with one line more. Assumes nothing.
 use mathlib.Core.Path.{_≡_, refl, sym, ap, _∙_}
+use mathlib.Core.Logic.{_⊎_, inl, inr}
 use mathlib.Core.Bool.{true, false, _||_, or-false, or-assoc}
 use mathlib.Core.List.{List, [], _∷_, _++_}
-use mathlib.Core.Option.{Option, none, some, orElse}
+use mathlib.Core.Option.{some}
 use Prim.Native.Nat.{ℕ, zero, suc, _+_, _<_}
 use native.Mathlib.Omega.{arith}
 use lib.ListN.{length, getD, length-append, List·getD-append, List·getD-eq-default}
 use lib.Seq.{getD-at}
 use lib.Dec.{eqb}
 use borrow.Author.Tests.{ne-eqb}
-use Rattle.lists.proofs.Tests.{contra}
+use Rattle.lists.proofs.Tests.{contra, ℕ-trichotomy}
 use Rattle.promises.specs.Text.{Part, Line, Monitor, addPart, latest, eventsOf}
-use Rattle.promises.specs.Reading.{empty, leadsTo, moveBy, marks, markedBy}
+use Rattle.promises.specs.Reading.{empty, marks, markedBy}
 use Rattle.promises.proofs.Lines.{eventsOf-more}
 use Rattle.reader.specs.Record.{nobody}
 
@@ -76,22 +77,16 @@ module _ (ms : List Monitor) (m : Monitor) where
   pub new-after : (k : ℕ) → length ms < k → monitorAt (ms ++ (m ∷ [])) k ≡ monitorAt ms k
   new-after k h = List·getD-eq-default (ms ++ (m ∷ [])) nobody {n = k} (rw length-append (omega arith)) ∙ sym (List·getD-eq-default ms nobody {n = k} (omega arith))
 
--- ---- the moves of a monitor's lines
+  -- it has no further line yet, as what stands past the last has none
+  pub new-parts : m .parts ≡ [] → (k : ℕ) → monitorAt (ms ++ (m ∷ [])) k .parts ≡ monitorAt ms k .parts
+  new-parts none k = go (ℕ-trichotomy k (length ms))
+    where
+      go : (k < length ms) ⊎ ((k ≡ length ms) ⊎ (length ms < k)) → monitorAt (ms ++ (m ∷ [])) k .parts ≡ monitorAt ms k .parts
+      go (inl h) = ap (λ m. m .parts) (new-before k h)
+      go (inr (inl q)) = ap (λ m. m .parts) (new-at k q) ∙ none ∙ sym (ap (λ m. m .parts) (List·getD-eq-default ms nobody {n = k} (omega arith)))
+      go (inr (inr h)) = ap (λ m. m .parts) (new-after k h)
 
-pub or-none : (o : Option ℕ) → orElse o none ≡ o
-unfolding orElse
-or-none none = refl
-or-none (some u) = refl
-
--- a line more moves where none before it does
-pub moveBy-snoc : (ps : List Part) (p : Part) (s e : ℕ) → moveBy (ps ++ (p ∷ [])) s e ≡ orElse (moveBy ps s e) (leadsTo s e p)
-unfolding moveBy orElse
-moveBy-snoc [] p s e = or-none (leadsTo s e p)
-moveBy-snoc (q ∷ ps) p s e = step (leadsTo s e q) (moveBy-snoc ps p s e)
-  where
-    step : (o : Option ℕ) → moveBy (ps ++ (p ∷ [])) s e ≡ orElse (moveBy ps s e) (leadsTo s e p) → orElse o (moveBy (ps ++ (p ∷ [])) s e) ≡ orElse (orElse o (moveBy ps s e)) (leadsTo s e p)
-    step none ih = ih
-    step (some u) ih = refl
+-- ---- the marks of a monitor's lines
 
 pub markedBy-snoc : (ps : List Part) (p : Part) (s : ℕ) → markedBy (ps ++ (p ∷ [])) s ≡ (markedBy ps s || marks s p)
 unfolding markedBy

@@ -1,6 +1,6 @@
 -- The reader on its way through a text: what it has passed, and what is left to read. Assumes nothing.
 --   wholeReading t         == what reading the lines of t gives
---   Passed r t z n i mv sp ct st os == the lines before byte i of t are read into r with no refusal; the next one is line n
+--   Passed r t z n i mv sp gv ct st os == the lines before byte i of t are read into r with no refusal; the next one is line n
 use mathlib.Core.Path.{_≡_, refl, sym, ap, _∙_}
 use mathlib.Core.Bool.{Bool, true, false}
 use mathlib.Core.List.{List, [], _∷_, _++_, append-assoc, append-nil}
@@ -21,11 +21,12 @@ use Rattle.decoding.specs.Forms.{over, listedIn, formOf}
 use Rattle.decoding.proofs.Listed.{Leaves, leaves}
 use Rattle.decoding.proofs.Parts.{indexOf-le}
 use Rattle.decoding.proofs.Numbers.{rest-whole}
+use Rattle.kinds.specs.declared.Band.the-variants.{Absent}
 use Rattle.reader.specs.declared.Reading.{Reading}
 use Rattle.reader.specs.declared.Sizes.{Sizes}
 use Rattle.reader.specs.declared.Taken.the-variants.{Next, Bad}
 use Rattle.reader.specs.Reading.{answerOf, recordFrom, whereServed, recordOf}
-use Rattle.reader.specs.Taking.{onlyIf, taken, refusal, caseOf, sizesAfter, movesAfter, stopsAfter, countsAfter, startsAfter}
+use Rattle.reader.specs.Taking.{onlyIf, taken, refusal, caseOf, sizesAfter, movesAfter, stopsAfter, givenAfter, countsAfter, startsAfter}
 use Rattle.reader.proofs.Lines.{decoded-first, unended-first, decoded-none, unended-all}
 use Rattle.reader.proofs.Monitors.{empty-length}
 use Rattle.reader.proofs.Held.{Holds, holds-none, case-is, holds-more}
@@ -33,18 +34,19 @@ use Rattle.reader.proofs.Held.{Holds, holds-none, case-is, holds-more}
 abbrev pub wholeReading : List ℕ → Answer
 wholeReading t = readingFrom [] (decoded t) (unended t)
 
-pub record Passed (r : Rig) (t : List ℕ) (z : Sizes) (line at : ℕ) (mv sp ct st os : List ℕ) : Type 0 where
+pub record Passed (r : Rig) (t : List ℕ) (z : Sizes) (line at : ℕ) (mv sp gv ct st os : List ℕ) : Type 0 where
   pub front : List Line
-  pub holds : Holds r front z mv sp ct st os
+  pub holds : Holds r front z mv sp gv ct st os
   pub counted : suc (length front) ≡ line
   pub inside : at ≤ length t
   pub early : line ≤ at + 1
   pub left : wholeReading t ≡ readingFrom front (decoded (drop at t)) (unended (drop at t))
   pub split : decoded t ≡ front ++ decoded (drop at t)
 
-pub passed-none : (t mv sp ct st : List ℕ) → ((i : ℕ) → i < 2048 → getD mv i 0 ≡ 255) → ((i : ℕ) → i < 128 → getD sp i 0 ≡ 0) → length mv ≡ 2048 → length sp ≡ 128 → length ct ≡ 4 → length st ≡ 4
-    → Passed (record { moves = mv; stops = sp; counts = ct; starts = st; order = lowerFirst; monitors = 0; events = 0 }) t (record { events = 0; monitors = 0; latest = 0; joint = 1 }) 1 0 mv sp ct st lowerFirst
-passed-none t mv sp ct st blank unmarked long wide-stops wide wide-starts = record { front = []; holds = holds-none mv sp ct st blank unmarked long wide-stops wide wide-starts; counted = refl; inside = omega arith; early = omega arith; left = refl; split = refl }
+pub passed-none : (t mv sp gv ct st : List ℕ) → ((i : ℕ) → i < 2048 → getD mv i 0 ≡ 255) → ((i : ℕ) → i < 128 → getD sp i 0 ≡ 0) → ((i : ℕ) → i < 64 → getD gv i 0 ≡ 0)
+    → length mv ≡ 2048 → length sp ≡ 128 → length gv ≡ 64 → length ct ≡ 4 → length st ≡ 4
+    → Passed (record { moves = mv; stops = sp; counts = ct; starts = st; order = lowerFirst; monitors = 0; events = 0 }) t (record { events = 0; monitors = 0; latest = 0; band = Absent; joint = 1 }) 1 0 mv sp gv ct st lowerFirst
+passed-none t mv sp gv ct st blank unmarked none-given long wide-stops wide-given wide wide-starts = record { front = []; holds = holds-none mv sp gv ct st blank unmarked none-given long wide-stops wide-given wide wide-starts; counted = refl; inside = omega arith; early = omega arith; left = refl; split = refl }
 
 -- ---- what a line comes to
 
@@ -64,7 +66,7 @@ taken-bad n m z q = go (eqb n 0) refl q
 
 -- ---- the next line
 
-module _ (r : Rig) (t : List ℕ) (z : Sizes) (line at : ℕ) (mv sp ct st os : List ℕ) (P : Passed r t z line at mv sp ct st os) where
+module _ (r : Rig) (t : List ℕ) (z : Sizes) (line at : ℕ) (mv sp gv ct st os : List ℕ) (P : Passed r t z line at mv sp gv ct st os) where
   -- the last line is not ended
   pub stops-unended : at < length t → (end : ℕ) → end ≡ indexOf (take (length t - at) (drop at t)) 10 → end ≡ length (take (length t - at) (drop at t)) → wholeReading t ≡ refused 2 line
   unfolding readingFrom
@@ -99,14 +101,14 @@ module _ (r : Rig) (t : List ℕ) (z : Sizes) (line at : ℕ) (mv sp ct st os : 
       lv : Leaves next os left
       lv = rw wr (leaves (take end (take (length t - at) (drop at t))) os)
 
-      case-of : caseOf mv sp left z line f ≡ lineCase (P .front) next
-      case-of = rw d (case-is r (P .front) z mv sp ct st os (P .holds) next line left (P .counted) lv)
+      case-of : caseOf mv sp gv left z line f ≡ lineCase (P .front) next
+      case-of = rw d (case-is r (P .front) z mv sp gv ct st os (P .holds) next line left (P .counted) lv)
 
       -- a case holds of it
-      pub stops-bad : (n : ℕ) → Bad n ≡ taken (caseOf mv sp left z line f) (sizesAfter z f) → wholeReading t ≡ refused n line
+      pub stops-bad : (n : ℕ) → Bad n ≡ taken (caseOf mv sp gv left z line f) (sizesAfter z f) → wholeReading t ≡ refused n line
       unfolding readingFrom
       stops-bad n b =
-          let (p, m) = taken-bad (caseOf mv sp left z line f) n (sizesAfter z f) b in
+          let (p, m) = taken-bad (caseOf mv sp gv left z line f) n (sizesAfter z f) b in
           let c : lineCase (P .front) next ≡ n = sym case-of ∙ sym m in
           let p′ : eqb n 0 ≡ false = rw (← m) at p in
           P .left ∙ rw (lines-left, c, p′, P .counted)
@@ -117,18 +119,19 @@ module _ (r : Rig) (t : List ℕ) (z : Sizes) (line at : ℕ) (mv sp ct st os : 
       reads-on c = rw (lines-left, unended-left, c)
 
       -- no case holds of it
-      pub goes-on : (y : Sizes) (nv np nt ns : List ℕ) → Next y ≡ taken (caseOf mv sp left z line f) (sizesAfter z f) → nv ≡ onlyIf (caseOf mv sp left z line f) (movesAfter mv z f) mv
-          → np ≡ onlyIf (caseOf mv sp left z line f) (stopsAfter sp z f) sp → nt ≡ onlyIf (caseOf mv sp left z line f) (countsAfter ct z f) ct → ns ≡ onlyIf (caseOf mv sp left z line f) (startsAfter st z f) st → Passed r t y (line + 1) (at + (end + 1)) nv np nt ns left
-      goes-on y nv np nt ns b mq pq cq sq =
-          let (p, s) = taken-next (caseOf mv sp left z line f) (sizesAfter z f) y b in
+      pub goes-on : (y : Sizes) (nv np ng nt ns : List ℕ) → Next y ≡ taken (caseOf mv sp gv left z line f) (sizesAfter z f) → nv ≡ onlyIf (caseOf mv sp gv left z line f) (movesAfter mv z f) mv
+          → np ≡ onlyIf (caseOf mv sp gv left z line f) (stopsAfter sp z f) sp → ng ≡ onlyIf (caseOf mv sp gv left z line f) (givenAfter gv z f) gv → nt ≡ onlyIf (caseOf mv sp gv left z line f) (countsAfter ct z f) ct → ns ≡ onlyIf (caseOf mv sp gv left z line f) (startsAfter st z f) st → Passed r t y (line + 1) (at + (end + 1)) nv np ng nt ns left
+      goes-on y nv np ng nt ns b mq pq gq cq sq =
+          let (p, s) = taken-next (caseOf mv sp gv left z line f) (sizesAfter z f) y b in
           let m′ : nv ≡ movesAfter mv z (formOf next) = rw (p, d) at mq in
           let p′ : np ≡ stopsAfter sp z (formOf next) = rw (p, d) at pq in
+          let g′ : ng ≡ givenAfter gv z (formOf next) = rw (p, d) at gq in
           let c′ : nt ≡ countsAfter ct z (formOf next) = rw (p, d) at cq in
           let s′ : ns ≡ startsAfter st z (formOf next) = rw (p, d) at sq in
           let z′ : y ≡ sizesAfter z (formOf next) = rw d at s in
           record {
             front = P .front ++ (next ∷ []);
-            holds = rw (z′, m′, p′, c′, s′) (holds-more r (P .front) z mv sp ct st os (P .holds) next line left (P .counted) lv (rw d at p));
+            holds = rw (z′, m′, p′, g′, c′, s′) (holds-more r (P .front) z mv sp gv ct st os (P .holds) next line left (P .counted) lv (rw d at p));
             counted = rw length-append (omega (arith, P .counted));
             inside = omega (arith, ended, length-drop at t);
             early = omega (arith, P .early);

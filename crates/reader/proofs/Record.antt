@@ -31,12 +31,13 @@ use Rattle.rig.specs.declared.Rig.{Rig}
 use Rattle.rig.specs.Record.{moveAt, countOf, startAt, orderIn, moveOf, stopOf, monitorAt, standing, recordAutomaton, recordStart, WellFormed, lowerFirst, emptyRig}
 use Rattle.decoding.specs.Forms.{over, formOf}
 use Rattle.decoding.proofs.Listed.{Leaves}
+use Rattle.kinds.specs.declared.Band.the-variants.{Absent}
 use Rattle.kinds.specs.Kinds.{entryOf}
 use Rattle.kinds.proofs.Tables.{OfKind}
 use Rattle.reader.specs.declared.Sizes.{Sizes}
 use Rattle.reader.specs.Reading.{recordFrom, whereServed, recordOf}
 use Rattle.reader.specs.Record.{nobody, monitorIn, ReadFrom}
-use Rattle.reader.specs.Taking.{caseOf, sizesAfter, movesAfter, stopsAfter, countsAfter, startsAfter}
+use Rattle.reader.specs.Taking.{caseOf, sizesAfter, movesAfter, stopsAfter, givenAfter, countsAfter, startsAfter}
 use Rattle.reader.proofs.Monitors.{empty-nil}
 use Rattle.reader.proofs.Held.{Tabled, Holds, few-events, begun-z, holds-none, case-is, holds-more}
 
@@ -47,10 +48,11 @@ pub record Held (r : Rig) (ls : List Line) : Type 0 where
   pub sizes-are : Sizes
   pub moves-are : List ℕ
   pub marks-are : List ℕ
+  pub given-are : List ℕ
   pub counts-are : List ℕ
   pub starts-are : List ℕ
   pub order-is : List ℕ
-  pub holds : Holds r ls sizes-are moves-are marks-are counts-are starts-are order-is
+  pub holds : Holds r ls sizes-are moves-are marks-are given-are counts-are starts-are order-is
 
 -- a list that decoding may leave
 some-left : (l : Line) (os : List ℕ) → (left : List ℕ) × Leaves l os left
@@ -65,19 +67,21 @@ held-more r ls l H q =
     let z = H .sizes-are in
     let mv = H .moves-are in
     let sp = H .marks-are in
+    let gv = H .given-are in
     let ct = H .counts-are in
     let st = H .starts-are in
     let os = H .order-is in
     let (left, k) = some-left l os in
-    let c : caseOf mv sp left z (suc (length ls)) (formOf l) ≡ 0 = case-is r ls z mv sp ct st os (H .holds) l (suc (length ls)) left refl k ∙ q in
+    let c : caseOf mv sp gv left z (suc (length ls)) (formOf l) ≡ 0 = case-is r ls z mv sp gv ct st os (H .holds) l (suc (length ls)) left refl k ∙ q in
     record {
       sizes-are = sizesAfter z (formOf l);
       moves-are = movesAfter mv z (formOf l);
       marks-are = stopsAfter sp z (formOf l);
+      given-are = givenAfter gv z (formOf l);
       counts-are = countsAfter ct z (formOf l);
       starts-are = startsAfter st z (formOf l);
       order-is = left;
-      holds = holds-more r ls z mv sp ct st os (H .holds) l (suc (length ls)) left refl k c;
+      holds = holds-more r ls z mv sp gv ct st os (H .holds) l (suc (length ls)) left refl k c;
     }
 
 held-all : (r : Rig) (front back : List Line) → Held r front → AllSound front back → Held r (front ++ back)
@@ -88,13 +92,14 @@ held-all r front (l ∷ back) H s =
 
 held-none : Held emptyRig []
 held-none = record {
-  sizes-are = record { events = 0; monitors = 0; latest = 0; joint = 1 };
+  sizes-are = record { events = 0; monitors = 0; latest = 0; band = Absent; joint = 1 };
   moves-are = replicate 2048 255;
   marks-are = replicate 128 0;
+  given-are = replicate 64 0;
   counts-are = replicate 4 0;
   starts-are = replicate 4 0;
   order-is = lowerFirst;
-  holds = holds-none (replicate 2048 255) (replicate 128 0) (replicate 4 0) (replicate 4 0) (λ i h. getD-replicate 2048 i 255 0 h) (λ i h. getD-replicate 128 i 0 0 h) (length-replicate {A = ℕ} 2048 255) (length-replicate {A = ℕ} 128 0) (length-replicate {A = ℕ} 4 0) (length-replicate {A = ℕ} 4 0);
+  holds = holds-none (replicate 2048 255) (replicate 128 0) (replicate 64 0) (replicate 4 0) (replicate 4 0) (λ i h. getD-replicate 2048 i 255 0 h) (λ i h. getD-replicate 128 i 0 0 h) (λ i h. getD-replicate 64 i 0 0 h) (length-replicate {A = ℕ} 2048 255) (length-replicate {A = ℕ} 128 0) (length-replicate {A = ℕ} 64 0) (length-replicate {A = ℕ} 4 0) (length-replicate {A = ℕ} 4 0);
 }
 
 held-readable : (t : List ℕ) → Readable t → Held emptyRig (decoded t)
@@ -228,7 +233,7 @@ module _ (t : List ℕ) (R : Readable t) where
   begun = case (empty (decoded t)) (λ p. absurd (R .monitored (ap monitors (empty-nil (decoded t) p)))) (λ p. p)
 
   some-event : 1 ≤ recordOf t .events
-  some-event = rw recordOf-is (positive (eqb-false (held .sizes-are .events) 0 (sym (begun-z emptyRig (decoded t) _ _ _ _ _ _ (held .holds)) ∙ begun)))
+  some-event = rw recordOf-is (positive (eqb-false (held .sizes-are .events) 0 (sym (begun-z emptyRig (decoded t) _ _ _ _ _ _ _ (held .holds)) ∙ begun)))
     where
       positive : {n : ℕ} → (n ≡ 0 → ⊥) → 1 ≤ n
       positive h = omega arith

@@ -1,24 +1,28 @@
 -- The part of the tables that is one monitor's, with one line more of this monitor or of another. Assumes nothing.
 --   Same mv sp mv′ sp′ k == part k of the tables mv′ and sp′ is that of mv and sp
 use mathlib.Core.Path.{_≡_, refl, sym, ap, ap₂, _∙_, subst}
+use mathlib.Core.Logic.{inl, inr}
 use mathlib.Core.Bool.{Bool, true, false, not, _&&_, or-false}
 use mathlib.Core.List.{List, [], _∷_, _++_}
 use mathlib.Core.Option.{Option, none, some, orElse, Option·getD}
 use Prim.Native.Nat.{ℕ, _≤_, _<_}
 use native.Mathlib.Omega.{arith}
+use lib.IntN.{ℤ, pos}
 use lib.ListN.{length, set}
 use lib.Seq.{getD-set-same, getD-set-other}
 use lib.Dec.{eqb}
 use borrow.Author.Tests.{eq-eqb, ne-eqb, eqb-true, eqb-false, lt-ltb, le-ltb}
-use Rattle.lists.specs.Lists.{pick}
+use Rattle.lists.specs.Lists.{pick, firstOf, isSome}
+use Rattle.lists.proofs.Firsts.{or-none, first-snoc}
 use Rattle.lists.proofs.Tests.{contra, case, and-left, and-right, or-right}
-use Rattle.promises.specs.Text.{Kind, mon, Part, go, stop, statesOf}
-use Rattle.promises.specs.Reading.{isSome, leadsTo, moveBy, marks, markedBy}
-use Rattle.promises.specs.Rig.{nextOf, markedOf}
+use Rattle.promises.specs.Text.{Kind, mon, bal, Part, go, stop, amp, statesOf}
+use Rattle.promises.specs.Meaning.{stepIn, stepOf}
+use Rattle.promises.specs.Reading.{leadsTo, moveBy, marks, markedBy, stepBy}
+use Rattle.promises.specs.Rig.{balNext, nextOf, markedOf}
 use Rattle.rig.specs.Record.{moveIndex, moveAt, stopIndex, stopAt}
-use Rattle.kinds.specs.Kinds.{entryOf}
-use Rattle.kinds.proofs.Tables.{Blank, OfKind}
-use Rattle.reader.proofs.Monitors.{or-none, moveBy-snoc, markedBy-snoc}
+use Rattle.kinds.specs.Kinds.{entryOf, withColumn}
+use Rattle.kinds.proofs.Tables.{Blank, OfKind, column-beside, column-at}
+use Rattle.reader.proofs.Monitors.{markedBy-snoc}
 
 -- ---- the other monitors
 
@@ -36,12 +40,15 @@ module _ (mv sp mv′ sp′ : List ℕ) (k : ℕ) (same : Same mv sp mv′ sp′
     marks = λ x hx. same .stops x (omega arith) ∙ T .marks x hx;
   }
 
--- a `go` line, and a `stop` line, of another monitor
+-- a `go`, a `stop` and an `amp` line of another monitor
 pub go-beside : (mv sp : List ℕ) (k m s e t : ℕ) → (k ≡ m → ⊥) → s < 32 → e < 16 → Same mv sp (set mv (moveIndex m s e) t) sp k
 go-beside mv sp k m s e t ne hs he = record { moves = λ x y hx hy. getD-set-other mv (moveIndex m s e) (moveIndex k x y) t 0 (λ q. ne (omega arith)); stops = λ x hx. refl }
 
 pub stop-beside : (mv sp : List ℕ) (k m s : ℕ) → (k ≡ m → ⊥) → s < 32 → Same mv sp mv (set sp (stopIndex m s) 1) k
 stop-beside mv sp k m s ne hs = record { moves = λ x y hx hy. refl; stops = λ x hx. getD-set-other sp (stopIndex m s) (stopIndex k x) 1 0 (λ q. ne (omega arith)) }
+
+pub amp-beside : (mv sp : List ℕ) (i m e : ℕ) (k : Kind) (d : ℤ) → (i ≡ m → ⊥) → statesOf k ≤ 32 → e < 16 → Same mv sp (withColumn mv m e k d) sp i
+amp-beside mv sp i m e k d ne few he = record { moves = λ x y hx hy. column-beside mv m e k d few he i x y hx hy (inl ne); stops = λ x hx. refl }
 
 -- ---- a `mon`
 
@@ -81,11 +88,11 @@ module _ (mv sp : List ℕ) (k E S a : ℕ) (ps : List Part) (T : OfKind mv sp k
 
     moves-here : moveBy (ps ++ (go s e t ∷ [])) s e ≡ some t
     unfolding leadsTo orElse
-    moves-here = rw (moveBy-snoc ps (go s e t) s e, unmoved, eq-eqb s s refl, eq-eqb e e refl)
+    moves-here = rw (first-snoc (leadsTo s e) ps (go s e t), unmoved, eq-eqb s s refl, eq-eqb e e refl)
 
     moves-elsewhere : (x y : ℕ) → (eqb s x && eqb e y) ≡ false → moveBy (ps ++ (go s e t ∷ [])) x y ≡ moveBy ps x y
     unfolding leadsTo orElse
-    moves-elsewhere x y q = rw (moveBy-snoc ps (go s e t) x y, q) (or-none (moveBy ps x y))
+    moves-elsewhere x y q = rw (first-snoc (leadsTo x y) ps (go s e t), q) (or-none (moveBy ps x y))
 
     elsewhere : (x y : ℕ) → x < 32 → y < 16 → (eqb s x && eqb e y) ≡ false → moveAt (set mv (moveIndex k s e) t) k x y ≡ moveAt mv k x y
     elsewhere x y hx hy q = getD-set-other mv (moveIndex k s e) (moveIndex k x y) t 0 (λ p. contra (both p) q)
@@ -112,7 +119,7 @@ module _ (mv sp : List ℕ) (k E S a : ℕ) (ps : List Part) (T : OfKind mv sp k
   module _ (s : ℕ) (hk : k < 4) (wide : length sp ≡ 128) (hs : s < S) where
     moves-same : (x y : ℕ) → moveBy (ps ++ (stop s ∷ [])) x y ≡ moveBy ps x y
     unfolding leadsTo
-    moves-same x y = moveBy-snoc ps (stop s) x y ∙ or-none (moveBy ps x y)
+    moves-same x y = first-snoc (leadsTo x y) ps (stop s) ∙ or-none (moveBy ps x y)
 
     marked-here : markedBy (ps ++ (stop s ∷ [])) s ≡ true
     unfolding marks
@@ -130,3 +137,33 @@ module _ (mv sp : List ℕ) (k E S a : ℕ) (ps : List Part) (T : OfKind mv sp k
           (getD-set-same sp (stopIndex k s) 1 0 (omega arith) ∙ ap (λ b. pick b 1 0) (sym marked-here)))
           (λ q. getD-set-other sp (stopIndex k s) (stopIndex k x) 1 0 (λ p. eqb-false s x q (omega arith)) ∙ T .marks x hx ∙ ap (λ b. pick b 1 0) (sym (marked-elsewhere x q)));
     }
+
+-- ---- a `bal`
+
+-- a new `amp` line: the moves on its event are written over, those on the others are as they were
+module _ (mv sp : List ℕ) (k E : ℕ) (lo hi : ℤ) (ps : List Part) (T : OfKind mv sp k E (bal lo hi) ps) (few : statesOf (bal lo hi) ≤ 32)
+    (e : ℕ) (d : ℤ) (hk : k < 4) (long : length mv ≡ 2048) (fewE : E ≤ 16) (he : e < E) (new : stepBy ps e ≡ none) where
+  step-here : stepOf (ps ++ (amp e d ∷ [])) e ≡ d
+  unfolding stepOf stepIn orElse
+  step-here = rw (first-snoc (stepIn e) ps (amp e d), new, eq-eqb e e refl)
+
+  step-alone : stepOf (amp e d ∷ []) e ≡ d
+  unfolding stepOf firstOf stepIn orElse
+  step-alone = rw (eq-eqb e e refl)
+
+  step-elsewhere : (u : ℕ) → eqb e u ≡ false → stepOf (ps ++ (amp e d ∷ [])) u ≡ stepOf ps u
+  unfolding stepOf stepIn
+  step-elsewhere u q = rw (first-snoc (stepIn u) ps (amp e d), q) (ap (λ o. Option·getD o (pos 0)) (or-none (stepBy ps u)))
+
+  abbrev entry : ℕ → ℤ → ℕ
+  entry x c = entryOf (statesOf (bal lo hi)) (balNext lo hi c x)
+
+  pub with-amp : OfKind (withColumn mv k e (bal lo hi) d) sp k E (bal lo hi) (ps ++ (amp e d ∷ []))
+  unfolding nextOf markedOf
+  with-amp = record {
+    moves = λ x y hx hy. case (eqb e y)
+        (λ q. subst (λ y. moveAt (withColumn mv k e (bal lo hi) d) k x y ≡ entry x (stepOf (ps ++ (amp e d ∷ [])) y)) (eqb-true e y q)
+        (column-at mv k e (bal lo hi) d few (omega arith) hk long x hx ∙ ap (entry x) (step-alone ∙ sym step-here)))
+        (λ q. column-beside mv k e (bal lo hi) d few (omega arith) k x y (omega arith) (omega arith) (inr (λ p. eqb-false e y q (sym p))) ∙ T .moves x y hx hy ∙ ap (entry x) (sym (step-elsewhere y q)));
+    marks = T .marks;
+  }

@@ -8,20 +8,12 @@ use lib.Dec.{eqb}
 use borrow.Author.Tests.{eqb-true, eqb-false}
 use Rattle.lists.specs.Lists.{pick}
 use Rattle.lists.proofs.Tests.{case}
-use Rattle.promises.specs.Text.{Kind}
-use Rattle.promises.specs.Reading.{outOfRange, equal}
-use Rattle.promises.proofs.Lines.{Ranged, in-range}
-use Rattle.promises.proofs.Reading.{tells-out, tells-equal}
 use Rattle.reader.specs.declared.Sizes.{Sizes}
 use Rattle.reader.specs.Taking.{Allowed, onlyIf}
 
 -- where a `go` or `stop` line can name a state, there is a monitor
 pub some-monitor : (z : Sizes) → Allowed z → (z .latest ≡ 0 → ⊥) → 1 ≤ z .monitors
 some-monitor z a h = case (eqb (z .monitors) 0) (λ q. absurd (h (a .none-latest (eqb-true (z .monitors) 0 q)))) (λ q. omega (arith, eqb-false (z .monitors) 0 q))
-
--- what passes the reader's tests is in range
-pub ranged : (E : ℕ) (k : Kind) → outOfRange E k ≡ false → equal k ≡ false → Ranged E k
-ranged E k p q = in-range E k (tells-out E k .no p) (tells-equal k .no q)
 
 -- a table that a line leaves as it is
 pub kept : (n : ℕ) (l : List ℕ) → l ≡ onlyIf n l l

@@ -3,27 +3,31 @@
 --   onlyIf n a b       == a where the number n is 0, else b
 --   taken n z          == Next z where the number n is 0, else Bad n
 --   refusal n p        == the answer to a text that is refused
---   rigCase, ordCase, kindCase, goCase, stopCase == the number of the first case that holds of such a line, 0 where none does
---   rigSizes, kindSizes, kindCounts, kindStarts, goMoves, stopStops == what such a line changes, where no case holds of it
---   partCase, partMoves, partStops == the same for any line of the latest monitor
---   caseOf, sizesAfter, movesAfter, stopsAfter, countsAfter, startsAfter == the same for any line; os is the list that its decoding leaves, l its number
+--   givenAt gv m e     == 1 where an `amp` line of monitor m has given event e a step, else 0
+--   rigCase, ordCase, kindCase, goCase, stopCase, ampCase == the number of the first case that holds of such a line, 0 where none does
+--   rigSizes, kindSizes, kindCounts, kindStarts, goMoves, stopStops, ampMoves, ampGiven == what such a line changes, where no case holds of it
+--   partCase, partMoves, partStops, partGiven == the same for any line of the latest monitor
+--   caseOf, sizesAfter, movesAfter, stopsAfter, givenAfter, countsAfter, startsAfter == the same for any line; os is the list that its decoding leaves, l its number
 -- A new line form that begins no monitor is one section and its clauses of those for its group. Assumes nothing.
 use mathlib.Core.Path.{_≡_}
-use mathlib.Core.Bool.{not, _||_}
+use mathlib.Core.Bool.{Bool, true, false, not, _||_}
 use mathlib.Core.List.{List}
 use Prim.Native.Nat.{ℕ, _+_, _-_, _*_, _≤_}
-use lib.ListN.{take, set}
+use lib.IntN.{ℤ, pos, negℤ}
+use lib.ListN.{getD, take, set}
 use lib.Dec.{ltb, leb, eqb}
 use Rattle.lists.specs.Lists.{pick, any}
-use Rattle.promises.specs.Text.{statesOf, startOf}
-use Rattle.promises.specs.Reading.{outside, outOfRange, equal, repeats}
+use Rattle.promises.specs.Text.{bal, statesOf, startOf}
+use Rattle.promises.specs.Reading.{outside, outsideℤ, outOfRange, equal, repeats}
 use Rattle.rig.specs.Record.{moveIndex, moveAt, stopIndex, stopAt, emptyRig}
 use Rattle.decoding.specs.declared.Form.{Form}
 use Rattle.decoding.specs.declared.Form.the-variants.{Rig, Ord, Begins, Continues, Other}
 use Rattle.decoding.specs.declared.Kind.{Kind}
 use Rattle.decoding.specs.declared.Part.{Part}
-use Rattle.decoding.specs.declared.Part.the-variants.{Go, Stop}
-use Rattle.kinds.specs.Kinds.{asKind, monStates, kindMoves, kindStops}
+use Rattle.decoding.specs.declared.Part.the-variants.{Go, Stop, Amp}
+use Rattle.kinds.specs.declared.Band.{Band}
+use Rattle.kinds.specs.declared.Band.the-variants.{From, Absent}
+use Rattle.kinds.specs.Kinds.{asKind, InRange, monStates, bandOf, withColumn, kindMoves, kindStops}
 use Rattle.reader.specs.declared.Reading.{Reading}
 use Rattle.reader.specs.declared.Sizes.{Sizes}
 use Rattle.reader.specs.declared.Taken.{Taken}
@@ -35,6 +39,8 @@ pub record Allowed (z : Sizes) : Type 0 where
   pub few-monitors : z .monitors ≤ 4
   pub few-latest : z .latest ≤ 32
   pub none-latest : z .monitors ≡ 0 → z .latest ≡ 0
+  pub some-band : (lo hi : ℤ) → z .band ≡ From lo hi → 1 ≤ z .monitors
+  pub in-band : (lo hi : ℤ) → z .band ≡ From lo hi → InRange (bal lo hi)
   pub few-joint : z .joint ≤ 1024
 
 abbrev pub onlyIf : {A : Type 0} → ℕ → A → A → A
@@ -52,7 +58,7 @@ unfoldable pub rigCase : Sizes → ℕ → ℕ
 rigCase z e = pick (not (eqb (z .events) 0)) 5 (pick (outside 1 16 e) 3 0)
 
 abbrev pub rigSizes : Sizes → ℕ → Sizes
-rigSizes z e = record { events = e; monitors = z .monitors; latest = z .latest; joint = z .joint }
+rigSizes z e = record { events = e; monitors = z .monitors; latest = z .latest; band = z .band; joint = z .joint }
 
 -- ---- `ord`, whose n events stand first in os, on line number l
 
@@ -75,7 +81,7 @@ kindCase z k =
     0)))
 
 abbrev pub kindSizes : Sizes → Kind → Sizes
-kindSizes z k = record { events = z .events; monitors = z .monitors + 1; latest = monStates k; joint = z .joint * statesOf (asKind k) }
+kindSizes z k = record { events = z .events; monitors = z .monitors + 1; latest = monStates k; band = bandOf k; joint = z .joint * statesOf (asKind k) }
 
 abbrev pub kindCounts : List ℕ → Sizes → Kind → List ℕ
 kindCounts ct z k = set ct (z .monitors) (statesOf (asKind k))
@@ -103,26 +109,63 @@ stopCase sp z s = pick (eqb (z .latest) 0) 5 (pick (leb (z .latest) s) 3 (pick (
 abbrev pub stopStops : List ℕ → Sizes → ℕ → List ℕ
 stopStops sp z s = set sp (stopIndex (z .monitors - 1) s) 1
 
+-- ---- `amp`, e, d
+
+abbrev pub isBand : Band → Bool
+isBand (From lo hi) = true
+isBand Absent = false
+
+abbrev pub givenIndex : ℕ → ℕ → ℕ
+givenIndex m e = m * 16 + e
+
+abbrev pub givenAt : List ℕ → ℕ → ℕ → ℕ
+givenAt gv m e = getD gv (givenIndex m e) 0
+
+unfoldable pub ampCase : List ℕ → Sizes → ℕ → ℤ → ℕ
+ampCase gv z e d =
+    pick (not (isBand (z .band))) 5
+    (pick (leb (z .events) e || outsideℤ (negℤ (pos 15)) (pos 15) d) 3
+    (pick (not (eqb (givenAt gv (z .monitors - 1) e) 0)) 4
+    0))
+
+abbrev pub columnIn : List ℕ → ℕ → Band → ℕ → ℤ → List ℕ
+columnIn mv m (From lo hi) e d = withColumn mv m e (bal lo hi) d
+columnIn mv m Absent e d = mv
+
+abbrev pub ampMoves : List ℕ → Sizes → ℕ → ℤ → List ℕ
+ampMoves mv z e d = columnIn mv (z .monitors - 1) (z .band) e d
+
+abbrev pub ampGiven : List ℕ → Sizes → ℕ → List ℕ
+ampGiven gv z e = set gv (givenIndex (z .monitors - 1) e) 1
+
 -- ---- any line
 
-abbrev pub partCase : List ℕ → List ℕ → Sizes → Part → ℕ
-partCase mv sp z (Go s e t) = goCase mv z s e t
-partCase mv sp z (Stop s) = stopCase sp z s
+abbrev pub partCase : List ℕ → List ℕ → List ℕ → Sizes → Part → ℕ
+partCase mv sp gv z (Go s e t) = goCase mv z s e t
+partCase mv sp gv z (Stop s) = stopCase sp z s
+partCase mv sp gv z (Amp e d) = ampCase gv z e d
 
 abbrev pub partMoves : List ℕ → Sizes → Part → List ℕ
 partMoves mv z (Go s e t) = goMoves mv z s e t
 partMoves mv z (Stop s) = mv
+partMoves mv z (Amp e d) = ampMoves mv z e d
 
 abbrev pub partStops : List ℕ → Sizes → Part → List ℕ
 partStops sp z (Go s e t) = sp
 partStops sp z (Stop s) = stopStops sp z s
+partStops sp z (Amp e d) = sp
 
-abbrev pub caseOf : List ℕ → List ℕ → List ℕ → Sizes → ℕ → Form → ℕ
-caseOf mv sp os z l (Rig e) = rigCase z e
-caseOf mv sp os z l (Ord n) = ordCase os z l n
-caseOf mv sp os z l (Begins k) = kindCase z k
-caseOf mv sp os z l (Continues p) = partCase mv sp z p
-caseOf mv sp os z l Other = 2
+abbrev pub partGiven : List ℕ → Sizes → Part → List ℕ
+partGiven gv z (Go s e t) = gv
+partGiven gv z (Stop s) = gv
+partGiven gv z (Amp e d) = ampGiven gv z e
+
+abbrev pub caseOf : List ℕ → List ℕ → List ℕ → List ℕ → Sizes → ℕ → Form → ℕ
+caseOf mv sp gv os z l (Rig e) = rigCase z e
+caseOf mv sp gv os z l (Ord n) = ordCase os z l n
+caseOf mv sp gv os z l (Begins k) = kindCase z k
+caseOf mv sp gv os z l (Continues p) = partCase mv sp gv z p
+caseOf mv sp gv os z l Other = 2
 
 abbrev pub sizesAfter : Sizes → Form → Sizes
 sizesAfter z (Rig e) = rigSizes z e
@@ -144,6 +187,13 @@ stopsAfter sp z (Ord n) = sp
 stopsAfter sp z (Begins k) = kindStops sp (z .monitors) (asKind k)
 stopsAfter sp z (Continues p) = partStops sp z p
 stopsAfter sp z Other = sp
+
+abbrev pub givenAfter : List ℕ → Sizes → Form → List ℕ
+givenAfter gv z (Rig e) = gv
+givenAfter gv z (Ord n) = gv
+givenAfter gv z (Begins k) = gv
+givenAfter gv z (Continues p) = partGiven gv z p
+givenAfter gv z Other = gv
 
 abbrev pub countsAfter : List ℕ → Sizes → Form → List ℕ
 countsAfter ct z (Rig e) = ct

@@ -2,6 +2,7 @@
 use decoding::Form;
 use decoding::Kind;
 use decoding::Part;
+use kinds::Band;
 use rig::Rig;
 ghost use mathlib.Core.Path.{_≡_};
 ghost use Prim.Native.Nat.{_<_};
@@ -9,7 +10,7 @@ ghost use lib.ListN.{length};
 ghost use Rattle.promises.specs.Reading as promised;
 ghost use Rattle.kinds.specs.Kinds.{asKind, kindMoves, kindStops};
 ghost use Rattle.reader.specs.Reading.{answerOf, recordOf};
-ghost use Rattle.reader.specs.Taking.{Allowed, taken, rigCase, rigSizes, ordCase, kindCase, kindSizes, kindCounts, kindStarts, goCase, goMoves, stopCase, stopStops, caseOf, sizesAfter, movesAfter, stopsAfter, countsAfter, startsAfter, onlyIf};
+ghost use Rattle.reader.specs.Taking.{Allowed, taken, rigCase, rigSizes, ordCase, kindCase, kindSizes, kindCounts, kindStarts, goCase, goMoves, stopCase, stopStops, ampCase, ampMoves, ampGiven, caseOf, sizesAfter, movesAfter, stopsAfter, givenAfter, countsAfter, startsAfter, onlyIf};
 ghost use Rattle.reader.specs.Taking as taking;
 
 // What reading answers: the text is readable, or a number and a place.
@@ -25,11 +26,12 @@ pub struct Reading {
 }
 
 // What the lines so far say: E, how many monitors there are, how many states a `go` or `stop` line can name, which are those of the latest monitor if it is a
-// `mon`, and P.
+// `mon`, the band in which an `amp` line moves, which is that of the latest monitor if it is a `bal`, and P.
 struct Sizes {
     events: usize,
     monitors: usize,
     latest: usize,
+    band: Band,
     joint: usize,
 }
 
@@ -62,10 +64,12 @@ fn take_rig(z: Sizes, e: usize) -> Taken
     if 16 < e {
         return Taken::Bad(3); // more than 16 events
     }
+    let band = z.band;
     Taken::Next(Sizes {
         events: e,
         monitors: z.monitors,
         latest: z.latest,
+        band,
         joint: z.joint,
     })
 }
@@ -145,6 +149,7 @@ fn take_kind(
         events: z.events,
         monitors: m + 1,
         latest: kinds::mon_states(k),
+        band: kinds::band_of(k),
         joint,
     })
 }
@@ -195,10 +200,39 @@ fn take_stop(stops: &mut [u8], z: Sizes, s: usize) -> Taken
     Taken::Next(z)
 }
 
+// `amp`, e, d: 'gives event e a signed step d' in the latest monitor, whose moves on e are then those of this step. An event that has one already is seen in the
+// list.
+fn take_amp(moves: &mut [u8], given: &mut [u8], z: Sizes, e: usize, d: i64) -> Taken
+    requires { ⌜ (length (now moves) ≡ 2048) × (length (now given) ≡ 64) × Allowed z ⌝ }
+    ensures { λ r. ⌜ r ≡ taken (ampCase (now (given .entry)) z e d) z ⌝ }
+    ensures { λ _. ⌜ now (moves .exit) ≡ onlyIf (ampCase (now (given .entry)) z e d) (ampMoves (now (moves .entry)) z e d) (now (moves .entry)) ⌝ }
+    ensures { λ _. ⌜ now (given .exit) ≡ onlyIf (ampCase (now (given .entry)) z e d) (ampGiven (now (given .entry)) z e) (now (given .entry)) ⌝ }
+{
+    let band = z.band;
+    let Band::From(lo, hi) = band else {
+        return Taken::Bad(5); // the latest monitor is no `bal`, or there is none
+    };
+    if z.events <= e {
+        return Taken::Bad(3); // e is no event
+    }
+    if kinds::outside_signed(-15, 15, d) {
+        return Taken::Bad(3); // d is no step
+    }
+    let m = z.monitors - 1;
+    let at = m * 16 + e;
+    if given[at] != 0 {
+        return Taken::Bad(4); // given twice
+    }
+    given[at] = 1;
+    kinds::fill_column(moves, m, e, Kind::Bal(lo, hi), d);
+    Taken::Next(z)
+}
+
 // One line more, of this number.
 fn take_line(
     moves: &mut [u8],
     stops: &mut [u8],
+    given: &mut [u8],
     counts: &mut [u8],
     starts: &mut [u8],
     order: &[u8],
@@ -206,12 +240,13 @@ fn take_line(
     line: u64,
     form: Form,
 ) -> Taken
-    requires { ⌜ (length (now moves) ≡ 2048) × (length (now stops) ≡ 128) × (length (now counts) ≡ 4) × (length (now starts) ≡ 4) × (length (now order) ≡ 16) × Allowed z ⌝ }
-    ensures { λ r. ⌜ r ≡ taken (caseOf (now (moves .entry)) (now (stops .entry)) (now (order .entry)) z line form) (sizesAfter z form) ⌝ }
-    ensures { λ _. ⌜ now (moves .exit) ≡ onlyIf (caseOf (now (moves .entry)) (now (stops .entry)) (now (order .entry)) z line form) (movesAfter (now (moves .entry)) z form) (now (moves .entry)) ⌝ }
-    ensures { λ _. ⌜ now (stops .exit) ≡ onlyIf (caseOf (now (moves .entry)) (now (stops .entry)) (now (order .entry)) z line form) (stopsAfter (now (stops .entry)) z form) (now (stops .entry)) ⌝ }
-    ensures { λ _. ⌜ now (counts .exit) ≡ onlyIf (caseOf (now (moves .entry)) (now (stops .entry)) (now (order .entry)) z line form) (countsAfter (now (counts .entry)) z form) (now (counts .entry)) ⌝ }
-    ensures { λ _. ⌜ now (starts .exit) ≡ onlyIf (caseOf (now (moves .entry)) (now (stops .entry)) (now (order .entry)) z line form) (startsAfter (now (starts .entry)) z form) (now (starts .entry)) ⌝ }
+    requires { ⌜ (length (now moves) ≡ 2048) × (length (now stops) ≡ 128) × (length (now given) ≡ 64) × (length (now counts) ≡ 4) × (length (now starts) ≡ 4) × (length (now order) ≡ 16) × Allowed z ⌝ }
+    ensures { λ r. ⌜ r ≡ taken (caseOf (now (moves .entry)) (now (stops .entry)) (now (given .entry)) (now (order .entry)) z line form) (sizesAfter z form) ⌝ }
+    ensures { λ _. ⌜ now (moves .exit) ≡ onlyIf (caseOf (now (moves .entry)) (now (stops .entry)) (now (given .entry)) (now (order .entry)) z line form) (movesAfter (now (moves .entry)) z form) (now (moves .entry)) ⌝ }
+    ensures { λ _. ⌜ now (stops .exit) ≡ onlyIf (caseOf (now (moves .entry)) (now (stops .entry)) (now (given .entry)) (now (order .entry)) z line form) (stopsAfter (now (stops .entry)) z form) (now (stops .entry)) ⌝ }
+    ensures { λ _. ⌜ now (given .exit) ≡ onlyIf (caseOf (now (moves .entry)) (now (stops .entry)) (now (given .entry)) (now (order .entry)) z line form) (givenAfter (now (given .entry)) z form) (now (given .entry)) ⌝ }
+    ensures { λ _. ⌜ now (counts .exit) ≡ onlyIf (caseOf (now (moves .entry)) (now (stops .entry)) (now (given .entry)) (now (order .entry)) z line form) (countsAfter (now (counts .entry)) z form) (now (counts .entry)) ⌝ }
+    ensures { λ _. ⌜ now (starts .exit) ≡ onlyIf (caseOf (now (moves .entry)) (now (stops .entry)) (now (given .entry)) (now (order .entry)) z line form) (startsAfter (now (starts .entry)) z form) (now (starts .entry)) ⌝ }
 {
     match form {
         Form::Rig(e) => take_rig(z, e),
@@ -220,6 +255,7 @@ fn take_line(
         Form::Continues(p) => match p {
             Part::Go(s, e, t) => take_go(moves, z, s, e, t),
             Part::Stop(s) => take_stop(stops, z, s),
+            Part::Amp(e, d) => take_amp(moves, given, z, e, d),
         },
         Form::Other => Taken::Bad(2),
     }
@@ -235,6 +271,7 @@ pub fn read(text: &[u8]) -> Reading
     }
     let mut moves = [255u8; 2048];
     let mut stops = [0u8; 128];
+    let mut given = [0u8; 64];
     let mut counts = [0u8; 4];
     let mut starts = [0u8; 4];
     let mut order = rig::lower_first();
@@ -242,6 +279,7 @@ pub fn read(text: &[u8]) -> Reading
         events: 0,
         monitors: 0,
         latest: 0,
+        band: Band::Absent,
         joint: 1,
     };
     let mut line = 1;
@@ -256,6 +294,7 @@ pub fn read(text: &[u8]) -> Reading
         match take_line(
             &mut moves,
             &mut stops,
+            &mut given,
             &mut counts,
             &mut starts,
             &order,

@@ -1,15 +1,14 @@
 -- Each return is one of the cases of a line that begins a monitor, in their order; only the last writes.
 -- Assumes nothing.
 use mathlib.Core.Path.{_≡_, sym, _∙_}
-use Prim.Native.Nat.{_*_, _≤_, _<_}
+use Prim.Native.Nat.{_*_, _≤_}
 use native.Mathlib.Omega.{arith}
 use native.Mathlib.Nat.{mul-le-mul}
 use borrow.Author.Tests.{le-leb, lt-leb, lt-ltb, le-ltb, eq-eqb, ne-eqb}
-use Rattle.promises.specs.Text.{statesOf, startOf}
-use Rattle.promises.proofs.Lines.{start-below, few-states}
-use Rattle.kinds.specs.Kinds.{asKind}
+use Rattle.promises.proofs.Lines.{start-below}
+use Rattle.kinds.specs.Kinds.{asKind, InRange}
+use Rattle.kinds.proofs.Bands.{ranged, few}
 use Rattle.reader.specs.Taking.{kindCase}
-use Rattle.reader.proofs.Taking.{ranged}
 use borrow.Author.Needs.{needs}
 use Rattle.reader.proofs.take_kind.Statement.{statement}
 use Rattle.reader.proofs.take_kind.Tie as tie
@@ -49,13 +48,11 @@ returns-4 c =
     (rw q, (rw q, (rw q, (rw q, rw q))))
 
 states-requires : tie.Need-states-requires
-states-requires c κs = let st = c .before .before .before .before .before .before .before .before .before .before .before .before in few-states _ _ (ranged (st .args .z .events) (asKind (st .args .k)) (sym (c .before .before .before .before .before .out-of-range .ensures) ∙ c .before .before .before .before .if2 .left) (sym (c .before .equal .ensures) ∙ c .if4 .left))
+states-requires c κs = (c .before .before .before .before .before .before .before .before .before .before .before .before .args .z .events, sym (c .before .before .before .before .before .out-of-range .ensures) ∙ c .before .before .before .before .if2 .left, sym (c .before .equal .ensures) ∙ c .if4 .left)
 
 mul-joint : tie.Need-mul-joint
 mul-joint c =
-    let st = c .before .before .before .before .before .before .before .before .before .before .before .before .before .before in
-    let few : statesOf (asKind (st .args .k)) ≤ 32 = few-states _ _ (ranged (st .args .z .events) (asKind (st .args .k)) (sym (c .before .before .before .before .before .before .before .out-of-range .ensures) ∙ c .before .before .before .before .before .before .if2 .left) (sym (c .before .before .before .equal .ensures) ∙ c .before .before .if4 .left)) in
-    let h : st .args .z .joint * c .before .states .result ≤ 1024 * 32 = mul-le-mul {m₂ = 32} (st .pre .4 .few-joint) (rw (c .before .states .ensures) few) in
+    let h : c .before .before .before .before .before .before .before .before .before .before .before .before .before .before .args .z .joint * c .before .states .result ≤ 1024 * 32 = mul-le-mul {m₂ = 32} (c .before .before .before .before .before .before .before .before .before .before .before .before .before .before .pre .4 .few-joint) (rw (c .before .states .ensures) (few (asKind (c .before .before .before .before .before .before .before .before .before .before .before .before .before .before .args .k)) (c .before .before .before .before .before .before .before .before .before .before .before .before .before .before .args .z .events, sym (c .before .before .before .before .before .before .before .out-of-range .ensures) ∙ c .before .before .before .before .before .before .if2 .left, sym (c .before .before .before .equal .ensures) ∙ c .before .before .if4 .left))) in
     omega arith
 
 returns-5 : tie.Need-returns-5
@@ -66,32 +63,21 @@ returns-5 c =
     (rw q, (rw q, (rw q, (rw q, rw q))))
 
 fill-tables-requires : tie.Need-fill-tables-requires
-fill-tables-requires c κs =
-    let st = c .before .before .before .before .before .before .before .before .before .before .before .before .before .before .before .before .before in
-    let range = ranged (st .args .z .events) (asKind (st .args .k)) (sym (c .before .before .before .before .before .before .before .before .before .before .out-of-range .ensures) ∙ c .before .before .before .before .before .before .before .before .before .if2 .left) (sym (c .before .before .before .before .before .before .equal .ensures) ∙ c .before .before .before .before .before .if4 .left) in
-    let few = few-states _ _ range in
-    let below = start-below _ _ range in
-    ((st .pre .0, st .pre .1, c .before .before .before .before .before .before .before .if3 .left, st .pre .4 .few-events), (omega arith, few))
+fill-tables-requires c κs = let st = c .before .before .before .before .before .before .before .before .before .before .before .before .before .before .before .before .before in ((st .pre .0, st .pre .1, c .before .before .before .before .before .before .before .if3 .left, st .pre .4 .few-events), (c .before .before .before .before .before .before .before .before .before .before .before .before .before .before .before .before .before .args .z .events, sym (c .before .before .before .before .before .before .before .before .before .before .out-of-range .ensures) ∙ c .before .before .before .before .before .before .before .before .before .if2 .left, sym (c .before .before .before .before .before .before .equal .ensures) ∙ c .before .before .before .before .before .if4 .left))
 
 cast-counts : tie.Need-cast-counts
-cast-counts c =
-    let st = c .before .before .before .before .before .before .before .before .before .before .before .before .before .before .before .before .before .before .before .before .before .before in
-    let few : statesOf (asKind (st .args .k)) ≤ 32 = few-states _ _ (ranged (st .args .z .events) (asKind (st .args .k)) (sym (c .before .before .before .before .before .before .before .before .before .before .before .before .before .before .before .out-of-range .ensures) ∙ c .before .before .before .before .before .before .before .before .before .before .before .before .before .before .if2 .left) (sym (c .before .before .before .before .before .before .before .before .before .before .before .equal .ensures) ∙ c .before .before .before .before .before .before .before .before .before .before .if4 .left)) in
-    omega (arith, c .before .before .before .before .before .before .before .before .before .states .ensures)
+cast-counts c = omega (arith, few (asKind (c .before .before .before .before .before .before .before .before .before .before .before .before .before .before .before .before .before .before .before .before .before .before .args .k)) (c .before .before .before .before .before .before .before .before .before .before .before .before .before .before .before .before .before .before .before .before .before .before .args .z .events, sym (c .before .before .before .before .before .before .before .before .before .before .before .before .before .before .before .out-of-range .ensures) ∙ c .before .before .before .before .before .before .before .before .before .before .before .before .before .before .if2 .left, sym (c .before .before .before .before .before .before .before .before .before .before .before .equal .ensures) ∙ c .before .before .before .before .before .before .before .before .before .before .if4 .left), c .before .before .before .before .before .before .before .before .before .states .ensures)
 
 slice-write-counts : tie.Need-slice-write-counts
 slice-write-counts c = search needs
 
 start-requires : tie.Need-start-requires
-start-requires c κs = search needs
+start-requires c κs = (c .before .before .before .before .before .before .before .before .before .before .before .before .before .before .before .before .before .before .before .before .before .before .args .z .events, sym (c .before .before .before .before .before .before .before .before .before .before .before .before .before .before .before .out-of-range .ensures) ∙ c .before .before .before .before .before .before .before .before .before .before .before .before .before .before .if2 .left, sym (c .before .before .before .before .before .before .before .before .before .before .before .equal .ensures) ∙ c .before .before .before .before .before .before .before .before .before .before .if4 .left)
 
 cast-starts : tie.Need-cast-starts
 cast-starts c =
-    let st = c .before .before .before .before .before .before .before .before .before .before .before .before .before .before .before .before .before .before .before .before .before .before .before in
-    let range = ranged (st .args .z .events) (asKind (st .args .k)) (sym (c .before .before .before .before .before .before .before .before .before .before .before .before .before .before .before .before .out-of-range .ensures) ∙ c .before .before .before .before .before .before .before .before .before .before .before .before .before .before .before .if2 .left) (sym (c .before .before .before .before .before .before .before .before .before .before .before .before .equal .ensures) ∙ c .before .before .before .before .before .before .before .before .before .before .before .if4 .left) in
-    let few : statesOf (asKind (st .args .k)) ≤ 32 = few-states _ _ range in
-    let below : startOf (asKind (st .args .k)) < statesOf (asKind (st .args .k)) = start-below _ _ range in
-    omega (arith, c .start .ensures)
+    let r : InRange (asKind (c .before .before .before .before .before .before .before .before .before .before .before .before .before .before .before .before .before .before .before .before .before .before .before .args .k)) = (c .before .before .before .before .before .before .before .before .before .before .before .before .before .before .before .before .before .before .before .before .before .before .before .args .z .events, sym (c .before .before .before .before .before .before .before .before .before .before .before .before .before .before .before .before .out-of-range .ensures) ∙ c .before .before .before .before .before .before .before .before .before .before .before .before .before .before .before .if2 .left, sym (c .before .before .before .before .before .before .before .before .before .before .before .before .equal .ensures) ∙ c .before .before .before .before .before .before .before .before .before .before .before .if4 .left) in
+    omega (arith, few (asKind (c .before .before .before .before .before .before .before .before .before .before .before .before .before .before .before .before .before .before .before .before .before .before .before .args .k)) r, start-below (r .0) (asKind (c .before .before .before .before .before .before .before .before .before .before .before .before .before .before .before .before .before .before .before .before .before .before .before .args .k)) (ranged (asKind (c .before .before .before .before .before .before .before .before .before .before .before .before .before .before .before .before .before .before .before .before .before .before .before .args .k)) r), c .start .ensures)
 
 slice-write-starts : tie.Need-slice-write-starts
 slice-write-starts c = search needs
@@ -101,6 +87,9 @@ add-t20 c = search needs
 
 mon-states-requires : tie.Need-mon-states-requires
 mon-states-requires c κs = search needs
+
+band-of-requires : tie.Need-band-of-requires
+band-of-requires c κs = search needs
 
 same-length : tie.Need-same-length
 same-length c = search needs
@@ -117,11 +106,11 @@ same-length-4 c = search needs
 returns-6 : tie.Need-returns-6
 unfolding kindCase
 returns-6 c =
-    let st = c .before .before .before .before .before .before .before .before .before .before .before .before .before .before .before .before .before .before .before .before .before .before .before .before .args in
-    let n = c .before .before .before .before .before .before .before .before .before .before .before .states .ensures in
-    let f = c .before .before .before .before .before .before .fill-tables .ensures in
-    let q : kindCase (st .z) (st .k) ≡ 0 = rw (← n, ne-eqb _ _ (c .before .before .before .before .before .before .before .before .before .before .before .before .before .before .before .before .before .before .if1 .left), sym (c .before .before .before .before .before .before .before .before .before .before .before .before .before .before .before .before .before .out-of-range .ensures) ∙ c .before .before .before .before .before .before .before .before .before .before .before .before .before .before .before .before .if2 .left, lt-leb _ _ (c .before .before .before .before .before .before .before .before .before .before .before .before .before .before .if3 .left), sym (c .before .before .before .before .before .before .before .before .before .before .before .before .before .equal .ensures) ∙ c .before .before .before .before .before .before .before .before .before .before .before .before .if4 .left, le-ltb _ _ (c .before .before .before .before .before .before .before .before .before .if5 .left)) in
-    (rw (q, ← n, ← c .mon-states .ensures), (rw q (f .0), (rw q (f .1), (rw (q, ← n), rw (q, ← c .before .start .ensures)))))
+    let st = c .before .before .before .before .before .before .before .before .before .before .before .before .before .before .before .before .before .before .before .before .before .before .before .before .before .args in
+    let n = c .before .before .before .before .before .before .before .before .before .before .before .before .states .ensures in
+    let f = c .before .before .before .before .before .before .before .fill-tables .ensures in
+    let q : kindCase (st .z) (st .k) ≡ 0 = rw (← n, ne-eqb _ _ (c .before .before .before .before .before .before .before .before .before .before .before .before .before .before .before .before .before .before .before .if1 .left), sym (c .before .before .before .before .before .before .before .before .before .before .before .before .before .before .before .before .before .before .out-of-range .ensures) ∙ c .before .before .before .before .before .before .before .before .before .before .before .before .before .before .before .before .before .if2 .left, lt-leb _ _ (c .before .before .before .before .before .before .before .before .before .before .before .before .before .before .before .if3 .left), sym (c .before .before .before .before .before .before .before .before .before .before .before .before .before .before .equal .ensures) ∙ c .before .before .before .before .before .before .before .before .before .before .before .before .before .if4 .left, le-ltb _ _ (c .before .before .before .before .before .before .before .before .before .before .if5 .left)) in
+    (rw (q, ← n, ← c .before .mon-states .ensures, ← c .band-of .ensures), (rw q (f .0), (rw q (f .1), (rw (q, ← n), rw (q, ← c .before .before .start .ensures)))))
 
 pub take-kind-spec : {M : Type 1} → statement M
 take-kind-spec =
@@ -144,6 +133,7 @@ take-kind-spec =
     slice-write-starts
     add-t20
     mon-states-requires
+    band-of-requires
     same-length
     same-length-2
     same-length-3
