@@ -19,8 +19,13 @@
  *   gap e n           a new monitor: two events e are at least n steps apart, n from 2 to 32
  *   reply a b lo hi   a new monitor: after a, some b comes lo to hi steps later, lo from 1 to hi, hi up to 31; until the first such b no
  *                     further a is admitted, and an earlier b is admitted and settles nothing; a reply may still be due at the horizon
+ *   bal lo hi         a new monitor of a difference that begins at 0: an event adds its step, and is admitted if the difference stays from
+ *                     lo to hi; lo from -15 to 0, hi from 0 to 15
+ *   amp e d           gives event e the step d, -15 to 15, in the latest monitor, a `bal`; an event without such a line has step 0
+ * In lo, hi and d of `bal` and `amp` a minus sign, byte 45, may come before a nonzero number; no sign may stand anywhere else.
  * One to four monitors, of any kind. A `gap` has n states: the number of coming steps in which e is not admitted; all are marked. A `reply`
- * has hi+1 states: 0 with nothing due, 1 just after a, and one more each step; only 0 is marked. Both start in 0.
+ * has hi+1 states: 0 with nothing due, 1 just after a, and one more each step; only 0 is marked. Both start in 0. A `bal` has hi-lo+1
+ * states: state j is the difference lo+j; all are marked. It starts in -lo.
  * P is the product of all numbers of states, at most 1,024. The horizon h is 0 to 1,000. N is the number of scenarios of h events.
  *
  * A joint state is stoppable if every monitor's state is marked. It is live if, for every k, k events can follow, or fewer, none included,
@@ -29,13 +34,16 @@
  *
  * Returned: 0 where the call is served, else the number of refusal, with a place (0 where none is named):
  *    1  text over 65,535 bytes
- *    2  no such line form, a field that is no number, or the last line unended;  place: line, from 1
- *       on line 2, an `ord` with other than E events
+ *    2  no such line form, a field that is no number, a sign where none may      place: line, from 1
+ *       stand, or the last line unended; on line 2, an `ord` with other than E
+ *       events
  *    3  a number out of its range, a start or a marked state not below S, lo     place: line
  *       over hi, or a fifth monitor
- *    4  s and e again in one monitor, or a state marked twice                    place: line
+ *    4  s and e again in one monitor, a state marked twice, or an event again    place: line
+ *       in one `bal`
  *    5  first line not `rig`, `rig` later, `ord` not on line 2, `go` or `stop`   place: line; at the end, lines + 1
- *       before any `mon`, or after a `gap` or `reply`; no monitor by the end
+ *       where the latest monitor is no `mon`, `amp` where it is no `bal`; no
+ *       monitor by the end
  *    6  P over 1,024                                                             place: line of that monitor
  *    7  h over 1,000
  *    8  cells_len below (h + 1) * P; scratch_len below 2 * draws_len

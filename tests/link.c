@@ -3,12 +3,12 @@
 #include <string.h>
 #include "wandukhai.h"
 
-enum { HORIZON = 3, STATES = 2, CELLS = (HORIZON + 1) * STATES, MOST = 8 };
+enum { HORIZON = 3, STATES = 2 * 3, CELLS = (HORIZON + 1) * STATES, MOST = 8 };
 
 int main(void)
 {
-    /* Two 1s are at least two steps apart; link.rs has the same rig as `mon` and `go` lines. */
-    const char *rig = "rig\t2\ngap\t1\t2\n";
+    /* Two 1s are at least two steps apart, and at most two come. link.rs has a rig of `mon` and `go` lines with the same scenarios. */
+    const char *rig = "rig\t2\ngap\t1\t2\nbal\t-2\t0\namp\t1\t-1\n";
     const uint8_t *text = (const uint8_t *)rig;
     const size_t len = strlen(rig);
     /* Draw i is from i to N-1; a real caller draws them at random. */

@@ -38,7 +38,7 @@ fn shuffle(n: u64, draws: &[u64], scratch: &mut [u64], out: &mut [u64]) -> Resul
 }
 
 fn main() -> Result<(), (u64, u64)> {
-    // No two 1s together; link.c has the same rig as a `gap` line.
+    // No two 1s together; link.c has a rig of `gap`, `bal` and `amp` lines with the same scenarios.
     let rig = b"rig\t2\nmon\t2\ngo\t0\t0\t0\ngo\t0\t1\t1\ngo\t1\t0\t0\n";
     let (h, states) = (3, 2);
     let mut cells = vec![0; (h + 1) * states];

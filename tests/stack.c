@@ -40,11 +40,34 @@ static void write_rig(int many)
         end += sprintf(end, "stop\t%d\n", s);
 }
 
+static void write_many(void)
+{
+    write_rig(1);
+}
+
 /* A `gap` and a `reply` of 32 states each; the 13 events that neither names make N more than 13 ^ h. */
 static void write_rules(void)
 {
     sprintf(text, "rig\t%d\ngap\t0\t%d\nreply\t1\t2\t1\t%d\n", EVENTS, S, S - 1);
 }
+
+/* Three `bal`s of 16, 16 and 4 states with a step for every event; the 5 events whose step is 0 in each make N more than 5 ^ h. */
+static void write_sums(void)
+{
+    static const char *const bals[] = {"bal\t-15\t0\n", "bal\t0\t15\n", "bal\t-1\t2\n"};
+    static const int steps[][3] = {{-15, 0, 1}, {15, 0, -1}, {-1, 0, 1}};
+    char *end = text + sprintf(text, "rig\t%d\n", EVENTS);
+    int k, e;
+
+    for (k = 0; k < 3; k++) {
+        end += sprintf(end, "%s", bals[k]);
+        for (e = 0; e < EVENTS; e++)
+            end += sprintf(end, "amp\t%d\t%d\n", e, steps[k][e % 3]);
+    }
+}
+
+/* The texts whose N is 2^64 - 1 or more at the horizon. */
+static void (*const full[])(void) = {write_many, write_rules, write_sums};
 
 static void count(void)
 {
@@ -124,14 +147,12 @@ int main(void)
         draws[i] = i + (i * 7919) % (DRAWS - i);
     n = DRAWS;
     shuffled = used(shuffle, 0);
-    write_rig(1);
-    counted = more(counted, used(count, 10));
-    listed = more(listed, used(scenarios, 10));
-    found = more(found, used(index_of, 10));
-    write_rules();
-    counted = more(counted, used(count, 10));
-    listed = more(listed, used(scenarios, 10));
-    found = more(found, used(index_of, 10));
+    for (i = 0; i < sizeof full / sizeof *full; i++) {
+        full[i]();
+        counted = more(counted, used(count, 10));
+        listed = more(listed, used(scenarios, 10));
+        found = more(found, used(index_of, 10));
+    }
     n = UINT64_MAX;
     for (i = 0; i < DRAWS; i++)
         draws[i] = UINT64_MAX - 1 - (i * 7919) % 1000;

@@ -1,5 +1,6 @@
 //! How long the calls take beside plain Rust and plain C on the same input, in the same run: the best of some rounds, taken in turn. Buffers are
-//! lent as the round before left them. Every answer is compared. And how long `gap` and `reply` lines take to read beside the moves they stand for.
+//! lent as the round before left them. Every answer is compared. And how long `gap`, `reply` and `bal` lines take to read beside the moves they stand
+//! for.
 mod plain;
 
 use outside::texts::{lower_first, written_out};
@@ -219,8 +220,8 @@ fn growths() {
     growth("random, of 2^64 - 1, a map", &mut map, &most, &mut random);
 }
 
-/// Best microseconds that reading takes, of `gap` and `reply` lines and of the same monitors as `mon`, `go` and `stop` lines. The horizon 1,001 is refused
-/// once the text is read, so nothing else is timed.
+/// Best microseconds that reading takes, of `gap`, `reply` and `bal` lines and of the same monitors as `mon`, `go` and `stop` lines. The horizon 1,001 is
+/// refused once the text is read, so nothing else is timed.
 fn reading(name: &str, rules: &str) {
     let moves = lower_first(&written_out(&model::read(rules.as_bytes()).unwrap()));
     let texts = [rules.as_bytes().to_vec(), moves];
@@ -246,6 +247,13 @@ fn readings() {
     reading("gap 0 32 and reply 1 2 1 31, of 16 events", "rig\t16\ngap\t0\t32\nreply\t1\t2\t1\t31\n");
     let four = "rig\t16\ngap\t0\t5\ngap\t1\t6\nreply\t0\t2\t2\t4\nreply\t1\t3\t1\t4\n";
     reading("two gaps and two replies of 5 or 6 states, of 16 events", four);
+    reading("bal 0 1 and 1 amp, of 1 event", "rig\t1\nbal\t0\t1\namp\t0\t1\n");
+    reading("bal -2 2 and 4 amps, of 4 events", "rig\t4\nbal\t-2\t2\namp\t0\t1\namp\t1\t-1\namp\t2\t-1\namp\t3\t1\n");
+    reading("bal -15 15 and no amp, of 16 events", "rig\t16\nbal\t-15\t15\n");
+    let amps: String = (0..16).map(|e| format!("amp\t{e}\t{}\n", e - 8)).collect();
+    reading("bal -15 15 and 16 amps, of 16 events", &format!("rig\t16\nbal\t-15\t15\n{amps}"));
+    let three = format!("rig\t16\nbal\t-15\t0\n{amps}bal\t0\t15\n{amps}bal\t-1\t2\n{amps}");
+    reading("three bals of 16, 16 and 4 states, 48 amps, of 16 events", &three);
 }
 
 fn main() {

@@ -4,11 +4,11 @@ use outside::brute::{sequences, Judged, Runs};
 use outside::calls::{self, Told};
 use outside::guarded::{bytes, noise_bytes, noise_words, words, Guarded};
 use outside::listing::scenario_line;
-use outside::model::{self, Kind};
+use outside::model::{self, Kind, Monitor};
 use outside::random::Random;
-use outside::rules::{self, admitted, Rule};
-use outside::texts::{self, damage, endless, from_state_0, lower_first, other_marks, other_order, other_rules, other_start, ruled};
-use outside::texts::{text, written_out, Shape};
+use outside::rules::{self, admitted, steps, within, Rule};
+use outside::texts::{self, damage, endless, from_state_0, lower_first, other_bal, other_marks, other_order, other_rules, other_start};
+use outside::texts::{ruled, text, written_out, wrong_signs, Shape};
 use std::collections::{BTreeMap, HashSet};
 
 #[derive(Default)]
@@ -25,7 +25,9 @@ struct Tally {
     lines: BTreeMap<(&'static str, u64), u64>,
     /// By word of a line and of the latest monitor: how many random texts were refused 5 for a line that isn't that monitor's.
     others: BTreeMap<(&'static str, &'static str), u64>,
-    /// By kind of monitor: how many random rigs were served that have one. And how many that have no `mon`.
+    /// By word of a line and cause: how many random texts were refused for a `bal` or `amp` line with this cause alone.
+    causes: BTreeMap<(&'static str, &'static str), u64>,
+    /// By kind of monitor: how many random rigs were served that have one. And how many that have two `bal`, no `mon` or only `bal`.
     kinds: BTreeMap<&'static str, u64>,
     /// How many random rigs were served that have a stoppable state, and how many of these also a live state without any scenario of the horizon.
     stoppable: u64,
@@ -36,9 +38,9 @@ struct Tally {
     ending: u64,
     /// How many sequences of small rigs are refused 14 at an event before which no scenario goes on already.
     late: u64,
-    /// How many sequences of `gap` and `reply` lines are admitted and can't be carried on.
+    /// How many sequences of `gap`, `reply` and `bal` lines are admitted and can't be carried on.
     dropped: u64,
-    /// How many rigs of `gap` and `reply` lines were served whose long sequences were judged by their sentences.
+    /// How many rigs of such lines were served whose long sequences were judged by their sentences.
     admitted: u64,
     /// How many lines had too short an output, so that nothing is written.
     short: u64,
@@ -132,7 +134,7 @@ fn shuffle(tally: &mut Tally, rng: &mut Random, n: u64, draws: &[u64], scratch: 
 
 /// The worked examples of the paper and of its table of refusals, with the answers written there.
 fn worked(tally: &mut Tally, rng: &mut Random) {
-    use texts::{A, A_FROM_1, A_GAP, A_ORDERED, B, B_STOPS, CLASH, EITHER, F, LAST, ONE, REPLY};
+    use texts::{A, A_FROM_1, A_GAP, A_ORDERED, B, B_STOPS, CLASH, EITHER, F, LAST, ONE, REPLY, SWING};
     let at = |t: &str, h: u64, cells: usize, number: u64, words: [u64; 2]| (t.as_bytes().to_vec(), h, cells, number, words);
     let two = "rig\t1\nmon\t32\nmon\t32\n".to_string();
     let mut counts = vec![
@@ -332,6 +334,124 @@ fn worked(tally: &mut Tally, rng: &mut Random) {
         at("rig\t2\ngap\t0\t32\ngap\t1\t32\nmon\t2\n", 0, 2, 6, [4, 0]),
         at("rig\t2\nreply\t0\t1\t1\t31\nreply\t0\t1\t1\t31\nreply\t1\t1\t1\t31\n", 0, 2, 17, [4, 0]),
         at("rig\t2\ngap\t0\t31\ngap\t1\t32\nmon\t1\ngo\t1\t0\t0\n", 0, 2, 3, [5, 0]),
+        // `bal` and `amp`: counted by hand, to both ends of the widest bands; beside each other and beside other kinds
+        at(SWING, 0, 3, 0, [1, 1]),
+        at(SWING, 1, 6, 0, [2, 1]),
+        at(SWING, 2, 9, 0, [2, 1]),
+        at(SWING, 3, 12, 0, [4, 1]),
+        at(SWING, 3, 11, 8, [0, 0]),
+        at("rig\t1\nbal\t0\t0\n", 1000, 1001, 0, [1, 1]),
+        at("rig\t1\nbal\t0\t0\namp\t0\t0\n", 1000, 1001, 0, [1, 1]),
+        at("rig\t1\nbal\t0\t0\namp\t0\t1\n", 0, 1, 0, [1, 1]),
+        at("rig\t1\nbal\t0\t0\namp\t0\t1\n", 1, 2, 9, [0, 0]),
+        at("rig\t1\nbal\t0\t15\namp\t0\t1\n", 15, 256, 0, [1, 1]),
+        at("rig\t1\nbal\t0\t15\namp\t0\t1\n", 16, 272, 9, [0, 0]),
+        at("rig\t1\nbal\t-15\t0\namp\t0\t-1\n", 15, 256, 0, [1, 1]),
+        at("rig\t1\nbal\t-15\t0\namp\t0\t-1\n", 16, 272, 9, [0, 0]),
+        at("rig\t1\nbal\t-15\t15\namp\t0\t15\n", 1, 62, 0, [1, 1]),
+        at("rig\t1\nbal\t-15\t15\namp\t0\t15\n", 2, 93, 9, [0, 0]),
+        at("rig\t1\nbal\t-15\t15\namp\t0\t-15\n", 1, 62, 0, [1, 1]),
+        at("rig\t1\nbal\t-15\t15\namp\t0\t-15\n", 2, 93, 9, [0, 0]),
+        at("rig\t1\nbal\t-15\t14\namp\t0\t15\n", 1, 60, 9, [0, 0]),
+        at("rig\t1\nbal\t-14\t15\namp\t0\t-15\n", 1, 60, 9, [0, 0]),
+        at("rig\t2\nbal\t-15\t15\namp\t1\t-15\namp\t0\t15\n", 3, 124, 0, [4, 1]),
+        at("rig\t2\nbal\t-15\t0\namp\t0\t-1\n", 16, 272, 0, [65_535, 1]),
+        at("rig\t2\nbal\t0\t15\namp\t1\t1\n", 16, 272, 0, [65_535, 1]),
+        at("rig\t2\nbal\t-15\t15\n", 63, 1984, 0, [1 << 63, 1]),
+        at("rig\t2\nbal\t-15\t15\n", 64, 2015, 10, [0, 0]),
+        at("rig\t2\nbal\t0\t1\namp\t0\t1\namp\t1\t-1\nbal\t-1\t0\namp\t0\t1\namp\t1\t-1\n", 0, 4, 0, [1, 1]),
+        at("rig\t2\nbal\t0\t1\namp\t0\t1\namp\t1\t-1\nbal\t-1\t0\namp\t0\t1\namp\t1\t-1\n", 1, 8, 9, [0, 0]),
+        at("rig\t2\nbal\t0\t1\namp\t0\t1\namp\t1\t-1\nbal\t-1\t0\namp\t0\t-1\namp\t1\t1\n", 7, 32, 0, [1, 1]),
+        at("rig\t1\nbal\t0\t1\namp\t0\t1\nbal\t0\t1\namp\t0\t1\n", 1, 8, 0, [1, 1]),
+        at(&format!("rig\t1\n{}", "bal\t0\t0\n".repeat(4)), 1000, 1001, 0, [1, 1]),
+        at("rig\t16\nbal\t-15\t0\nbal\t0\t15\nbal\t-1\t2\n", 0, 1024, 0, [1, 1]),
+        at(&(two.clone() + "bal\t0\t0\n"), 0, 1024, 9, [0, 0]),
+        at("rig\t1\nmon\t1\ngo\t0\t0\t0\nbal\t0\t2\namp\t0\t1\n", 0, 3, 9, [0, 0]),
+        at("rig\t2\nmon\t1\ngo\t0\t0\t0\ngo\t0\t1\t0\nbal\t-2\t0\namp\t0\t-1\n", 3, 12, 0, [7, 1]),
+        at("rig\t1\nmon\t1\ngo\t0\t0\t0\nstop\t0\nbal\t0\t2\namp\t0\t1\n", 2, 9, 0, [1, 1]),
+        at("rig\t1\nmon\t1\ngo\t0\t0\t0\nstop\t0\nbal\t0\t2\namp\t0\t1\n", 3, 12, 9, [0, 0]),
+        at("rig\t2\ngap\t1\t2\nbal\t-1\t0\namp\t1\t-1\n", 3, 16, 0, [4, 1]),
+        at("rig\t2\nbal\t-1\t0\namp\t1\t-1\nreply\t0\t1\t1\t1\n", 2, 12, 0, [1, 2]),
+        // a band that a reply leaves: what can't be settled doesn't belong
+        at("rig\t2\nbal\t0\t0\namp\t1\t1\nreply\t0\t1\t1\t1\n", 0, 2, 0, [1, 2]),
+        at("rig\t2\nbal\t0\t0\namp\t1\t1\nreply\t0\t1\t1\t1\n", 1, 4, 9, [0, 0]),
+        // all their cases, in their order
+        at("rig\t1\nbal\n", 0, 2, 2, [2, 0]),
+        at("rig\t1\nbal\t0\n", 0, 2, 2, [2, 0]),
+        at("rig\t1\nbal\t0\t\n", 0, 2, 2, [2, 0]),
+        at("rig\t1\nbal\t-1\t1\t0\n", 0, 2, 2, [2, 0]),
+        at("rig\t1\nbal\t-99\t99\t0\n", 0, 2, 2, [2, 0]),
+        at("rig\t1\nbal\t-1\t1", 0, 2, 2, [2, 0]),
+        at("rig\t1\nBAL\t-1\t1\n", 0, 2, 2, [2, 0]),
+        at("rig\t1\nbal\t-0\t99\n", 0, 2, 2, [2, 0]),
+        at("rig\t1\nbal\t-100000\t1\n", 0, 2, 2, [2, 0]),
+        at("rig\t1\nbal\t-99999\t1\n", 0, 2, 3, [2, 0]),
+        at("rig\t1\nbal\t-16\t1\n", 0, 2, 3, [2, 0]),
+        at("rig\t1\nbal\t1\t1\n", 0, 2, 3, [2, 0]),
+        at("rig\t1\nbal\t-256\t1\n", 0, 2, 3, [2, 0]),
+        at("rig\t1\nbal\t241\t1\n", 0, 2, 3, [2, 0]),
+        at("rig\t1\nbal\t65535\t1\n", 0, 2, 3, [2, 0]),
+        at("rig\t1\nbal\t-65536\t1\n", 0, 2, 3, [2, 0]),
+        at("rig\t1\nbal\t-1\t16\n", 0, 2, 3, [2, 0]),
+        at("rig\t1\nbal\t-1\t-1\n", 0, 2, 3, [2, 0]),
+        at("rig\t1\nbal\t-1\t256\n", 0, 2, 3, [2, 0]),
+        at("rig\t1\nbal\t-1\t-241\n", 0, 2, 3, [2, 0]),
+        at("rig\t1\nbal\t-1\t65536\n", 0, 2, 3, [2, 0]),
+        at("rig\t1\nbal\t-1\t99999\n", 0, 2, 3, [2, 0]),
+        at("rig\t1\nbal\t0\t1\namp\n", 0, 2, 2, [3, 0]),
+        at("rig\t1\nbal\t0\t1\namp\t0\n", 0, 2, 2, [3, 0]),
+        at("rig\t1\nbal\t0\t1\namp\t0\t1\t1\n", 0, 2, 2, [3, 0]),
+        at("rig\t1\nbal\t0\t1\namp\t0\t\n", 0, 2, 2, [3, 0]),
+        at("rig\t1\nbal\t0\t1\namp\t0\t1", 0, 2, 2, [3, 0]),
+        at("rig\t1\nbal\t0\t1\namp\t-1\t1\n", 0, 2, 2, [3, 0]),
+        at("rig\t1\nbal\t0\t1\namp\t9\t-0\n", 0, 2, 2, [3, 0]),
+        at("rig\t1\nbal\t0\t1\namp\t0\t-100000\n", 0, 2, 2, [3, 0]),
+        at("rig\t1\nbal\t0\t1\namp\t0\t-99999\n", 0, 2, 3, [3, 0]),
+        at("rig\t1\nbal\t0\t1\namp\t0\t-16\n", 0, 2, 3, [3, 0]),
+        at("rig\t1\nbal\t0\t1\namp\t0\t16\n", 0, 2, 3, [3, 0]),
+        at("rig\t1\nbal\t0\t1\namp\t0\t256\n", 0, 2, 3, [3, 0]),
+        at("rig\t1\nbal\t0\t1\namp\t0\t-255\n", 0, 2, 3, [3, 0]),
+        at("rig\t1\nbal\t0\t1\namp\t0\t-65536\n", 0, 2, 3, [3, 0]),
+        at("rig\t1\nbal\t0\t1\namp\t1\t1\n", 0, 2, 3, [3, 0]),
+        at("rig\t1\nbal\t0\t1\namp\t256\t1\n", 0, 2, 3, [3, 0]),
+        at("rig\t16\nbal\t0\t1\namp\t16\t1\n", 0, 2, 3, [3, 0]),
+        at("amp\t0\n", 0, 2, 2, [1, 0]),
+        at("amp\t0\t1\n", 0, 2, 5, [1, 0]),
+        at("bal\t99\t-99\n", 0, 2, 5, [1, 0]),
+        at("rig\t1\namp\t0\t1\n", 0, 2, 5, [2, 0]),
+        at("rig\t1\namp\t99\t-99\n", 0, 2, 5, [2, 0]),
+        at("rig\t1\namp\t99\t-0\n", 0, 2, 2, [2, 0]),
+        at("rig\t2\nord\t1\t0\namp\t0\t1\n", 0, 2, 5, [3, 0]),
+        at("rig\t1\nmon\t1\namp\t0\t1\n", 0, 2, 5, [3, 0]),
+        at("rig\t1\nmon\t1\namp\t99\t99\n", 0, 2, 5, [3, 0]),
+        at("rig\t1\ngap\t0\t2\namp\t0\t1\n", 0, 2, 5, [3, 0]),
+        at("rig\t2\nreply\t0\t1\t1\t1\namp\t0\t1\n", 0, 2, 5, [3, 0]),
+        at("rig\t1\nbal\t0\t1\nmon\t1\namp\t0\t1\n", 0, 2, 5, [4, 0]),
+        at("rig\t1\nbal\t0\t1\namp\t0\t1\ngap\t0\t2\namp\t0\t1\n", 0, 2, 5, [5, 0]),
+        at("rig\t1\nbal\t0\t1\ngo\t0\t0\t0\n", 0, 2, 5, [3, 0]),
+        at("rig\t1\nbal\t0\t1\ngo\t99\t99\t99\n", 0, 2, 5, [3, 0]),
+        at("rig\t1\nmon\t1\nbal\t0\t1\ngo\t0\t0\t0\n", 0, 2, 5, [4, 0]),
+        at("rig\t1\nbal\t0\t1\nstop\t0\n", 0, 2, 5, [3, 0]),
+        at("rig\t1\nbal\t0\t1\nstop\t99\n", 0, 2, 5, [3, 0]),
+        at("rig\t1\nbal\t0\t1\nrig\t1\n", 0, 2, 5, [3, 0]),
+        at("rig\t1\nbal\t0\t1\nord\t0\n", 0, 2, 5, [3, 0]),
+        at("rig\t1\nbal\t0\t1\namp\t0\t1\namp\t0\t1\n", 0, 2, 4, [4, 0]),
+        at("rig\t1\nbal\t0\t1\namp\t0\t1\namp\t0\t-1\n", 0, 2, 4, [4, 0]),
+        at("rig\t1\nbal\t0\t1\namp\t0\t1\namp\t0\t0\n", 0, 2, 4, [4, 0]),
+        at("rig\t1\nbal\t0\t1\namp\t0\t0\namp\t0\t0\n", 0, 2, 4, [4, 0]),
+        at("rig\t1\nbal\t0\t1\namp\t0\t0\namp\t0\t1\n", 0, 2, 4, [4, 0]),
+        at("rig\t2\nbal\t0\t1\namp\t0\t15\namp\t1\t15\namp\t0\t15\n", 0, 2, 4, [5, 0]),
+        at("rig\t1\nbal\t0\t1\namp\t0\t1\namp\t0\t16\n", 0, 2, 3, [4, 0]),
+        at("rig\t1\nbal\t0\t1\namp\t0\t16\namp\t0\t16\n", 0, 2, 3, [3, 0]),
+        at(&format!("rig\t1\n{}bal\t0\t0\n", "bal\t0\t0\n".repeat(4)), 0, 2, 3, [6, 0]),
+        at(&format!("rig\t1\n{}mon\t1\n", "bal\t0\t0\n".repeat(4)), 0, 2, 3, [6, 0]),
+        at(&format!("rig\t1\n{}bal\t-15\t15\n", "mon\t5\n".repeat(4)), 0, 2, 3, [6, 0]),
+        at(&format!("rig\t1\n{}bal\t-0\t15\n", "mon\t5\n".repeat(4)), 0, 2, 2, [6, 0]),
+        at(&(two.clone() + "bal\t0\t1\n"), 1, 2, 6, [4, 0]),
+        at(&(two.clone() + "bal\t-1\t0\namp\t9\t9\n"), 1, 2, 6, [4, 0]),
+        at("rig\t1\nbal\t-15\t15\nbal\t-15\t15\nbal\t0\t1\n", 0, 2, 6, [4, 0]),
+        at("rig\t1\nbal\t-15\t15\nmon\t32\nbal\t0\t0\ngap\t0\t2\n", 0, 2, 6, [5, 0]),
+        at("rig\t1\nbal\t-15\t15\nbal\t-15\t15\nbal\t0\t16\n", 0, 2, 3, [4, 0]),
     ];
     let path: String = (0..31).map(|s| format!("go\t{s}\t0\t{}\n", s + 1)).collect();
     counts.push(at(&format!("rig\t1\nmon\t32\n{path}"), 0, 32, 9, [0, 0]));
@@ -352,7 +472,10 @@ fn worked(tally: &mut Tally, rng: &mut Random) {
     }
     let want = scenarios(tally, rng, REPLY.as_bytes(), 2, &[0, 1, 7], 9, 6);
     assert_eq!((want.number, want.out), (0, vec![0, 1, 0, 2, 2, 2]));
-    let sequences: [(&[u8], &[u8], u64, u64); 25] = [
+    let want = scenarios(tally, rng, SWING.as_bytes(), 3, &[3, 1, 0], 12, 9);
+    assert_eq!((want.number, want.out), (0, vec![1, 0, 1, 0, 1, 1, 0, 1, 0]));
+    let down = b"rig\t2\nbal\t-15\t0\namp\t0\t-1\n";
+    let sequences: [(&[u8], &[u8], u64, u64); 32] = [
         (a, &[1, 0, 1], 0, 4),
         (A_ORDERED.as_bytes(), &[0, 1, 0], 0, 2),
         (b, &[1], 14, 0),
@@ -380,17 +503,28 @@ fn worked(tally: &mut Tally, rng: &mut Random) {
         // admitted, but it leads where nothing can follow
         (CLASH.as_bytes(), &[1, 0], 14, 1),
         (CLASH.as_bytes(), &[0, 1, 0], 9, 0),
+        (SWING.as_bytes(), &[1, 0, 1], 0, 3),
+        (SWING.as_bytes(), &[0, 0], 14, 1),
+        (SWING.as_bytes(), &[1, 1, 0], 14, 1),
+        (SWING.as_bytes(), &[0, 1, 0, 0], 14, 3),
+        (down, &[0; 15], 0, 0),
+        (down, &[0; 16], 14, 15),
+        (down, &[1; 16], 0, 65_534),
     ];
     for (t, w, number, word) in sequences {
         let want = index(tally, rng, t, w, 300);
         assert_eq!((want.number, want.words[0]), (number, word), "the independent index of a worked example");
     }
-    for good in [LAST, A_GAP, CLASH] {
+    for good in [LAST, A_GAP, CLASH, SWING] {
         for (at, byte) in (0..good.len()).flat_map(|at| (0..=255).map(move |byte| (at, byte))) {
             let mut t = good.as_bytes().to_vec();
             t[at] = byte;
             count(tally, rng, &t, 1, 12);
         }
+    }
+    for (t, place) in wrong_signs() {
+        let want = count(tally, rng, &t, 1, 200);
+        assert_eq!((want.number, want.words[0]), (2, place), "a sign where none may stand: {}", shown(&t));
     }
     assert_eq!(shuffle(tally, rng, 5, &[4, 4, 4], 6, 3), [4, 0, 1]);
     assert_eq!(shuffle(tally, rng, 0, &[], 0, 0), []);
@@ -418,23 +552,62 @@ fn horizon(rng: &mut Random) -> u64 {
     }
 }
 
-/// The words that a monitor's lines begin with.
-const WORDS: [&str; 5] = ["mon", "gap", "reply", "go", "stop"];
+/// The words that a monitor's lines begin with; the first four begin a monitor.
+const WORDS: [&str; 7] = ["mon", "gap", "reply", "bal", "go", "stop", "amp"];
 
-/// The word of the line at this place, from 1, if there is such a line of a monitor and it is ended.
-fn word(t: &[u8], place: u64) -> Option<&'static str> {
+/// The word and the other fields of the line at this place, from 1, if there is such a line of a monitor and it is ended.
+fn line_at(t: &[u8], place: u64) -> Option<(&'static str, Vec<&[u8]>)> {
     let line = t.split_inclusive(|&b| b == 10).nth((place as usize).checked_sub(1)?)?;
-    let first = line.strip_suffix(b"\n")?.split(|&b| b == 9).next()?;
-    WORDS.into_iter().find(|w| w.as_bytes() == first)
+    let mut fields = line.strip_suffix(b"\n")?.split(|&b| b == 9);
+    let first = fields.next()?;
+    Some((WORDS.into_iter().find(|w| w.as_bytes() == first)?, fields.collect()))
 }
 
-/// Counts the word of the line that a text is refused for; and the latest monitor's too, where that is a `go` or `stop` that doesn't belong to it.
+/// The two numbers of a `bal` or `amp` line.
+fn numbers(fields: &[&[u8]]) -> Option<[i64; 2]> {
+    let numbers: Option<Vec<i64>> = fields.iter().map(|f| model::signed(f)).collect();
+    numbers?.try_into().ok()
+}
+
+/// Why a `bal` or `amp` line is refused, where nothing else is wrong with it.
+fn cause(t: &[u8], number: u64, place: u64) -> Option<&'static str> {
+    let (w, fields) = line_at(t, place)?;
+    if number == 2 {
+        let unsigned: Vec<Vec<u8>> = fields.iter().map(|f| f.iter().copied().filter(|b| !b"+-".contains(b)).collect()).collect();
+        let right = unsigned.len() == 2 && unsigned.iter().all(|f| model::number(f).is_some());
+        return right.then_some("sign");
+    }
+    let [a, b] = numbers(&fields)?;
+    let before = || (1..place).rev().filter_map(|k| line_at(t, k)).take_while(|(w, _)| *w == "amp");
+    match (w, number) {
+        ("bal", 3) => match ((-15..=0).contains(&a), (0..=15).contains(&b)) {
+            (false, true) => Some("lo"),
+            (true, false) => Some("hi"),
+            (true, true) => Some("fifth"),
+            _ => None,
+        },
+        ("amp", 3) if (-15..=15).contains(&b) => Some("e"),
+        ("amp", 3) => (a == 0).then_some("d"),
+        ("amp", 4) => match before().filter_map(|(_, fields)| numbers(&fields)).find(|[e, _]| *e == a)? {
+            _ if b == 0 => Some("again, 0"),
+            [_, d] if d == b => Some("again, the same"),
+            _ => Some("again, another"),
+        },
+        _ => None,
+    }
+}
+
+/// Counts the word of the line that a text is refused for; and the latest monitor's too, where that line doesn't belong to it; and the cause, where it is
+/// a `bal` or `amp` line.
 fn refused(tally: &mut Tally, t: &[u8], number: u64, place: u64) {
-    let Some(w) = word(t, place) else { return };
+    let Some((w, _)) = line_at(t, place) else { return };
     *tally.lines.entry((w, number)).or_default() += 1;
-    if let (5, "go" | "stop") = (number, w) {
-        let latest = (1..place).rev().filter_map(|k| word(t, k)).find(|w| WORDS[..3].contains(w));
+    if let (5, "go" | "stop" | "amp") = (number, w) {
+        let latest = (1..place).rev().filter_map(|k| line_at(t, k)).map(|(w, _)| w).find(|w| WORDS[..4].contains(w));
         *tally.others.entry((w, latest.unwrap_or("none"))).or_default() += 1;
+    }
+    if let ("bal" | "amp", Some(cause)) = (w, cause(t, number, place)) {
+        *tally.causes.entry((w, cause)).or_default() += 1;
     }
 }
 
@@ -456,7 +629,18 @@ fn calls_on(tally: &mut Tally, rng: &mut Random, t: &[u8]) {
             tally.stoppable += stoppable as u64;
             tally.vain += live.iter().zip(scenarios).any(|(&live, &n)| live == 1 && n == 0) as u64;
             let has = |kind| rig.monitors.iter().any(|m| m.kind == kind);
-            for (kind, served) in [("gap", has(Kind::Gap)), ("reply", has(Kind::Reply)), ("no mon", !has(Kind::Mon))] {
+            let bal = |is: fn(&Monitor) -> bool| rig.monitors.iter().any(|m| m.kind == Kind::Bal && is(m));
+            for (kind, served) in [
+                ("gap", has(Kind::Gap)),
+                ("reply", has(Kind::Reply)),
+                ("bal, lo below 0", bal(|m| m.start > 0)),
+                ("bal, lo 0", bal(|m| m.start == 0)),
+                ("bal, hi 0", bal(|m| m.start == m.states - 1)),
+                ("bal 0 0", bal(|m| m.states == 1)),
+                ("two bal", rig.monitors.iter().filter(|m| m.kind == Kind::Bal).count() > 1),
+                ("no mon", !has(Kind::Mon)),
+                ("only bal", rig.monitors.iter().all(|m| m.kind == Kind::Bal)),
+            ] {
                 *tally.kinds.entry(kind).or_default() += served as u64;
             }
         }
@@ -501,10 +685,11 @@ fn demand(tally: &mut Tally, rng: &mut Random, t: &[u8], h: usize) -> bool {
     held(tally, rng, names, t, runs.passes(), &sequences(&rig, &runs, h))
 }
 
-/// Demand 3 on one small rig of `gap` and `reply` lines alone, by their sentences.
+/// Demand 3 on one small rig of `gap`, `reply` and `bal` lines alone, by their sentences. With `bal` alone every state is marked, so one pass removes none.
 fn by_sentences(tally: &mut Tally, rng: &mut Random, rules: &[Rule], order: &[usize], h: usize) {
     let t = ruled(rules, order);
-    let passes = Runs::of(&model::read(&t).expect("a readable text")).passes();
+    let bals = rules.iter().all(Rule::is_bal);
+    let passes = if bals { 1 } else { Runs::of(&model::read(&t).expect("a readable text")).passes() };
     let all = rules::sequences(rules, order, h);
     tally.dropped += all.iter().filter(|(w, bad)| bad.is_some() && admitted(rules, w)).count() as u64;
     let names = ["sentences: count", "sentences: scenarios", "sentences: index", "sentences: shuffle"];
@@ -644,7 +829,7 @@ fn unmarked(tally: &mut Tally, t: &[u8], h: u64) {
     tally.note(name, 0, wrong.then(|| format!("{ours:?} and {theirs:?}")), input);
 }
 
-/// A readable rig with `gap` or `reply` lines, and the same one with these as `mon`, `go` and `stop` lines: the library tells the same, fills the same
+/// A readable rig with `gap`, `reply` or `bal` lines, and the same one with these as `mon`, `go` and `stop` lines: the library tells the same, fills the same
 /// cells and writes the same bytes.
 fn as_moves(tally: &mut Tally, rng: &mut Random, t: &[u8], h: u64) {
     let rig = model::read(t).expect("a readable text");
@@ -676,22 +861,56 @@ fn as_moves(tally: &mut Tally, rng: &mut Random, t: &[u8], h: u64) {
     tally.note("as moves: index", same.number, wrong, || format!("sequence {w:?}, {} and {}", shown(t), shown(&moves)));
 }
 
-/// What the library says of every sequence of up to 7 events under every `gap` and `reply` line with n and hi up to 5, alone, is what its sentence says; and
-/// so of every two lines with n and hi up to 4 over two events, and of random ones.
+/// What the library says of every sequence of up to 7 events under every `gap` and `reply` line with n and hi up to 5, and every `bal` with numbers up to 2,
+/// alone, is what its sentence says; and so of every two lines with n and hi up to 4, or numbers up to 1, over two events, and of random ones.
 fn sentences(tally: &mut Tally, rng: &mut Random) {
     for events in 1..=3 {
         for rule in Rule::every(events, 5) {
             (0..=7).for_each(|h| by_sentences(tally, rng, &[rule], &(0..events as usize).collect::<Vec<_>>(), h));
         }
     }
+    for rule in Rule::every_bal(2) {
+        (0..=7).for_each(|h| by_sentences(tally, rng, &[rule], &[0, 1], h));
+    }
     assert_eq!(tally.dropped, 0, "what one line admits can be carried on");
-    let small = Rule::every(2, 4);
-    for (a, b) in small.iter().flat_map(|a| small.iter().map(move |b| (*a, *b))) {
+    let (small, bals) = (Rule::every(2, 4), Rule::every_bal(1));
+    for (a, b) in small.iter().flat_map(|a| small.iter().chain(&bals).map(move |b| (*a, *b))) {
         (0..=6).for_each(|h| by_sentences(tally, rng, &[a, b], &[1, 0], h));
     }
     for _ in 0..1_000 {
-        let ((rules, order), h) = (rules::beside(rng), rng.below(6) as usize);
+        let ((rules, order), h) = (rules::beside(Rule::random, rng), rng.below(6) as usize);
         by_sentences(tally, rng, &rules, &order, h);
+    }
+    let dropped = tally.dropped;
+    for (a, b) in bals.iter().flat_map(|a| bals.iter().map(move |b| (*a, *b))) {
+        (0..=5).for_each(|h| by_sentences(tally, rng, &[a, b], &[1, 0], h));
+    }
+    for _ in 0..1_000 {
+        let ((rules, order), h) = (rules::beside(Rule::random_bal, rng), rng.below(6) as usize);
+        by_sentences(tally, rng, &rules, &order, h);
+    }
+    assert_eq!(tally.dropped, dropped, "what `bal` lines admit belongs");
+}
+
+/// Every lo and hi with every step, beside steps of 1, -1 and none: every sequence of up to two events is judged by its sums, and so many of 31 events are
+/// counted as keep their sums in the band. And for every lo and hi all steps together, half of them in each of two rigs of 16 events.
+fn bands(tally: &mut Tally, rng: &mut Random) {
+    for (lo, hi) in rules::bands(15) {
+        for d in -15..=15 {
+            let rule = Rule::Bal { lo, hi, steps: steps(&[Some(d), Some(1), Some(-1)]) };
+            (0..=2).for_each(|h| by_sentences(tally, rng, &[rule], &[0, 1, 2, 3], h));
+            let want = count(tally, rng, &ruled(&[rule], &[0, 1, 2, 3]), 31, 32 * rule.states());
+            let kept = within(lo, hi, &[d, 1, -1, 0], 31);
+            assert_eq!((want.number, want.words), (0, [kept, 1]), "the independent count of sums from {lo} to {hi}, with a step of {d}");
+        }
+        let mut all: Vec<Option<i64>> = (-15..=15).map(Some).chain([None]).collect();
+        rng.shuffle(&mut all);
+        for half in all.chunks(16) {
+            let rule = Rule::Bal { lo, hi, steps: steps(half) };
+            let order: Vec<usize> = (0..16).collect();
+            (0..=2).for_each(|h| by_sentences(tally, rng, &[rule], &order, h));
+            as_moves(tally, rng, &ruled(&[rule], &order), 15);
+        }
     }
 }
 
@@ -712,22 +931,27 @@ fn walk(rng: &mut Random, rules: &[Rule], events: u64, h: usize) -> Vec<u8> {
     w
 }
 
-/// Long sequences under `gap` and `reply` lines with numbers of any size. Where a line is alone, a sequence is refused at the event at which its sentence fails;
-/// beside others, there or earlier. What is listed or has an index is admitted by all.
+/// Long sequences under `gap`, `reply` and `bal` lines with numbers of any size. Where a line is alone, or all are `bal`, a sequence is refused at the event at
+/// which a sentence fails; beside others, there or earlier. What is listed or has an index is admitted by all.
 fn long_sequences(tally: &mut Tally, rng: &mut Random) {
-    for k in 0..3_000 {
-        let alone = k % 2 == 0;
+    for k in 0..4_500 {
         let events = rng.from_to(2, 4);
         let h = rng.below([0, 0, 60, 38, 30][events as usize] + 1) as usize;
-        let sizes = if alone { vec![rng.from_to(2, 32)] } else { vec![rng.from_to(2, 32), rng.from_to(2, 8), rng.from_to(2, 4)] };
-        let rules: Vec<Rule> = sizes.iter().map(|&s| Rule::random(s, events, rng)).collect();
+        let (sizes, random): (_, fn(u64, u64, &mut Random) -> Rule) = match k % 3 {
+            0 => (vec![rng.from_to(2, 32)], Rule::random),
+            1 => (vec![rng.from_to(2, 32), rng.from_to(2, 8), rng.from_to(2, 4)], Rule::random),
+            _ => (vec![rng.from_to(1, 31), rng.from_to(1, 16), rng.from_to(1, 2)], Rule::random_bal),
+        };
+        let rules: Vec<Rule> = sizes.iter().map(|&s| random(s, events, rng)).collect();
         judged(tally, rng, &rules, events, h);
     }
-    // few enough sequences for a long horizon: one of the two events comes at most once in 17 steps
-    for _ in 0..60 {
+    // few enough sequences for a long horizon: one of the two events comes at most once in 17 steps, or as often as steps of 1 make up for its step down
+    for _ in 0..90 {
         let n = rng.from_to(17, 32) as usize;
         let (a, lo) = (rng.below(2) as u8, rng.from_to(16, n as u64 - 1) as usize);
-        let rule = *rng.pick(&[Rule::Gap { e: a, n }, Rule::Reply { a, b: 1 - a, lo, hi: n - 1 }]);
+        let d = rng.from_to(12, 15) as i64;
+        let bal = Rule::Bal { lo: -(rng.below(3) as i64), hi: d, steps: steps(&[Some(1), Some(-d)]) };
+        let rule = *rng.pick(&[Rule::Gap { e: a, n }, Rule::Reply { a, b: 1 - a, lo, hi: n - 1 }, bal]);
         let h = rng.from_to(100, 300) as usize;
         judged(tally, rng, &[rule], 2, h);
     }
@@ -742,7 +966,9 @@ fn judged(tally: &mut Tally, rng: &mut Random, rules: &[Rule], events: u64, h: u
     let fails = (0..h).find(|&k| !admitted(rules, &w[..=k])).map(|k| k as u64);
     match (want.number, fails) {
         (0, None) | (9, _) => (),
-        (14, _) if rules.len() == 1 => assert_eq!(Some(want.words[0]), fails, "where the sentence fails: {w:?}, {rules:?}"),
+        (14, _) if rules.len() == 1 || rules.iter().all(Rule::is_bal) => {
+            assert_eq!(Some(want.words[0]), fails, "where the sentence fails: {w:?}, {rules:?}")
+        }
         (14, _) => assert!(fails.is_none_or(|k| want.words[0] <= k), "no later than where a sentence fails: {w:?}, {rules:?}"),
         (number, _) => panic!("{number}, but the sentences fail at {fails:?}: {w:?}, {rules:?}"),
     }
@@ -860,7 +1086,7 @@ fn limits(tally: &mut Tally, rng: &mut Random) {
 
 /// The largest rigs, the longest horizon, the longest texts.
 fn large(tally: &mut Tally, rng: &mut Random) {
-    for (monitors, density, marks, rules) in [
+    let shapes = [
         (vec![32, 32], 100, 0, 0),
         (vec![32, 32], 100, 100, 0),
         (vec![32, 32], 20, 0, 0),
@@ -875,8 +1101,14 @@ fn large(tally: &mut Tally, rng: &mut Random) {
         (vec![32, 16, 2], 50, 0, 0),
         (vec![32, 16, 2], 5, 50, 0),
         (vec![32, 16, 2], 0, 0, 100),
-    ] {
-        let t = text(&Shape { events: 16, monitors, density, marks, rules }, rng);
+    ];
+    let mut rigs =
+        shapes.map(|(monitors, density, marks, rules)| text(&Shape { events: 16, monitors, density, marks, rules }, rng)).to_vec();
+    for sizes in [[16, 16, 4], [31, 11, 3], [1, 31, 31]] {
+        let bals = sizes.map(|s| Rule::random_bal(s, 16, rng));
+        rigs.push(ruled(&bals, &(0..16).collect::<Vec<_>>()));
+    }
+    for t in rigs {
         let h = rng.below(40);
         count(tally, rng, &t, h, (h as usize + 1) * 1024 + 5);
         let counted = count(tally, rng, &t, 12, 13 * 1024);
@@ -962,7 +1194,7 @@ fn main() {
     let mut tally = Tally::default();
     let rng = &mut Random::seeded(20_261_115);
     worked(&mut tally, rng);
-    for _ in 0..60_000 {
+    for _ in 0..70_000 {
         let most = *rng.pick(&[4, 12, 40]);
         let shape = Shape::small(rng, 4, most);
         let mut t = text(&shape, rng);
@@ -971,17 +1203,20 @@ fn main() {
             2 => t = other_order(&t, rng),
             3 | 4 => t = other_marks(&t, rng),
             5..=7 => t = other_rules(&t, rng),
+            8..=11 => t = other_bal(&t, rng),
             _ => (),
         }
         calls_on(&mut tally, rng, &t);
     }
-    for k in 0..3_000 {
+    for k in 0..4_000 {
         let any = (0..rng.from_to(1, 5)).map(|_| *rng.pick(&[1, 2, 3, 8, 16, 31, 32, 33])).collect();
         let monitors = if k % 2 == 0 { any } else { vec![rng.from_to(16, 32), rng.from_to(8, 32), rng.from_to(2, 8)] };
         let (marks, rules) = (*rng.pick(&[0, 50]), *rng.pick(&[0, 0, 50, 100]));
         let mut t = text(&Shape { events: rng.from_to(1, 3), monitors, density: 60, marks, rules }, rng);
-        if k % 4 == 0 {
-            t = other_rules(&t, rng);
+        match k % 8 {
+            0 | 4 => t = other_rules(&t, rng),
+            1 | 2 => t = other_bal(&t, rng),
+            _ => (),
         }
         calls_on(&mut tally, rng, &t);
     }
@@ -1015,6 +1250,7 @@ fn main() {
         as_moves(&mut tally, rng, &t, h);
     }
     sentences(&mut tally, rng);
+    bands(&mut tally, rng);
     long_sequences(&mut tally, rng);
     all_shuffles(&mut tally, rng);
     shuffles(&mut tally, rng, 200_000);
@@ -1043,17 +1279,25 @@ fn main() {
     }
     assert!(tally.begun > 1_000, "few rigs begin in another state than 0");
     assert!(tally.ordered > 1_000, "few rigs have another order of events than lower first");
-    for (word, numbers) in [("stop", &[2, 3, 4, 5][..]), ("gap", &[2, 3, 5, 6]), ("reply", &[2, 3, 5, 6, 17])] {
+    for (word, numbers) in
+        [("stop", &[2, 3, 4, 5][..]), ("gap", &[2, 3, 5, 6]), ("reply", &[2, 3, 5, 6, 17]), ("bal", &[2, 3, 5, 6]), ("amp", &[2, 3, 4, 5])]
+    {
         for &number in numbers {
             let times = tally.lines.get(&(word, number)).copied().unwrap_or(0);
             assert!(times > if word == "stop" { 1_000 } else { 100 }, "few texts are refused {number} for a `{word}` line: {times}");
         }
     }
-    for key in [("go", "gap"), ("go", "reply"), ("stop", "gap"), ("stop", "reply")] {
+    let mons = ["go", "stop"].into_iter().flat_map(|word| ["gap", "reply", "bal"].map(|latest| (word, latest)));
+    for key in mons.chain(["mon", "gap", "reply", "none"].map(|latest| ("amp", latest))) {
         assert!(tally.others.get(&key).is_some_and(|&n| n > 100), "few texts are refused for {key:?}");
     }
-    for kind in ["gap", "reply", "no mon"] {
-        assert!(tally.kinds[kind] > 1_000, "few rigs have {kind}");
+    let again = ["again, 0", "again, the same", "again, another"];
+    let causes = [("bal", &["sign", "lo", "hi", "fifth"][..]), ("amp", &["sign", "e", "d"]), ("amp", &again)];
+    for key in causes.iter().flat_map(|(word, causes)| causes.iter().map(move |cause| (*word, *cause))) {
+        assert!(tally.causes.get(&key).is_some_and(|&n| n > 100), "few texts are refused for {key:?}");
+    }
+    for (kind, times) in &tally.kinds {
+        assert!(*times > 1_000, "few rigs have {kind}: {times}");
     }
     assert!(tally.dropped > 1_000, "few sequences are admitted by the sentences and can't be carried on: {}", tally.dropped);
     assert!(tally.admitted > 2_000, "few long sequences are judged by the sentences");
@@ -1075,10 +1319,11 @@ fn main() {
     );
     println!("{} sequences are refused at an event before which no scenario goes on already", tally.late);
     println!("served rigs by their monitors: {:?}", tally.kinds);
-    println!("{} sequences are admitted by the sentences of `gap` and `reply` lines and can't be carried on", tally.dropped);
+    println!("{} sequences are admitted by the sentences of `gap`, `reply` and `bal` lines and can't be carried on", tally.dropped);
     println!("{} rigs of long sequences were served that were judged by the sentences", tally.admitted);
     println!("texts refused, by the line's word and the number: {:?}", tally.lines);
     println!("texts refused 5, by the line's word and the latest monitor's: {:?}", tally.others);
+    println!("texts refused for a `bal` or `amp` line, by its cause: {:?}", tally.causes);
     println!("{} of the lines have too short an output", tally.short);
     println!("{} comparisons, {} differences", tally.comparisons, tally.differences);
     if tally.differences > 0 {

@@ -2,8 +2,8 @@
 //! The last line is the number of inputs and of differences; the exit status is 0 only without any.
 use outside::listing::{listing, Outcome};
 use outside::random::Random;
-use outside::texts::{damage, endless, monitors, other_marks, other_order, other_rules, other_start, text, Shape};
-use outside::texts::{A, A_FROM_1, A_GAP, A_ORDERED, B, B_STOPS, CLASH, F, LAST, ONE, REPLY};
+use outside::texts::{damage, endless, monitors, other_bal, other_marks, other_order, other_rules, other_start, text, wrong_signs, Shape};
+use outside::texts::{A, A_FROM_1, A_GAP, A_ORDERED, B, B_STOPS, CLASH, F, LAST, ONE, REPLY, SWING};
 use std::collections::{BTreeMap, BTreeSet};
 use std::io::Write;
 use std::process::{ChildStdin, Command, Stdio};
@@ -60,7 +60,8 @@ impl Tally {
         seen.0 += 1;
         if matches!(want.outcome, Outcome::Fewer | Outcome::Thousand | Outcome::More) {
             self.served.insert(want.horizon);
-            for (word, line) in [("stop", "\nstop\t"), ("gap", "\ngap\t"), ("reply", "\nreply\t")] {
+            for word in ["stop", "gap", "reply", "bal", "amp"] {
+                let line = format!("\n{word}\t");
                 *self.lines.entry(word).or_default() += u64::from(input.windows(line.len()).any(|w| w == line.as_bytes()));
             }
         }
@@ -117,6 +118,13 @@ fn worked(tally: &mut Tally) {
         let alone = tally.compare(&ask(h, b"rig\t1\ngap\t0\t2\n"));
         assert_eq!(alone, whole.as_bytes(), "the independent listing of a `gap` on the only event");
     }
+    for (h, whole) in [(0, "count\t1\t1\n0\n"), (2, "count\t2\t1\n0\t0\t1\n1\t1\t0\n")] {
+        assert_eq!(tally.compare(&ask(h, SWING.as_bytes())), whole.as_bytes(), "the independent listing of a `bal`");
+    }
+    let whole = "count\t4\t1\n0\t0\t1\t0\n1\t0\t1\t1\n2\t1\t0\t0\n3\t1\t0\t1\n";
+    assert_eq!(tally.compare(&ask(3, SWING.as_bytes())), whole.as_bytes(), "the independent listing of a `bal`");
+    let (feeder, table) = (include_bytes!("../../examples/feeder.ask"), include_bytes!("../../examples/feeder_table.ask"));
+    assert_eq!(tally.compare(feeder), tally.compare(table), "the independent listing of the feeder, by its difference and by its moves");
     let shift = include_str!("../../examples/last_bus.ask").split_once('\n').unwrap().1.as_bytes();
     for (h, first) in [(11, "count\t7\t"), (12, "count\t1\t"), (13, "no\t9\t0\n")] {
         assert!(tally.compare(&ask(h, shift)).starts_with(first.as_bytes()), "the independent listing of the last bus");
@@ -130,7 +138,7 @@ fn worked(tally: &mut Tally) {
         (0, format!("{long}\n"), "no\t1\t0\n"),
         (0, long, "no\t2\t1\n"),
         (0, "rig\t2\nmon\n".into(), "no\t2\t2\n"),
-        (0, "rig\t2\nmon\t2\nbal\t0\t1\n".into(), "no\t2\t3\n"),
+        (0, "rig\t2\nmon\t2\nday\t3\n".into(), "no\t2\t3\n"),
         (0, "rig\t02\nmon\t2\n".into(), "no\t2\t1\n"),
         (0, "rig\t2\nmon\t2\ngo\t0\t0\t0".into(), "no\t2\t3\n"),
         (0, "rig\t17\n".into(), "no\t3\t1\n"),
@@ -171,6 +179,28 @@ fn worked(tally: &mut Tally) {
         (0, format!("{four}reply\t0\t0\t1\t1\n"), "no\t3\t6\n"),
         (0, format!("{two}reply\t0\t0\t1\t1\n"), "no\t17\t4\n"),
         (0, "rig\t2\nreply\t0\t1\t1\t2\nstop\t0\n".into(), "no\t5\t3\n"),
+        (0, "rig\t2\nbal\t0\n".into(), "no\t2\t2\n"),
+        (0, "rig\t2\nbal\t-0\t1\n".into(), "no\t2\t2\n"),
+        (0, "rig\t2\nbal\t-100000\t1\n".into(), "no\t2\t2\n"),
+        (0, "rig\t2\nbal\t-99999\t1\n".into(), "no\t3\t2\n"),
+        (0, "rig\t2\nbal\t-16\t1\n".into(), "no\t3\t2\n"),
+        (0, "rig\t2\nbal\t1\t1\n".into(), "no\t3\t2\n"),
+        (0, "rig\t2\nbal\t-1\t-1\n".into(), "no\t3\t2\n"),
+        (0, "rig\t2\nbal\t-1\t16\n".into(), "no\t3\t2\n"),
+        (0, "rig\t2\nbal\t-1\t1\ngo\t0\t0\t0\n".into(), "no\t5\t3\n"),
+        (0, "rig\t2\nbal\t-1\t1\nstop\t99\n".into(), "no\t5\t3\n"),
+        (0, "bal\t-99\t99\n".into(), "no\t5\t1\n"),
+        (0, format!("{four}bal\t0\t1\n"), "no\t3\t6\n"),
+        (0, format!("{two}bal\t0\t1\n"), "no\t6\t4\n"),
+        (0, "rig\t2\nbal\t-1\t1\namp\t-1\t1\n".into(), "no\t2\t3\n"),
+        (0, "rig\t2\nbal\t-1\t1\namp\t9\t--1\n".into(), "no\t2\t3\n"),
+        (0, "rig\t2\nbal\t-1\t1\namp\t2\t1\n".into(), "no\t3\t3\n"),
+        (0, "rig\t2\nbal\t-1\t1\namp\t0\t-16\n".into(), "no\t3\t3\n"),
+        (0, "rig\t2\nbal\t-1\t1\namp\t0\t16\n".into(), "no\t3\t3\n"),
+        (0, format!("{SWING}amp\t1\t0\n"), "no\t4\t5\n"),
+        (0, format!("{A}amp\t99\t99\n"), "no\t5\t6\n"),
+        (0, format!("{CLASH}amp\t0\t1\n"), "no\t5\t4\n"),
+        (0, "rig\t2\namp\t0\t1\n".into(), "no\t5\t2\n"),
         (0, "rig\t2\nmon\t2\ngo\t2\t0\t0\n".into(), "no\t3\t3\n"),
         (0, "rig\t2\nmon\t2\ngo\t0\t2\t0\n".into(), "no\t3\t3\n"),
         (0, "rig\t2\nmon\t2\ngo\t0\t0\t2\n".into(), "no\t3\t3\n"),
@@ -200,7 +230,7 @@ fn worked(tally: &mut Tally) {
         tally.compare(&ask(h, format!("rig\t1\nmon\t{monitors}\n").as_bytes()));
     }
     for h in [0, 1, 2, 7, 30, 63, 999, 1000, 1001, 1002, 8191, 8192, 10_000, 65_535, 65_536, 99_999] {
-        for t in [A, A_FROM_1, A_GAP, A_ORDERED, B, B_STOPS, CLASH, F, ONE, REPLY, two] {
+        for t in [A, A_FROM_1, A_GAP, A_ORDERED, B, B_STOPS, CLASH, F, ONE, REPLY, SWING, two] {
             tally.compare(&ask(h, t.as_bytes()));
         }
     }
@@ -216,12 +246,15 @@ fn damaged(tally: &mut Tally) {
             tally.compare(&input);
         }
     }
-    for good in [(10, A_FROM_1), (10, A_ORDERED), (1, LAST), (2, CLASH)].map(|(h, t)| ask(h, t.as_bytes())) {
+    for good in [(10, A_FROM_1), (10, A_ORDERED), (1, LAST), (2, CLASH), (3, SWING)].map(|(h, t)| ask(h, t.as_bytes())) {
         for at in 0..good.len() {
             tally.compare(&good[..at]);
             tally.compare(&[&good[..at], &good[at + 1..]].concat());
             tally.compare(&[&good[..=at], &good[at..]].concat());
         }
+    }
+    for (t, line) in wrong_signs() {
+        assert_eq!(tally.compare(&ask(1, &t)), format!("no\t2\t{line}\n").as_bytes(), "a sign where none may stand: {}", shown(&t));
     }
     let words = ["", "as", "asks", "asx", "bsk", "Ask", "ASK", "ask ", " ask", "\task", "ask\u{a0}", "rig", "mon", "go\t0\t0"];
     let horizons = ["", "00", "03", "00003", "000003", "100000", "999999", "4294967299", "18446744073709551619", "-3", "+3", "3.0", "0x3"];
@@ -348,11 +381,12 @@ fn random(tally: &mut Tally, rng: &mut Random) {
             2 => t = other_order(&t, rng),
             3 => t = other_marks(&t, rng),
             4 | 5 => t = other_rules(&t, rng),
+            6..=8 => t = other_bal(&t, rng),
             _ => (),
         }
         tally.compare(&ask(horizon(rng), &t));
     }
-    for _ in 0..400 {
+    for _ in 0..600 {
         let t = text(&Shape { rules: 100, ..Shape::small(rng, 4, 40) }, rng);
         tally.compare(&ask(horizon(rng), &t));
     }

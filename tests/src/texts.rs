@@ -24,9 +24,11 @@ pub const A_GAP: &str = "rig\t2\ngap\t1\t2\n";
 pub const REPLY: &str = "rig\t3\nreply\t0\t1\t1\t2\n";
 /// After event 0 comes event 1 at once, but two 1s are at least three steps apart: 1 0 can't be carried on.
 pub const CLASH: &str = "rig\t2\ngap\t1\t3\nreply\t0\t1\t1\t1\n";
+/// Event 0 brings the difference up by one and event 1 down; it stays from -1 to 1.
+pub const SWING: &str = "rig\t2\nbal\t-1\t1\namp\t0\t1\namp\t1\t-1\n";
 
 /// The shape of a rig: events, states of each monitor, how many in a hundred moves it has, how many in a hundred states are marked, and how many
-/// in a hundred monitors are `gap` or `reply` lines.
+/// in a hundred monitors are `gap`, `reply` or `bal` lines.
 pub struct Shape {
     pub events: u64,
     pub monitors: Vec<u64>,
@@ -36,8 +38,8 @@ pub struct Shape {
 }
 
 impl Shape {
-    /// A small rig of 1 to 4 monitors with at most `most` joint states. Half of them have no marks but those of `gap` and `reply` lines, which one in
-    /// three may have.
+    /// A small rig of 1 to 4 monitors with at most `most` joint states. Half of them have no marks but those of `gap`, `reply` and `bal` lines, which every
+    /// other one may have.
     pub fn small(rng: &mut Random, events: u64, most: u64) -> Shape {
         let mut left = most;
         let monitors = (0..rng.from_to(1, 4))
@@ -48,7 +50,7 @@ impl Shape {
             })
             .collect();
         let (density, marks) = (*rng.pick(&[25, 50, 70, 85, 100]), *rng.pick(&[0, 0, 0, 0, 30, 60, 80, 100]));
-        Shape { events: rng.from_to(1, events), monitors, density, marks, rules: *rng.pick(&[0, 0, 0, 0, 40, 100]) }
+        Shape { events: rng.from_to(1, events), monitors, density, marks, rules: *rng.pick(&[0, 0, 0, 40, 100, 100]) }
     }
 }
 
@@ -71,25 +73,26 @@ pub fn text(shape: &Shape, rng: &mut Random) -> Vec<u8> {
     let mut t = format!("rig\t{}\n", shape.events);
     if rng.chance(1, 2) {
         let mut events: Vec<u64> = (0..shape.events).collect();
-        for i in 1..events.len() {
-            events.swap(i, rng.below(i as u64 + 1) as usize);
-        }
+        rng.shuffle(&mut events);
         t += &ord(&events);
     }
     [t.as_bytes(), &monitors(shape, rng)].concat()
 }
 
-/// The lines of the monitors of this shape; the `go` and `stop` lines of each stand in random order.
+/// The lines of the monitors of this shape; the `go` and `stop` lines of each, or its `amp` lines, stand in random order.
 pub fn monitors(shape: &Shape, rng: &mut Random) -> Vec<u8> {
     let mut t = String::new();
     for &s in &shape.monitors {
-        if s > 1 && rng.chance(shape.rules, 100) {
-            t += &Rule::random(s, shape.events, rng).line();
+        let mut lines: Vec<String> = vec![];
+        let mut add = |line, rng: &mut Random| lines.insert(rng.below(lines.len() as u64 + 1) as usize, line);
+        if rng.chance(shape.rules, 100) {
+            let mut rule = Rule::random(s, shape.events, rng).lines().into_iter();
+            t.extend(rule.next());
+            rule.for_each(|amp| add(amp, rng));
+            t += &lines.concat();
             continue;
         }
         t += &mon(s, rng);
-        let mut lines: Vec<String> = vec![];
-        let mut add = |line, rng: &mut Random| lines.insert(rng.below(lines.len() as u64 + 1) as usize, line);
         for x in 0..s {
             for e in 0..shape.events {
                 if rng.chance(shape.density, 100) {
@@ -124,7 +127,7 @@ pub fn other_start(t: &[u8], rng: &mut Random) -> Vec<u8> {
 
 /// A rig of these lines and no others.
 pub fn ruled(rules: &[Rule], order: &[usize]) -> Vec<u8> {
-    let lines: String = rules.iter().map(Rule::line).collect();
+    let lines: String = rules.iter().flat_map(Rule::lines).collect();
     format!("rig\t{}\n{}{lines}", order.len(), ord(order)).into_bytes()
 }
 
@@ -208,6 +211,52 @@ pub fn other_rules(t: &[u8], rng: &mut Random) -> Vec<u8> {
     ls.concat()
 }
 
+/// The text with a `bal` line and some `amp` lines more, or with `amp` lines alone, at its end or anywhere: their numbers are just in their ranges or just out
+/// of them, an event may come twice, and a sign may be wrong. A line may follow that mustn't.
+pub fn other_bal(t: &[u8], rng: &mut Random) -> Vec<u8> {
+    let mut ls = lines(t);
+    let events = first_number(&ls[0]) as i64;
+    let at = if rng.chance(1, 2) { ls.len() } else { rng.below(ls.len() as u64 + 1) as usize };
+    let field = |inside: &[i64], outside: &[i64], rng: &mut Random| match rng.below(32) {
+        0 => rng.pick(&SIGNS.concat()).to_string(),
+        1 | 2 => rng.pick(outside).to_string(),
+        _ => rng.pick(inside).to_string(),
+    };
+    let mut more = vec![];
+    if rng.chance(3, 4) {
+        let lo = field(&[0, 0, -1, -1, -2, -3, -14, -15], &[1, -16, 15, -255, -256, -65_536, -99_999], rng);
+        let hi = field(&[0, 0, 1, 1, 2, 3, 14, 15], &[-1, 16, -15, 256, 271, 65_536, 99_999], rng);
+        more.push(format!("bal\t{lo}\t{hi}\n"));
+    }
+    for _ in 0..*rng.pick(&[0, 1, 1, 2, 2, 3]) {
+        let e = field(&(0..events.max(1)).collect::<Vec<_>>(), &[events, events + 1, 16, 256, 65_536, 99_999], rng);
+        let d = field(&[0, 0, 1, 1, -1, -1, 2, -3, 14, 15, -15], &[16, -16, -241, 256, -256, 65_535, -65_535, 99_999, -99_999], rng);
+        more.push(format!("amp\t{e}\t{d}\n"));
+    }
+    let next =
+        ["", "", "", "", "go\t0\t0\t0\n", "stop\t0\n", "go\t99999\t16\t32\n", "stop\t32\n", "amp\t0\n", "amp\t0\t0\t0\n", "bal\t0\n"];
+    more.push(rng.pick(&next).to_string());
+    ls.insert(at, more.concat().into_bytes());
+    ls.concat()
+}
+
+/// A text with a line of each form, and each number field in turn with each of the signs that are wrong everywhere, and with -1 where no sign may stand;
+/// and the number of that line, from 1.
+pub fn wrong_signs() -> Vec<(Vec<u8>, u64)> {
+    let good = "rig\t4\nord\t3\t2\t1\t0\nmon\t2\t1\ngo\t0\t0\t0\nstop\t0\ngap\t1\t2\nreply\t0\t1\t1\t1\nbal\t-3\t4\namp\t2\t-1\n";
+    let ls: Vec<Vec<&str>> = good.lines().map(|l| l.split('\t').collect()).collect();
+    let mut wrong = vec![];
+    for (k, f) in (0..ls.len()).flat_map(|k| (1..ls[k].len()).map(move |f| (k, f))) {
+        let unsigned = !(ls[k][0] == "bal" || (ls[k][0] == "amp" && f == 2));
+        for field in SIGNS.concat().into_iter().chain(unsigned.then_some("-1")) {
+            let mut ls = ls.clone();
+            ls[k][f] = field;
+            wrong.push((ls.iter().map(|l| l.join("\t") + "\n").collect::<String>().into_bytes(), k as u64 + 1));
+        }
+    }
+    wrong
+}
+
 /// The text without its `stop` lines.
 pub fn endless(t: &[u8]) -> Vec<u8> {
     lines(t).into_iter().filter(|l| !l.starts_with(b"stop\t")).flatten().collect()
@@ -239,9 +288,7 @@ pub fn written_out(rig: &Rig) -> Vec<u8> {
 pub fn from_state_0(rig: &Rig, rng: &mut Random) -> Vec<u8> {
     let renumbered = |m: &Monitor| {
         let mut new: Vec<usize> = (0..m.states).collect();
-        for i in 1..m.states {
-            new.swap(i, rng.below(i as u64 + 1) as usize);
-        }
+        rng.shuffle(&mut new);
         let zero = new.iter().position(|&n| n == 0).unwrap();
         new.swap(zero, m.start);
         let moves = m.moves.iter().map(|((s, e), y)| ((new[*s], *e), new[*y])).collect();
@@ -250,9 +297,16 @@ pub fn from_state_0(rig: &Rig, rng: &mut Random) -> Vec<u8> {
     written_out(&Rig { monitors: rig.monitors.iter().map(renumbered).collect(), ..rig.clone() })
 }
 
-const ODD: &[u8] = b"0123456789\t\n\r rigmongordstpaely-+\0\x7f\xff";
+const ODD: &[u8] = b"0123456789\t\n\r rigmongordstpaelyb--+\0\x7f\xff";
 const FIELDS: &[&str] =
     &["0", "1", "2", "3", "4", "5", "8", "16", "17", "32", "33", "99999", "100000", "00", "01", "", "-1", "1 ", "x", "4294967297"];
+const SIGNED: &[&str] = &["15", "-1", "-2", "-15", "-16", "-99999", "-100000", "-0"];
+/// Fields that are wrong everywhere: by their sign, by other bytes or digits, and no field or two.
+const SIGNS: [&[&str]; 3] = [
+    &["-0", "-00", "-01", "--1", "+1", "+0", "-", "--", "+", "- 1", " -1", "-1 ", "1-", "0-", "-1-", "-+1", "+-1", "-x", "-1.0"],
+    &["\u{2212}1", "\u{ad}1", "-\01", "-100000", "-000001", "100000", "-4294967297"],
+    &["", "-\t1", "\t-1", "-1\t"],
+];
 const LINES: &[&str] = &[
     "",
     "rig\t2",
@@ -315,6 +369,32 @@ const LINES: &[&str] = &[
     "reply",
     "replys\t0\t1\t1\t2",
     "bal\t0\t1",
+    "bal\t-2\t2",
+    "bal\t0\t0",
+    "bal\t-15\t15",
+    "bal\t-16\t15",
+    "bal\t-15\t16",
+    "bal\t1\t1",
+    "bal\t-1\t-1",
+    "bal\t-0\t1",
+    "bal\t0",
+    "bal\t-1\t1\t0",
+    "bals\t0\t1",
+    "amp\t0\t1",
+    "amp\t1\t-1",
+    "amp\t0\t0",
+    "amp\t0\t-15",
+    "amp\t0\t16",
+    "amp\t0\t-16",
+    "amp\t16\t1",
+    "amp\t-1\t1",
+    "amp\t0\t-0",
+    "amp\t0\t+1",
+    "amp\t0",
+    "amp\t0\t1\t1",
+    "amps\t0\t1",
+    "day\t3",
+    "open\t0\t0\t1",
     "mon\t2\t1",
     "mon\t3\t2",
     "mon\t2\t2",
@@ -333,7 +413,7 @@ fn lines(t: &[u8]) -> Vec<Vec<u8>> {
 pub fn damage(t: &[u8], rng: &mut Random) -> Vec<u8> {
     let mut t = t.to_vec();
     let at = rng.below(t.len() as u64 + 1) as usize;
-    match rng.below(20) {
+    match rng.below(21) {
         0 if at < t.len() => t[at] = *rng.pick(ODD),
         1 if at < t.len() => t[at] = rng.word() as u8,
         2 if at < t.len() => {
@@ -366,7 +446,7 @@ pub fn damage(t: &[u8], rng: &mut Random) -> Vec<u8> {
                     let mut fields: Vec<String> =
                         String::from_utf8_lossy(&ls[k]).trim_end_matches('\n').split('\t').map(String::from).collect();
                     let f = rng.below(fields.len() as u64) as usize;
-                    fields[f] = rng.pick(FIELDS).to_string();
+                    fields[f] = rng.pick(&[FIELDS, SIGNED].concat()).to_string();
                     ls[k] = (fields.join("\t") + "\n").into_bytes();
                 }
             }
@@ -376,6 +456,7 @@ pub fn damage(t: &[u8], rng: &mut Random) -> Vec<u8> {
             let l = lines(&t);
             t.extend(l.concat());
         }
+        19 => t = t.iter().flat_map(|&b| if b == 9 && rng.chance(1, 4) { vec![9, 45] } else { vec![b] }).collect(),
         _ => t.extend_from_slice(format!("{}\n", rng.pick(LINES)).as_bytes()),
     }
     t
