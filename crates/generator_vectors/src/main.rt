@@ -1,5 +1,5 @@
 // Runs the four calls on the examples of paper 01 that are left to a test, on rigs that begin in other states, on rigs with another order of events, on rigs
-// that may stop and on gaps and replies, and prints what each answers and leaves. Cells, scratch and outputs begin with 7 everywhere and are lent in part, so that what is kept shows: each line ends with how many numbers of each buffer are still 7.
+// that may stop, on gaps and replies and on a running difference, and prints what each answers and leaves. Cells, scratch and outputs begin with 7 everywhere and are lent in part, so that what is kept shows: each line ends with how many numbers of each buffer are still 7.
 use generator::Counted;
 use generator::Indexed;
 use generator::Listed;
@@ -19,6 +19,7 @@ fn main() {
     orders();
     stops();
     rules();
+    differences();
     let again = [4u64, 4, 4];
     show_shuffle(5, &again);
     let low = [0u64, 0];
@@ -170,6 +171,26 @@ fn rules() {
     show_count(b"gap and reply h 2", both, 2, 36);
     show_index(b"gap and reply: 1 0", both, &unanswered);
     show_count(b"a reply to itself", b"rig\t2\nreply\t1\t1\t1\t1\n", 0, 1);
+}
+
+// A difference from -1 to 2: event 0 adds 2, event 1 takes 1, event 2 leaves it.
+fn differences() {
+    let meters = b"rig\t3\nbal\t-1\t2\namp\t0\t2\namp\t1\t-1\n";
+    let all = [2u64, 0, 1];
+    let inside = [2u8, 1];
+    let above = [0u8, 1, 0];
+    let below = [1u8, 1];
+    show_count(b"bal h 2", meters, 2, 12);
+    show_list(b"bal h 1: 2 0 1", meters, 1, &all, 3);
+    show_index(b"bal: 2 1", meters, &inside);
+    show_index(b"bal: 0 1 0", meters, &above);
+    show_index(b"bal: 1 1", meters, &below);
+    show_count(
+        b"an event given twice",
+        b"rig\t1\nbal\t0\t1\namp\t0\t1\namp\t0\t0\n",
+        0,
+        1,
+    );
 }
 
 fn say(bytes: &[u8]) {

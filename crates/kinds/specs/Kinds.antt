@@ -2,7 +2,7 @@
 --   asKind k           == the kind k, as `promises` writes it
 --   InRange k          == the numbers of k are in their ranges, in a rig with some number of events
 --   monStates k        == how many states a `go` or `stop` line can name: those of a `mon`, 0 of any other kind
---   bandOf k           == the band in which an `amp` line moves: that of a `bal`, none of any other kind
+--   bandOf k           == the band in which an `amp` line moves: that of a `bal`, the empty one of any other kind
 --   entryOf S t        == the state t of S states as an entry of the move table: 255 where it is no state
 --   withColumn mv m u k d == the move table mv with the moves of monitor m, of the kind k, on the event u of the step d
 --   withColumns mv m k E == with those on each of E events, without further lines
@@ -24,7 +24,6 @@ use Rattle.rig.specs.Record.{moveIndex, stopIndex}
 use Rattle.decoding.specs.declared.Kind.{Kind}
 use Rattle.decoding.specs.declared.Kind.the-variants.{Mon, Gap, Reply, Bal}
 use Rattle.kinds.specs.declared.Band.{Band}
-use Rattle.kinds.specs.declared.Band.the-variants.{From, Absent}
 
 abbrev pub asKind : Kind → text.Kind
 asKind (Mon S a) = mon S a
@@ -41,11 +40,14 @@ monStates (Gap e n) = 0
 monStates (Reply a b lo hi) = 0
 monStates (Bal lo hi) = 0
 
+abbrev pub emptyBand : Band
+emptyBand = record { lo = pos 1; hi = pos 0 }
+
 abbrev pub bandOf : Kind → Band
-bandOf (Mon S a) = Absent
-bandOf (Gap e n) = Absent
-bandOf (Reply a b lo hi) = Absent
-bandOf (Bal lo hi) = From lo hi
+bandOf (Mon S a) = emptyBand
+bandOf (Gap e n) = emptyBand
+bandOf (Reply a b lo hi) = emptyBand
+bandOf (Bal lo hi) = record { lo = lo; hi = hi }
 
 abbrev pub entryOf : ℕ → ℕ → ℕ
 entryOf S t = pick (ltb t S) t 255

@@ -13,10 +13,10 @@ ghost use Rattle.promises.specs.Rig.{gapNext, replyNext, balNext, nextOf, marke
 ghost use Rattle.rig.specs.Record.{stopIndex};
 ghost use Rattle.kinds.specs.Kinds.{asKind, InRange, monStates, bandOf, entryOf, withColumn, withColumns, kindMoves, kindStops};
 
-// The band of a `bal`, from lo to hi.
-pub enum Band {
-    From(i64, i64),
-    Absent,
+// The band of a `bal`, from lo to hi; of any other kind the empty one, from 1 to 0.
+pub struct Band {
+    pub lo: i64,
+    pub hi: i64,
 }
 
 // Whether n is not 'from lo to hi'.
@@ -155,10 +155,10 @@ pub fn band_of(k: Kind) -> Band
     ensures { λ b. ⌜ b ≡ bandOf k ⌝ }
 {
     match k {
-        Kind::Mon(_, _) => Band::Absent,
-        Kind::Gap(_, _) => Band::Absent,
-        Kind::Reply(_, _, _, _) => Band::Absent,
-        Kind::Bal(lo, hi) => Band::From(lo, hi),
+        Kind::Mon(_, _) => Band { lo: 1, hi: 0 },
+        Kind::Gap(_, _) => Band { lo: 1, hi: 0 },
+        Kind::Reply(_, _, _, _) => Band { lo: 1, hi: 0 },
+        Kind::Bal(lo, hi) => Band { lo, hi },
     }
 }
 

@@ -14,7 +14,7 @@ use Rattle.promises.specs.Meaning.{stepIn, stepOf}
 use Rattle.promises.specs.Reading.{leadsTo, marks, markedBy, testBeginning, ofLatest, testContinuing, tests, lineCase, readingFrom, reading}
 use Rattle.promises.specs.Rig.{gapNext, replyNext, nextOf, markedOf, monitorOf, standing, linesAutomaton, linesStart, rigAutomaton, start, balNext}
 use Rattle.promises.specs.Calls.{sized, total, counted, count}
-use Rattle.promises.specs.Examples.{A, A-ordered, may-close, gap-alone, reply-alone}
+use Rattle.promises.specs.Examples.{A, A-ordered, may-close, gap-alone, reply-alone, meters}
 use Rattle.lists.specs.Decimal as decimals
 use Rattle.lists.specs.Decimal.{decimal}
 use Rattle.line.specs.Line.{lineOf, numbersOf}
@@ -52,6 +52,11 @@ replying = refl
 pub barred : listing (bytes "ask\t2\n" ++ gap-alone) ≡ bytes "no\t9\t0\n"
 unfolding listing answer asked askedIn firstLine text owned horizon scenarioLine indexOf lineOf numbersOf decimal decimals.digits reading readingFrom lineCase tests testBeginning testContinuing ofLatest firstOf leadsTo stepIn markedBy marks orElse decoded lines unended splitOn onto init lastOf decode fields form one two three four oneOrTwo anyNumber field endOr end number numbers ahead digitsValue signed minus plus oneSigned twoSigned thenSigned same monitors monitorsFrom extended addPart latest statesOf product eventsOf orderOf orderFrom reordered startOf jointStates gapNext replyNext balNext stepOf nextOf markedOf bounded monitorOf standing linesAutomaton linesStart rigAutomaton start range both join idle joint sizes jointState keep prunedSet size passesFrom passes live N most choose unrank sized total counted count
 barred = refl
+
+-- a difference from −1 to 2, of which event 0 adds 2 and event 1 takes 1 (02 no. 6)
+pub differing : listing (bytes "ask\t2\n" ++ meters) ≡ bytes "count\t7\t1\n0\t0\t1\n1\t0\t2\n2\t1\t0\n3\t1\t2\n4\t2\t0\n5\t2\t1\n6\t2\t2\n"
+unfolding listing answer asked askedIn firstLine text owned horizon scenarioLine indexOf lineOf numbersOf decimal decimals.digits reading readingFrom lineCase tests testBeginning testContinuing ofLatest firstOf leadsTo stepIn markedBy marks orElse decoded lines unended splitOn onto init lastOf decode fields form one two three four oneOrTwo anyNumber field endOr end number numbers ahead digitsValue signed minus plus oneSigned twoSigned thenSigned same monitors monitorsFrom extended addPart latest statesOf product eventsOf orderOf orderFrom reordered startOf jointStates gapNext replyNext balNext stepOf nextOf markedOf bounded monitorOf standing linesAutomaton linesStart rigAutomaton start range both join idle joint sizes jointState keep prunedSet size passesFrom passes live N most choose unrank sized total counted count
+differing = refl
 
 -- F at 10, which has 1,024 scenarios
 abbrev long : List ℕ

@@ -149,7 +149,7 @@ unfolding Ranged startOf statesOf
 start-below E (mon S a) r = omega arith
 start-below E (gap e n) r = omega arith
 start-below E (reply a b lo hi) r = omega arith
-start-below E (bal lo hi) (l, low, high, h) = zero-inside lo hi low high
+start-below E (bal lo hi) (l, low, high, h) = omega (arith, zero-inside lo hi low high)
 
 pub few-states : (E : ℕ) (k : Kind) → Ranged E k → statesOf k ≤ 32
 unfolding Ranged statesOf

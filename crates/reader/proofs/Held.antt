@@ -22,7 +22,7 @@ use Rattle.lists.proofs.Tables.{length-range, take-range}
 use Rattle.lists.proofs.Tests.{contra, case, and-left, and-right, or-left, or-rest}
 use Rattle.lists.proofs.Tells.{tells-false}
 use Rattle.lists.proofs.Firsts.{or-none, first-snoc}
-use Rattle.lists.proofs.Integers.{less-nonNeg, minus-back}
+use Rattle.lists.proofs.Integers.{tells-ltℤ, less-nonNeg, minus-back}
 use Rattle.lists.proofs.Members.{getD-in}
 use Rattle.promises.specs.Text.{Kind, mon, gap, reply, bal, Part, go, stop, amp, Line, rig, ord, begins, continues, other, Monitor, addPart, extended, monitorsFrom, monitors, statesOf, startOf, latest, product, eventsOf, reordered, orderFrom, orderOf, OutOfRange, beginning, cases, Case5}
 use Rattle.promises.specs.Meaning.{stepIn}
@@ -33,14 +33,12 @@ use Rattle.rig.specs.declared.Rig.{Rig}
 use Rattle.rig.specs.Record.{moveIndex, moveAt, stopIndex, stopAt, lowerFirst}
 use Rattle.decoding.specs.Forms.{over, kindOf, formOf}
 use Rattle.decoding.proofs.Listed.{length-over, Leaves}
-use Rattle.kinds.specs.declared.Band.{Band}
-use Rattle.kinds.specs.declared.Band.the-variants.{From, Absent}
-use Rattle.kinds.specs.Kinds.{asKind, InRange, monStates, bandOf, withColumn, kindMoves, kindStops}
+use Rattle.kinds.specs.Kinds.{asKind, InRange, monStates, emptyBand, bandOf, withColumn, kindMoves, kindStops}
 use Rattle.kinds.proofs.Tables.{Blank, OfKind, length-column, length-moves, length-stops, moves-beside, stops-beside, fills}
 use Rattle.reader.specs.declared.Sizes.{Sizes}
 use Rattle.reader.specs.Reading.{withPart, withLine, recordFrom}
 use Rattle.reader.specs.Record.{nobody}
-use Rattle.reader.specs.Taking.{Allowed, rigCase, rigSizes, ordCase, kindCase, goCase, goMoves, stopCase, stopStops, isBand, givenIndex, givenAt, ampCase, columnIn, ampMoves, ampGiven, caseOf, sizesAfter, movesAfter, stopsAfter, givenAfter, countsAfter, startsAfter}
+use Rattle.reader.specs.Taking.{Allowed, rigCase, rigSizes, ordCase, kindCase, goCase, goMoves, stopCase, stopStops, noBand, givenIndex, givenAt, ampCase, ampMoves, ampGiven, caseOf, sizesAfter, movesAfter, stopsAfter, givenAfter, countsAfter, startsAfter}
 use Rattle.reader.proofs.Monitors.{monitorAt, events-snoc, empty-nil, empty-snoc, empty-length, addPart-at, addPart-beside, latest-at, new-before, new-at, new-parts}
 use Rattle.reader.proofs.Listed.{over-events, front-any, ord-case}
 use Rattle.reader.proofs.Tables.{Same, same-blank, same-kind, go-beside, stop-beside, amp-beside, seen, seen-mark, with-go, with-stop, with-amp}
@@ -82,7 +80,7 @@ recordFrom-snoc r (k ∷ ls) l = recordFrom-snoc (withLine r k) ls l
 
 pub holds-none : (mv sp gv ct st : List ℕ) → ((i : ℕ) → i < 2048 → getD mv i 0 ≡ 255) → ((i : ℕ) → i < 128 → getD sp i 0 ≡ 0) → ((i : ℕ) → i < 64 → getD gv i 0 ≡ 0)
     → length mv ≡ 2048 → length sp ≡ 128 → length gv ≡ 64 → length ct ≡ 4 → length st ≡ 4
-    → Holds (record { moves = mv; stops = sp; counts = ct; starts = st; order = lowerFirst; monitors = 0; events = 0 }) [] (record { events = 0; monitors = 0; latest = 0; band = Absent; joint = 1 }) mv sp gv ct st lowerFirst
+    → Holds (record { moves = mv; stops = sp; counts = ct; starts = st; order = lowerFirst; monitors = 0; events = 0 }) [] (record { events = 0; monitors = 0; latest = 0; band = emptyBand; joint = 1 }) mv sp gv ct st lowerFirst
 unfolding eventsOf orderOf orderFrom monitors monitorsFrom product recordFrom Given firstOf
 holds-none mv sp gv ct st blank unmarked none-given long wide-stops wide-given wide wide-starts = record {
   formed = nothing-formed;
@@ -168,22 +166,19 @@ is-mon (gap e n) p = contra refl p
 is-mon (reply a b lo hi) p = contra refl p
 is-mon (bal lo hi) p = contra refl p
 
--- a kind that an `amp` line can be of has a band, and no other has
-bal-banded : (k : Kind) → isBal k ≡ isBand (bandOf (kindOf k))
-bal-banded (mon S a) = refl
-bal-banded (gap e n) = refl
-bal-banded (reply a b lo hi) = refl
-bal-banded (bal lo hi) = refl
+-- in range, a kind that an `amp` line can be of has a band, and the band of any other is empty
+bal-banded : (E : ℕ) (k : Kind) → Ranged E k → not (isBal k) ≡ noBand (bandOf (kindOf k))
+unfolding Ranged
+bal-banded E (mon S a) r = refl
+bal-banded E (gap e n) r = refl
+bal-banded E (reply a b lo hi) r = refl
+bal-banded E (bal lo hi) (l, low, high, h) = sym (tells-false (tells-ltℤ hi lo) (λ q. clashℤ q (band lo hi low high)))
 
-is-bal : (k : Kind) (lo hi : ℤ) → bandOf (kindOf k) ≡ From lo hi → k ≡ bal lo hi
-is-bal (mon S a) lo hi q = let z : _≡_ {A = ℕ} 0 1 = cc in absurd (omega arith)
-is-bal (gap e n) lo hi q = let z : _≡_ {A = ℕ} 0 1 = cc in absurd (omega arith)
-is-bal (reply a b l h) lo hi q = let z : _≡_ {A = ℕ} 0 1 = cc in absurd (omega arith)
-is-bal (bal l h) lo hi q = let x : l ≡ lo = cc in let y : h ≡ hi = cc in ap₂ bal x y
-
-from-band : (b : Band) → not (isBand b) ≡ false → (lo : ℤ) × (hi : ℤ) × (b ≡ From lo hi)
-from-band (From lo hi) p = (lo, hi, refl)
-from-band Absent p = contra refl p
+is-bal : (k : Kind) → noBand (bandOf (kindOf k)) ≡ false → k ≡ bal (bandOf (kindOf k) .lo) (bandOf (kindOf k) .hi)
+is-bal (mon S a) q = contra refl q
+is-bal (gap e n) q = contra refl q
+is-bal (reply a b l h) q = contra refl q
+is-bal (bal l h) q = refl
 
 -- a band is in its range, and its ends are told by the start and the number of states
 module _ (E : ℕ) (lo hi : ℤ) (r : Ranged E (bal lo hi)) where
@@ -327,22 +322,22 @@ module _ (r : Rig) (ls : List Line) (z : Sizes) (mv sp gv ct st os : List ℕ) (
       nothing [] e = refl
       nothing (m ∷ ms) e = absurd (omega arith)
 
-  none-banded : z .monitors ≡ 0 → Absent ≡ z .band
+  none-banded : z .monitors ≡ 0 → emptyBand ≡ z .band
   none-banded q = rw (← H .band-is, q) (nothing (monitors ls) (H .monitors-are ∙ q))
     where
-      nothing : (ms : List Monitor) → length ms ≡ 0 → Absent ≡ bandOf (kindOf (monitorAt ms (0 - 1) .kind))
+      nothing : (ms : List Monitor) → length ms ≡ 0 → emptyBand ≡ bandOf (kindOf (monitorAt ms (0 - 1) .kind))
       nothing [] e = refl
       nothing (m ∷ ms) e = absurd (omega arith)
 
-  -- where there is a band, the latest monitor is a `bal`
-  module _ (lo hi : ℤ) (b : z .band ≡ From lo hi) where
+  -- where the band is not empty, the latest monitor is a `bal`
+  module _ (b : noBand (z .band) ≡ false) where
     some-banded : 1 ≤ z .monitors
-    some-banded = case (eqb (z .monitors) 0) (λ q. let n = none-banded (eqb-true _ 0 q) ∙ b in let w : _≡_ {A = ℕ} 0 1 = cc in absurd (omega arith)) (λ q. omega (arith, eqb-false (z .monitors) 0 q))
+    some-banded = case (eqb (z .monitors) 0) (λ q. contra (ap noBand (sym (none-banded (eqb-true _ 0 q)))) b) (λ q. omega (arith, eqb-false (z .monitors) 0 q))
 
-    last-bal : last .kind ≡ bal lo hi
-    last-bal = is-bal (last .kind) lo hi (H .band-is ∙ b)
+    last-bal : last .kind ≡ bal (z .band .lo) (z .band .hi)
+    last-bal = is-bal (last .kind) (rw (H .band-is) b) ∙ ap₂ bal (ap (λ b. b .lo) (H .band-is)) (ap (λ b. b .hi) (H .band-is))
 
-    last-band : Ranged (eventsOf ls) (bal lo hi)
+    last-band : Ranged (eventsOf ls) (bal (z .band .lo) (z .band .hi))
     last-band = subst (Ranged (eventsOf ls)) last-bal (last-kept some-banded .ranged)
 
   pub room : Allowed z
@@ -353,7 +348,7 @@ module _ (r : Rig) (ls : List Line) (z : Sizes) (mv sp gv ct st os : List ℕ) (
         (λ q. rw (← H .latest-is) (few-named (eventsOf ls) (last .kind) (last-kept (omega (arith, eqb-false (z .monitors) 0 q)) .ranged)));
     none-latest = none-named;
     some-band = some-banded;
-    in-band = λ lo hi b. bal-in-range (eventsOf ls) lo hi (last-band lo hi b);
+    in-band = λ b. bal-in-range (eventsOf ls) (z .band .lo) (z .band .hi) (last-band b);
     few-joint = rw (← H .joint-is) (H .formed .monitored .small);
   }
 
@@ -440,19 +435,19 @@ module _ (r : Rig) (ls : List Line) (z : Sizes) (mv sp gv ct st os : List ℕ) (
   unfolding stopCase lineCase tests testContinuing
   stop-case s = sym (same-picks _ _ _ _ _ _ misplaced (λ p. state-out-of-range p s) (λ p. marked-again p s))
 
-  amp-misplaced : not (ofLatest (λ m. isBal (m .kind)) (latest (monitors ls))) ≡ not (isBand (z .band))
+  amp-misplaced : not (ofLatest (λ m. isBal (m .kind)) (latest (monitors ls))) ≡ noBand (z .band)
   unfolding ofLatest
   amp-misplaced = case (eqb (z .monitors) 0)
       (λ q. rw (← none-banded (eqb-true (z .monitors) 0 q)) (nothing (monitors ls) (H .monitors-are ∙ eqb-true (z .monitors) 0 q)))
-      (λ q. let h = eqb-false (z .monitors) 0 q in rw (latest-is-last (omega arith), ← H .band-is) (ap not (bal-banded (last .kind))))
+      (λ q. let h = eqb-false (z .monitors) 0 q in rw (latest-is-last (omega arith), ← H .band-is) (bal-banded (eventsOf ls) (last .kind) (last-kept (omega arith) .ranged)))
     where
       nothing : (ms : List Monitor) → length ms ≡ 0 → not (ofLatest (λ m. isBal (m .kind)) (latest ms)) ≡ true
       nothing [] e = unfold latest ofLatest in refl
       nothing (m ∷ ms) e = absurd (omega arith)
 
-  module _ (placed : not (isBand (z .band)) ≡ false) (e : ℕ) (d : ℤ) where
+  module _ (placed : noBand (z .band) ≡ false) (e : ℕ) (d : ℤ) where
     amp-there : 1 ≤ z .monitors
-    amp-there = let (lo, hi, b) = from-band (z .band) placed in some-banded lo hi b
+    amp-there = some-banded placed
 
     amp-out : ofLatest (λ m. leb (eventsOf ls) e || outsideℤ (negℤ (pos 15)) (pos 15) d) (latest (monitors ls)) ≡ (leb (z .events) e || outsideℤ (negℤ (pos 15)) (pos 15) d)
     unfolding ofLatest
@@ -636,27 +631,27 @@ module _ (r : Rig) (ls : List Line) (z : Sizes) (mv sp gv ct st os : List ℕ) (
   holds-amp : (e : ℕ) (d : ℤ) → ampCase gv z e d ≡ 0 → Holds r (ls ++ (continues (amp e d) ∷ [])) z (ampMoves mv z e d) sp (ampGiven gv z e) ct st os
   unfolding ampCase withPart ofLatest
   holds-amp e d q =
-      let (p, q₁) = pick-zero (not (isBand (z .band))) 5 _ (omega arith) q in
+      let (p, q₁) = pick-zero (noBand (z .band)) 5 _ (omega arith) q in
       let (o, q₂) = pick-zero (leb (z .events) e || outsideℤ (negℤ (pos 15)) (pos 15) d) 3 _ (omega arith) q₁ in
       let (f, q₃) = pick-zero (not (eqb (givenAt gv (z .monitors - 1) e) 0)) 4 0 (omega arith) q₂ in
       let he : e < z .events = leb-false (z .events) e (or-left (leb (z .events) e) _ o) in
       let there : 1 ≤ z .monitors = amp-there p e d in
       let hm : z .monitors - 1 < 4 = omega (arith, room .few-monitors) in
-      let (lo, hi, b) = from-band (z .band) p in
-      let k = last-bal lo hi b in
-      let few : statesOf (bal lo hi) ≤ 32 = few-states (eventsOf ls) (bal lo hi) (last-band lo hi b) in
-      let column : ampMoves mv z e d ≡ withColumn mv (z .monitors - 1) e (bal lo hi) d = ap (λ b. columnIn mv (z .monitors - 1) b e d) b in
+      let lo = z .band .lo in
+      let hi = z .band .hi in
+      let k = last-bal p in
+      let few : statesOf (bal lo hi) ≤ 32 = few-states (eventsOf ls) (bal lo hi) (last-band p) in
       let start : getD st (z .monitors - 1) 0 ≡ startOf (bal lo hi) = H .tabled .starts (z .monitors - 1) (omega (arith, last-at there)) ∙ ap startOf k in
       let count : getD ct (z .monitors - 1) 0 ≡ statesOf (bal lo hi) = H .tabled .counts (z .monitors - 1) (omega (arith, last-at there)) ∙ ap statesOf k in
       let new : stepBy (last .parts) e ≡ none = not-some (stepBy (last .parts) e) (rw (latest-is-last there) at (given-again p e d o ∙ f)) in
-      holds-continues (amp e d) (ampMoves mv z e d) sp (ampGiven gv z e) there (sym (amp-case e d) ∙ q) (ap length column ∙ length-column mv (z .monitors - 1) e (bal lo hi) d ∙ H .long) (H .wide-stops)
+      holds-continues (amp e d) (ampMoves mv z e d) sp (ampGiven gv z e) there (sym (amp-case e d) ∙ q) (length-column mv (z .monitors - 1) e (bal lo hi) d ∙ H .long) (H .wide-stops)
       (length-set gv (givenIndex (z .monitors - 1) e) 1 ∙ H .wide-given)
-      (rw (column, start, count, bal-back (eventsOf ls) lo hi (last-band lo hi b)))
-      (rw column (one-part (amp e d) (monitors ls) (z .events) (z .monitors - 1) mv sp (withColumn mv (z .monitors - 1) e (bal lo hi) d) sp ct st (last-at there) few-z ranged
+      (rw (start, count, bal-back (eventsOf ls) lo hi (last-band p)))
+      (one-part (amp e d) (monitors ls) (z .events) (z .monitors - 1) mv sp (withColumn mv (z .monitors - 1) e (bal lo hi) d) sp ct st (last-at there) few-z ranged
       (λ T. subst (λ k. OfKind (withColumn mv (z .monitors - 1) e (bal lo hi) d) sp (z .monitors - 1) (z .events) k (last .parts ++ (amp e d ∷ []))) (sym k)
       (with-amp mv sp (z .monitors - 1) (z .events) lo hi (last .parts) (subst (λ k. OfKind mv sp (z .monitors - 1) (z .events) k (last .parts)) k T) few e d hm (H .long) few-z he new))
       (λ i ne. amp-beside mv sp i (z .monitors - 1) e (bal lo hi) d ne few (omega (arith, few-z)))
-      (H .tabled)))
+      (H .tabled))
       (given-amp e d (monitors ls) (z .monitors - 1) gv (last-at there) hm (omega (arith, few-z)) (H .wide-given) (H .given-are))
     where
       not-some : (o : Option ℤ) → isSome o ≡ false → o ≡ none

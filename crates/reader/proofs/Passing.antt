@@ -17,16 +17,18 @@ use Rattle.promises.specs.Reading.{empty, lineCase, readingFrom, reading}
 use Rattle.rig.specs.declared.Rig.{Rig}
 use Rattle.rig.specs.Record.{lowerFirst, emptyRig}
 use Rattle.decoding.specs.declared.Form.{Form}
+use Rattle.decoding.specs.declared.Form.the-variants as forms
 use Rattle.decoding.specs.Forms.{over, listedIn, formOf}
 use Rattle.decoding.proofs.Listed.{Leaves, leaves}
 use Rattle.decoding.proofs.Parts.{indexOf-le}
 use Rattle.decoding.proofs.Numbers.{rest-whole}
-use Rattle.kinds.specs.declared.Band.the-variants.{Absent}
+use Rattle.kinds.specs.Kinds.{emptyBand}
 use Rattle.reader.specs.declared.Reading.{Reading}
 use Rattle.reader.specs.declared.Sizes.{Sizes}
-use Rattle.reader.specs.declared.Taken.the-variants.{Next, Bad}
+use Rattle.reader.specs.declared.Taken.{Taken}
+use Rattle.reader.specs.declared.Taken.the-variants.{Bad}
 use Rattle.reader.specs.Reading.{answerOf, recordFrom, whereServed, recordOf}
-use Rattle.reader.specs.Taking.{onlyIf, taken, refusal, caseOf, sizesAfter, movesAfter, stopsAfter, givenAfter, countsAfter, startsAfter}
+use Rattle.reader.specs.Taking.{onlyIf, taken, faultOf, refusal, caseOf, outcome, sizesAfter, movesAfter, stopsAfter, givenAfter, countsAfter, startsAfter}
 use Rattle.reader.proofs.Lines.{decoded-first, unended-first, decoded-none, unended-all}
 use Rattle.reader.proofs.Monitors.{empty-length}
 use Rattle.reader.proofs.Held.{Holds, holds-none, case-is, holds-more}
@@ -45,24 +47,25 @@ pub record Passed (r : Rig) (t : List ℕ) (z : Sizes) (line at : ℕ) (mv sp gv
 
 pub passed-none : (t mv sp gv ct st : List ℕ) → ((i : ℕ) → i < 2048 → getD mv i 0 ≡ 255) → ((i : ℕ) → i < 128 → getD sp i 0 ≡ 0) → ((i : ℕ) → i < 64 → getD gv i 0 ≡ 0)
     → length mv ≡ 2048 → length sp ≡ 128 → length gv ≡ 64 → length ct ≡ 4 → length st ≡ 4
-    → Passed (record { moves = mv; stops = sp; counts = ct; starts = st; order = lowerFirst; monitors = 0; events = 0 }) t (record { events = 0; monitors = 0; latest = 0; band = Absent; joint = 1 }) 1 0 mv sp gv ct st lowerFirst
+    → Passed (record { moves = mv; stops = sp; counts = ct; starts = st; order = lowerFirst; monitors = 0; events = 0 }) t (record { events = 0; monitors = 0; latest = 0; band = emptyBand; joint = 1 }) 1 0 mv sp gv ct st lowerFirst
 passed-none t mv sp gv ct st blank unmarked none-given long wide-stops wide-given wide wide-starts = record { front = []; holds = holds-none mv sp gv ct st blank unmarked none-given long wide-stops wide-given wide wide-starts; counted = refl; inside = omega arith; early = omega arith; left = refl; split = refl }
 
 -- ---- what a line comes to
 
-taken-next : (n : ℕ) (z y : Sizes) → Next y ≡ taken n z → (n ≡ 0) × (y ≡ z)
-taken-next n z y q = go (eqb n 0) refl q
+-- the number that it comes to is that of its case
+pub told-number : (n : ℕ) (z : Sizes) (f : Form) (t : Taken) → t ≡ taken n (outcome z f) → faultOf t ≡ n
+told-number n z f t q = ap faultOf q ∙ go (eqb n 0) refl
   where
-    go : (b : Bool) → eqb n 0 ≡ b → Next y ≡ pick b (Next z) (Bad n) → (n ≡ 0) × (y ≡ z)
-    go true p q = (eqb-true n 0 p, cc)
-    go false p q = let w : _≡_ {A = ℕ} 0 1 = cc in absurd (omega arith)
+    good : (f : Form) → faultOf (outcome z f) ≡ 0
+    good (forms.Rig e) = refl
+    good (forms.Ord m) = refl
+    good (forms.Begins k) = refl
+    good (forms.Continues p) = refl
+    good forms.Other = refl
 
-taken-bad : (n m : ℕ) (z : Sizes) → Bad m ≡ taken n z → (eqb n 0 ≡ false) × (m ≡ n)
-taken-bad n m z q = go (eqb n 0) refl q
-  where
-    go : (b : Bool) → eqb n 0 ≡ b → Bad m ≡ pick b (Next z) (Bad n) → (eqb n 0 ≡ false) × (m ≡ n)
-    go true p q = let w : _≡_ {A = ℕ} 0 1 = cc in absurd (omega arith)
-    go false p q = (p, cc)
+    go : (b : Bool) → eqb n 0 ≡ b → faultOf (pick b (outcome z f) (Bad n)) ≡ n
+    go true p = good f ∙ sym (eqb-true n 0 p)
+    go false p = refl
 
 -- ---- the next line
 
@@ -105,13 +108,11 @@ module _ (r : Rig) (t : List ℕ) (z : Sizes) (line at : ℕ) (mv sp gv ct st os
       case-of = rw d (case-is r (P .front) z mv sp gv ct st os (P .holds) next line left (P .counted) lv)
 
       -- a case holds of it
-      pub stops-bad : (n : ℕ) → Bad n ≡ taken (caseOf mv sp gv left z line f) (sizesAfter z f) → wholeReading t ≡ refused n line
+      pub stops-bad : (n : ℕ) → n ≡ caseOf mv sp gv left z line f → (n ≡ 0 → ⊥) → wholeReading t ≡ refused n line
       unfolding readingFrom
-      stops-bad n b =
-          let (p, m) = taken-bad (caseOf mv sp gv left z line f) n (sizesAfter z f) b in
+      stops-bad n m ne =
           let c : lineCase (P .front) next ≡ n = sym case-of ∙ sym m in
-          let p′ : eqb n 0 ≡ false = rw (← m) at p in
-          P .left ∙ rw (lines-left, c, p′, P .counted)
+          P .left ∙ rw (lines-left, c, ne-eqb n 0 ne, P .counted)
 
       reads-on : lineCase (P .front) next ≡ 0
           → readingFrom (P .front) (decoded (drop at t)) (unended (drop at t)) ≡ readingFrom (P .front ++ (next ∷ [])) (decoded (drop (at + (end + 1)) t)) (unended (drop (at + (end + 1)) t))
@@ -119,10 +120,9 @@ module _ (r : Rig) (t : List ℕ) (z : Sizes) (line at : ℕ) (mv sp gv ct st os
       reads-on c = rw (lines-left, unended-left, c)
 
       -- no case holds of it
-      pub goes-on : (y : Sizes) (nv np ng nt ns : List ℕ) → Next y ≡ taken (caseOf mv sp gv left z line f) (sizesAfter z f) → nv ≡ onlyIf (caseOf mv sp gv left z line f) (movesAfter mv z f) mv
+      pub goes-on : (y : Sizes) (nv np ng nt ns : List ℕ) → caseOf mv sp gv left z line f ≡ 0 → y ≡ sizesAfter z f → nv ≡ onlyIf (caseOf mv sp gv left z line f) (movesAfter mv z f) mv
           → np ≡ onlyIf (caseOf mv sp gv left z line f) (stopsAfter sp z f) sp → ng ≡ onlyIf (caseOf mv sp gv left z line f) (givenAfter gv z f) gv → nt ≡ onlyIf (caseOf mv sp gv left z line f) (countsAfter ct z f) ct → ns ≡ onlyIf (caseOf mv sp gv left z line f) (startsAfter st z f) st → Passed r t y (line + 1) (at + (end + 1)) nv np ng nt ns left
-      goes-on y nv np ng nt ns b mq pq gq cq sq =
-          let (p, s) = taken-next (caseOf mv sp gv left z line f) (sizesAfter z f) y b in
+      goes-on y nv np ng nt ns p s mq pq gq cq sq =
           let m′ : nv ≡ movesAfter mv z (formOf next) = rw (p, d) at mq in
           let p′ : np ≡ stopsAfter sp z (formOf next) = rw (p, d) at pq in
           let g′ : ng ≡ givenAfter gv z (formOf next) = rw (p, d) at gq in

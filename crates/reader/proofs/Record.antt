@@ -31,8 +31,7 @@ use Rattle.rig.specs.declared.Rig.{Rig}
 use Rattle.rig.specs.Record.{moveAt, countOf, startAt, orderIn, moveOf, stopOf, monitorAt, standing, recordAutomaton, recordStart, WellFormed, lowerFirst, emptyRig}
 use Rattle.decoding.specs.Forms.{over, formOf}
 use Rattle.decoding.proofs.Listed.{Leaves}
-use Rattle.kinds.specs.declared.Band.the-variants.{Absent}
-use Rattle.kinds.specs.Kinds.{entryOf}
+use Rattle.kinds.specs.Kinds.{emptyBand, entryOf}
 use Rattle.kinds.proofs.Tables.{OfKind}
 use Rattle.reader.specs.declared.Sizes.{Sizes}
 use Rattle.reader.specs.Reading.{recordFrom, whereServed, recordOf}
@@ -92,7 +91,7 @@ held-all r front (l ∷ back) H s =
 
 held-none : Held emptyRig []
 held-none = record {
-  sizes-are = record { events = 0; monitors = 0; latest = 0; band = Absent; joint = 1 };
+  sizes-are = record { events = 0; monitors = 0; latest = 0; band = emptyBand; joint = 1 };
   moves-are = replicate 2048 255;
   marks-are = replicate 128 0;
   given-are = replicate 64 0;

@@ -1,19 +1,24 @@
 -- One line more, in the reader's own state: the sizes so far and the tables. The laws of `proofs/Held` tie it to the lines.
+--   noBand b           == the band b is empty, so the latest monitor is no `bal`
 --   Allowed z             == sizes within the paper's limits
 --   onlyIf n a b       == a where the number n is 0, else b
---   taken n z          == Next z where the number n is 0, else Bad n
+--   taken n o          == the outcome o where the number n is 0, else Bad n
+--   faultOf t          == the number of what a line comes to, 0 where it is none
+--   sizesOf z t        == the sizes after such a line, z being those before it
 --   refusal n p        == the answer to a text that is refused
 --   givenAt gv m e     == 1 where an `amp` line of monitor m has given event e a step, else 0
 --   rigCase, ordCase, kindCase, goCase, stopCase, ampCase == the number of the first case that holds of such a line, 0 where none does
 --   rigSizes, kindSizes, kindCounts, kindStarts, goMoves, stopStops, ampMoves, ampGiven == what such a line changes, where no case holds of it
 --   partCase, partMoves, partStops, partGiven == the same for any line of the latest monitor
+--   outcome z f        == what a line of the form f comes to where no case holds of it
 --   caseOf, sizesAfter, movesAfter, stopsAfter, givenAfter, countsAfter, startsAfter == the same for any line; os is the list that its decoding leaves, l its number
 -- A new line form that begins no monitor is one section and its clauses of those for its group. Assumes nothing.
 use mathlib.Core.Path.{_≡_}
-use mathlib.Core.Bool.{Bool, true, false, not, _||_}
+use mathlib.Core.Bool.{Bool, false, not, _||_}
 use mathlib.Core.List.{List}
 use Prim.Native.Nat.{ℕ, _+_, _-_, _*_, _≤_}
 use lib.IntN.{ℤ, pos, negℤ}
+use lib.Signed.{ltZ}
 use lib.ListN.{getD, take, set}
 use lib.Dec.{ltb, leb, eqb}
 use Rattle.lists.specs.Lists.{pick, any}
@@ -26,28 +31,41 @@ use Rattle.decoding.specs.declared.Kind.{Kind}
 use Rattle.decoding.specs.declared.Part.{Part}
 use Rattle.decoding.specs.declared.Part.the-variants.{Go, Stop, Amp}
 use Rattle.kinds.specs.declared.Band.{Band}
-use Rattle.kinds.specs.declared.Band.the-variants.{From, Absent}
 use Rattle.kinds.specs.Kinds.{asKind, InRange, monStates, bandOf, withColumn, kindMoves, kindStops}
 use Rattle.reader.specs.declared.Reading.{Reading}
 use Rattle.reader.specs.declared.Sizes.{Sizes}
 use Rattle.reader.specs.declared.Taken.{Taken}
-use Rattle.reader.specs.declared.Taken.the-variants.{Next, Bad}
+use Rattle.reader.specs.declared.Taken.the-variants.{Next, Same, Bad}
 use Rattle.reader.specs.declared.Verdict.the-variants.{Refused}
+
+-- the latest monitor is no `bal`
+abbrev pub noBand : Band → Bool
+noBand b = ltZ (b .hi) (b .lo)
 
 pub record Allowed (z : Sizes) : Type 0 where
   pub few-events : z .events ≤ 16
   pub few-monitors : z .monitors ≤ 4
   pub few-latest : z .latest ≤ 32
   pub none-latest : z .monitors ≡ 0 → z .latest ≡ 0
-  pub some-band : (lo hi : ℤ) → z .band ≡ From lo hi → 1 ≤ z .monitors
-  pub in-band : (lo hi : ℤ) → z .band ≡ From lo hi → InRange (bal lo hi)
+  pub some-band : noBand (z .band) ≡ false → 1 ≤ z .monitors
+  pub in-band : noBand (z .band) ≡ false → InRange (bal (z .band .lo) (z .band .hi))
   pub few-joint : z .joint ≤ 1024
 
 abbrev pub onlyIf : {A : Type 0} → ℕ → A → A → A
 onlyIf n a b = pick (eqb n 0) a b
 
-abbrev pub taken : ℕ → Sizes → Taken
-taken n z = onlyIf n (Next z) (Bad n)
+abbrev pub taken : ℕ → Taken → Taken
+taken n o = onlyIf n o (Bad n)
+
+abbrev pub faultOf : Taken → ℕ
+faultOf (Next z) = 0
+faultOf Same = 0
+faultOf (Bad n) = n
+
+abbrev pub sizesOf : Sizes → Taken → Sizes
+sizesOf z (Next y) = y
+sizesOf z Same = z
+sizesOf z (Bad n) = z
 
 abbrev pub refusal : ℕ → ℕ → Reading
 refusal n p = record { verdict = Refused n p; rig = emptyRig }
@@ -111,10 +129,6 @@ stopStops sp z s = set sp (stopIndex (z .monitors - 1) s) 1
 
 -- ---- `amp`, e, d
 
-abbrev pub isBand : Band → Bool
-isBand (From lo hi) = true
-isBand Absent = false
-
 abbrev pub givenIndex : ℕ → ℕ → ℕ
 givenIndex m e = m * 16 + e
 
@@ -123,17 +137,13 @@ givenAt gv m e = getD gv (givenIndex m e) 0
 
 unfoldable pub ampCase : List ℕ → Sizes → ℕ → ℤ → ℕ
 ampCase gv z e d =
-    pick (not (isBand (z .band))) 5
+    pick (noBand (z .band)) 5
     (pick (leb (z .events) e || outsideℤ (negℤ (pos 15)) (pos 15) d) 3
     (pick (not (eqb (givenAt gv (z .monitors - 1) e) 0)) 4
     0))
 
-abbrev pub columnIn : List ℕ → ℕ → Band → ℕ → ℤ → List ℕ
-columnIn mv m (From lo hi) e d = withColumn mv m e (bal lo hi) d
-columnIn mv m Absent e d = mv
-
 abbrev pub ampMoves : List ℕ → Sizes → ℕ → ℤ → List ℕ
-ampMoves mv z e d = columnIn mv (z .monitors - 1) (z .band) e d
+ampMoves mv z e d = withColumn mv (z .monitors - 1) e (bal (z .band .lo) (z .band .hi)) d
 
 abbrev pub ampGiven : List ℕ → Sizes → ℕ → List ℕ
 ampGiven gv z e = set gv (givenIndex (z .monitors - 1) e) 1
@@ -167,12 +177,15 @@ caseOf mv sp gv os z l (Begins k) = kindCase z k
 caseOf mv sp gv os z l (Continues p) = partCase mv sp gv z p
 caseOf mv sp gv os z l Other = 2
 
+abbrev pub outcome : Sizes → Form → Taken
+outcome z (Rig e) = Next (rigSizes z e)
+outcome z (Ord n) = Same
+outcome z (Begins k) = Next (kindSizes z k)
+outcome z (Continues p) = Same
+outcome z Other = Same
+
 abbrev pub sizesAfter : Sizes → Form → Sizes
-sizesAfter z (Rig e) = rigSizes z e
-sizesAfter z (Ord n) = z
-sizesAfter z (Begins k) = kindSizes z k
-sizesAfter z (Continues p) = z
-sizesAfter z Other = z
+sizesAfter z f = sizesOf z (outcome z f)
 
 abbrev pub movesAfter : List ℕ → Sizes → Form → List ℕ
 movesAfter mv z (Rig e) = mv

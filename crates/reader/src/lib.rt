@@ -10,8 +10,9 @@ ghost use lib.ListN.{length};
 ghost use Rattle.promises.specs.Reading as promised;
 ghost use Rattle.kinds.specs.Kinds.{asKind, kindMoves, kindStops};
 ghost use Rattle.reader.specs.Reading.{answerOf, recordOf};
-ghost use Rattle.reader.specs.Taking.{Allowed, taken, rigCase, rigSizes, ordCase, kindCase, kindSizes, kindCounts, kindStarts, goCase, goMoves, stopCase, stopStops, ampCase, ampMoves, ampGiven, caseOf, sizesAfter, movesAfter, stopsAfter, givenAfter, countsAfter, startsAfter, onlyIf};
+ghost use Rattle.reader.specs.Taking.{Allowed, taken, rigCase, rigSizes, ordCase, kindCase, kindSizes, kindCounts, kindStarts, goCase, goMoves, stopCase, stopStops, ampCase, ampMoves, ampGiven, faultOf, sizesOf, caseOf, outcome, movesAfter, stopsAfter, givenAfter, countsAfter, startsAfter, onlyIf};
 ghost use Rattle.reader.specs.Taking as taking;
+ghost use Rattle.reader.specs.declared.Taken.the-variants.{Next, Same};
 
 // What reading answers: the text is readable, or a number and a place.
 pub enum Verdict {
@@ -26,7 +27,7 @@ pub struct Reading {
 }
 
 // What the lines so far say: E, how many monitors there are, how many states a `go` or `stop` line can name, which are those of the latest monitor if it is a
-// `mon`, the band in which an `amp` line moves, which is that of the latest monitor if it is a `bal`, and P.
+// `mon`, the band in which an `amp` line moves, which is that of the latest monitor if it is a `bal` and else empty, and P.
 struct Sizes {
     events: usize,
     monitors: usize,
@@ -35,9 +36,10 @@ struct Sizes {
     joint: usize,
 }
 
-// What a line comes to: the sizes after it, or the number of the first case that holds of it.
+// What a line comes to: other sizes after it, the same sizes, or the number of the first case that holds of it.
 enum Taken {
     Next(Sizes),
+    Same,
     Bad(u64),
 }
 
@@ -53,7 +55,7 @@ fn refused(number: u64, place: u64) -> Reading
 
 // `rig`, E: 'the first line and only there', 'E from 1 to 16'.
 fn take_rig(z: Sizes, e: usize) -> Taken
-    ensures { λ r. ⌜ r ≡ taken (rigCase z e) (rigSizes z e) ⌝ }
+    ensures { λ r. ⌜ r ≡ taken (rigCase z e) (Next (rigSizes z e)) ⌝ }
 {
     if z.events != 0 {
         return Taken::Bad(5); // `rig` later
@@ -90,7 +92,7 @@ fn repeats(bytes: &[u8]) -> bool
 // `ord` and n events, which decoding has left in `order`: 'lists all E events', 'at most one and only second'.
 fn take_ord(order: &[u8], z: Sizes, line: u64, n: usize) -> Taken
     requires { ⌜ (length (now order) ≡ 16) × Allowed z ⌝ }
-    ensures { λ r. ⌜ r ≡ taken (ordCase (now (order .entry)) z line n) z ⌝ }
+    ensures { λ r. ⌜ r ≡ taken (ordCase (now (order .entry)) z line n) Same ⌝ }
 {
     if line != 2 {
         return Taken::Bad(5); // `ord` elsewhere
@@ -105,7 +107,7 @@ fn take_ord(order: &[u8], z: Sizes, line: u64, n: usize) -> Taken
     if repeats(events) {
         return Taken::Bad(16); // an event named twice
     }
-    Taken::Next(z)
+    Taken::Same
 }
 
 // A line that begins a monitor, of any kind: 'counts as a `mon` in 3, 5 and 6'; 'One to four monitors', P 'at most 1,024'.
@@ -118,7 +120,7 @@ fn take_kind(
     k: Kind,
 ) -> Taken
     requires { ⌜ (length (now moves) ≡ 2048) × (length (now stops) ≡ 128) × (length (now counts) ≡ 4) × (length (now starts) ≡ 4) × Allowed z ⌝ }
-    ensures { λ r. ⌜ r ≡ taken (kindCase z k) (kindSizes z k) ⌝ }
+    ensures { λ r. ⌜ r ≡ taken (kindCase z k) (Next (kindSizes z k)) ⌝ }
     ensures { λ _. ⌜ now (moves .exit) ≡ onlyIf (kindCase z k) (kindMoves (now (moves .entry)) (z .monitors) (z .events) (asKind k)) (now (moves .entry)) ⌝ }
     ensures { λ _. ⌜ now (stops .exit) ≡ onlyIf (kindCase z k) (kindStops (now (stops .entry)) (z .monitors) (asKind k)) (now (stops .entry)) ⌝ }
     ensures { λ _. ⌜ now (counts .exit) ≡ onlyIf (kindCase z k) (kindCounts (now (counts .entry)) z k) (now (counts .entry)) ⌝ }
@@ -157,7 +159,7 @@ fn take_kind(
 // `go`, s, e, t: 'the latest monitor moves from s to t on event e'. A move that stands already is seen in the table.
 fn take_go(moves: &mut [u8], z: Sizes, s: usize, e: usize, t: usize) -> Taken
     requires { ⌜ (length (now moves) ≡ 2048) × Allowed z ⌝ }
-    ensures { λ r. ⌜ r ≡ taken (goCase (now (moves .entry)) z s e t) z ⌝ }
+    ensures { λ r. ⌜ r ≡ taken (goCase (now (moves .entry)) z s e t) Same ⌝ }
     ensures { λ _. ⌜ now (moves .exit) ≡ onlyIf (goCase (now (moves .entry)) z s e t) (goMoves (now (moves .entry)) z s e t) (now (moves .entry)) ⌝ }
 {
     if z.latest == 0 {
@@ -177,13 +179,13 @@ fn take_go(moves: &mut [u8], z: Sizes, s: usize, e: usize, t: usize) -> Taken
         return Taken::Bad(4); // s and e again
     }
     moves[at] = t as u8;
-    Taken::Next(z)
+    Taken::Same
 }
 
 // `stop`, s: 'marks a state of the latest monitor'. A state that is marked already is seen in the list.
 fn take_stop(stops: &mut [u8], z: Sizes, s: usize) -> Taken
     requires { ⌜ (length (now stops) ≡ 128) × Allowed z ⌝ }
-    ensures { λ r. ⌜ r ≡ taken (stopCase (now (stops .entry)) z s) z ⌝ }
+    ensures { λ r. ⌜ r ≡ taken (stopCase (now (stops .entry)) z s) Same ⌝ }
     ensures { λ _. ⌜ now (stops .exit) ≡ onlyIf (stopCase (now (stops .entry)) z s) (stopStops (now (stops .entry)) z s) (now (stops .entry)) ⌝ }
 {
     if z.latest == 0 {
@@ -197,21 +199,21 @@ fn take_stop(stops: &mut [u8], z: Sizes, s: usize) -> Taken
         return Taken::Bad(4); // marked twice
     }
     stops[at] = 1;
-    Taken::Next(z)
+    Taken::Same
 }
 
 // `amp`, e, d: 'gives event e a signed step d' in the latest monitor, whose moves on e are then those of this step. An event that has one already is seen in the
 // list.
 fn take_amp(moves: &mut [u8], given: &mut [u8], z: Sizes, e: usize, d: i64) -> Taken
     requires { ⌜ (length (now moves) ≡ 2048) × (length (now given) ≡ 64) × Allowed z ⌝ }
-    ensures { λ r. ⌜ r ≡ taken (ampCase (now (given .entry)) z e d) z ⌝ }
+    ensures { λ r. ⌜ r ≡ taken (ampCase (now (given .entry)) z e d) Same ⌝ }
     ensures { λ _. ⌜ now (moves .exit) ≡ onlyIf (ampCase (now (given .entry)) z e d) (ampMoves (now (moves .entry)) z e d) (now (moves .entry)) ⌝ }
     ensures { λ _. ⌜ now (given .exit) ≡ onlyIf (ampCase (now (given .entry)) z e d) (ampGiven (now (given .entry)) z e) (now (given .entry)) ⌝ }
 {
     let band = z.band;
-    let Band::From(lo, hi) = band else {
+    if band.hi < band.lo {
         return Taken::Bad(5); // the latest monitor is no `bal`, or there is none
-    };
+    }
     if z.events <= e {
         return Taken::Bad(3); // e is no event
     }
@@ -224,8 +226,8 @@ fn take_amp(moves: &mut [u8], given: &mut [u8], z: Sizes, e: usize, d: i64) -> T
         return Taken::Bad(4); // given twice
     }
     given[at] = 1;
-    kinds::fill_column(moves, m, e, Kind::Bal(lo, hi), d);
-    Taken::Next(z)
+    kinds::fill_column(moves, m, e, Kind::Bal(band.lo, band.hi), d);
+    Taken::Same
 }
 
 // One line more, of this number.
@@ -241,7 +243,7 @@ fn take_line(
     form: Form,
 ) -> Taken
     requires { ⌜ (length (now moves) ≡ 2048) × (length (now stops) ≡ 128) × (length (now given) ≡ 64) × (length (now counts) ≡ 4) × (length (now starts) ≡ 4) × (length (now order) ≡ 16) × Allowed z ⌝ }
-    ensures { λ r. ⌜ r ≡ taken (caseOf (now (moves .entry)) (now (stops .entry)) (now (given .entry)) (now (order .entry)) z line form) (sizesAfter z form) ⌝ }
+    ensures { λ r. ⌜ r ≡ taken (caseOf (now (moves .entry)) (now (stops .entry)) (now (given .entry)) (now (order .entry)) z line form) (outcome z form) ⌝ }
     ensures { λ _. ⌜ now (moves .exit) ≡ onlyIf (caseOf (now (moves .entry)) (now (stops .entry)) (now (given .entry)) (now (order .entry)) z line form) (movesAfter (now (moves .entry)) z form) (now (moves .entry)) ⌝ }
     ensures { λ _. ⌜ now (stops .exit) ≡ onlyIf (caseOf (now (moves .entry)) (now (stops .entry)) (now (given .entry)) (now (order .entry)) z line form) (stopsAfter (now (stops .entry)) z form) (now (stops .entry)) ⌝ }
     ensures { λ _. ⌜ now (given .exit) ≡ onlyIf (caseOf (now (moves .entry)) (now (stops .entry)) (now (given .entry)) (now (order .entry)) z line form) (givenAfter (now (given .entry)) z form) (now (given .entry)) ⌝ }
@@ -258,6 +260,28 @@ fn take_line(
             Part::Amp(e, d) => take_amp(moves, given, z, e, d),
         },
         Form::Other => Taken::Bad(2),
+    }
+}
+
+// The number of the case that a line comes to, 0 where it comes to none.
+fn fault_of(t: Taken) -> u64
+    ensures { λ n. ⌜ n ≡ faultOf t ⌝ }
+{
+    match t {
+        Taken::Next(_) => 0,
+        Taken::Same => 0,
+        Taken::Bad(number) => number,
+    }
+}
+
+// The sizes after a line, z being those before it.
+fn sizes_of(z: Sizes, t: Taken) -> Sizes
+    ensures { λ y. ⌜ y ≡ sizesOf z t ⌝ }
+{
+    match t {
+        Taken::Next(y) => y,
+        Taken::Same => z,
+        Taken::Bad(_) => z,
     }
 }
 
@@ -279,7 +303,7 @@ pub fn read(text: &[u8]) -> Reading
         events: 0,
         monitors: 0,
         latest: 0,
-        band: Band::Absent,
+        band: Band { lo: 1, hi: 0 },
         joint: 1,
     };
     let mut line = 1;
@@ -291,7 +315,7 @@ pub fn read(text: &[u8]) -> Reading
             return refused(2, line);
         }
         let form = decoding::decode(&rest[..end], &mut order);
-        match take_line(
+        let t = take_line(
             &mut moves,
             &mut stops,
             &mut given,
@@ -301,14 +325,12 @@ pub fn read(text: &[u8]) -> Reading
             sizes,
             line,
             form,
-        ) {
-            Taken::Next(z) => {
-                sizes = z;
-            }
-            Taken::Bad(number) => {
-                return refused(number, line);
-            }
+        );
+        let number = fault_of(t);
+        if number != 0 {
+            return refused(number, line);
         }
+        sizes = sizes_of(sizes, t);
         line += 1;
         at += end + 1;
     }

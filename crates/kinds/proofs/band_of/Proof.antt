@@ -1,8 +1,8 @@
 -- By the kind.
 -- Assumes nothing.
-use mathlib.Core.Path.{sym, ap, ap₂, _∙_}
-use Rattle.kinds.specs.declared.Band.the-variants.{From}
-use Rattle.kinds.specs.Kinds.{bandOf}
+use mathlib.Core.Path.{_≡_}
+use mir.Syntax.{w64}
+use mir.Val.{toZ, ofZ}
 use borrow.Author.Needs.{needs}
 use Rattle.kinds.proofs.band_of.Statement.{statement}
 use Rattle.kinds.proofs.band_of.Tie as tie
@@ -20,16 +20,20 @@ enum-known-k : tie.Need-enum-known-k
 enum-known-k c = search needs
 
 returns : tie.Need-returns
-returns c = search needs
+returns c = rw (c .enum-told .given .1)
 
 returns-2 : tie.Need-returns-2
-returns-2 c = search needs
+returns-2 c = rw (c .enum-told2 .given .1)
 
 returns-3 : tie.Need-returns-3
-returns-3 c = search needs
+returns-3 c = rw (c .enum-told3 .given .1)
 
 returns-4 : tie.Need-returns-4
-returns-4 c = ap₂ From (search needs) (search needs) ∙ sym (ap bandOf (c .before .k .given .1))
+returns-4 c =
+    let k = c .before .k .given in
+    let lo : toZ w64 (ofZ w64 (k .0 .0)) ≡ k .0 .0 = search needs in
+    let hi : toZ w64 (ofZ w64 (k .0 .1 .0)) ≡ k .0 .1 .0 = search needs in
+    rw (k .1, lo, hi)
 
 pub band-of-spec : {M : Type 1} → statement M
 band-of-spec =
