@@ -1,7 +1,7 @@
 -- The reader on its way through a text: what it has passed, and what is left to read. Assumes nothing.
 --   wholeReading t         == what reading the lines of t gives
 --   Passed r t z n i mv sp gv ct st os == the lines before byte i of t are read into r with no refusal; the next one is line n
-use mathlib.Core.Path.{_≡_, refl, sym, ap, _∙_}
+use mathlib.Core.Path.{_≡_, refl, sym, ap, _∙_, subst}
 use mathlib.Core.Bool.{Bool, true, false}
 use mathlib.Core.List.{List, [], _∷_, _++_, append-assoc, append-nil}
 use Prim.Native.Nat.{ℕ, suc, _+_, _-_, _≤_, _<_}
@@ -28,7 +28,7 @@ use Rattle.reader.specs.declared.Sizes.{Sizes}
 use Rattle.reader.specs.declared.Taken.{Taken}
 use Rattle.reader.specs.declared.Taken.the-variants.{Bad}
 use Rattle.reader.specs.Reading.{answerOf, recordFrom, whereServed, recordOf}
-use Rattle.reader.specs.Taking.{onlyIf, taken, faultOf, refusal, caseOf, outcome, sizesAfter, movesAfter, stopsAfter, givenAfter, countsAfter, startsAfter}
+use Rattle.reader.specs.Taking.{onlyIf, taken, Good, sizesOf, refusal, caseOf, outcome, sizesAfter, movesAfter, stopsAfter, givenAfter, countsAfter, startsAfter}
 use Rattle.reader.proofs.Lines.{decoded-first, unended-first, decoded-none, unended-all}
 use Rattle.reader.proofs.Monitors.{empty-length}
 use Rattle.reader.proofs.Held.{Holds, holds-none, case-is, holds-more}
@@ -52,20 +52,27 @@ passed-none t mv sp gv ct st blank unmarked none-given long wide-stops wide-give
 
 -- ---- what a line comes to
 
--- the number that it comes to is that of its case
-pub told-number : (n : ℕ) (z : Sizes) (f : Form) (t : Taken) → t ≡ taken n (outcome z f) → faultOf t ≡ n
-told-number n z f t q = ap faultOf q ∙ go (eqb n 0) refl
+-- where a line comes to no number, no case holds of it, and the sizes are those after it
+pub taken-good : (n : ℕ) (o t : Taken) (z : Sizes) → Good t → t ≡ taken n o → (n ≡ 0) × (sizesOf z t ≡ sizesOf z o)
+taken-good n o t z g q = go (eqb n 0) refl q
   where
-    good : (f : Form) → faultOf (outcome z f) ≡ 0
-    good (forms.Rig e) = refl
-    good (forms.Ord m) = refl
-    good (forms.Begins k) = refl
-    good (forms.Continues p) = refl
-    good forms.Other = refl
+    go : (b : Bool) → eqb n 0 ≡ b → t ≡ pick b o (Bad n) → (n ≡ 0) × (sizesOf z t ≡ sizesOf z o)
+    go true p q = (eqb-true n 0 p, ap (sizesOf z) q)
+    go false p q = absurd (subst Good q g)
 
-    go : (b : Bool) → eqb n 0 ≡ b → faultOf (pick b (outcome z f) (Bad n)) ≡ n
-    go true p = good f ∙ sym (eqb-true n 0 p)
-    go false p = refl
+taken-bad : (n m : ℕ) (z : Sizes) (f : Form) → Bad m ≡ taken n (outcome z f) → (eqb n 0 ≡ false) × (m ≡ n)
+taken-bad n m z f q = go (eqb n 0) refl q
+  where
+    good : (f : Form) → Good (outcome z f)
+    good (forms.Rig e) = tt
+    good (forms.Ord m) = tt
+    good (forms.Begins k) = tt
+    good (forms.Continues p) = tt
+    good forms.Other = tt
+
+    go : (b : Bool) → eqb n 0 ≡ b → Bad m ≡ pick b (outcome z f) (Bad n) → (eqb n 0 ≡ false) × (m ≡ n)
+    go true p q = absurd (subst Good (sym q) (good f))
+    go false p q = (p, cc)
 
 -- ---- the next line
 
@@ -108,11 +115,13 @@ module _ (r : Rig) (t : List ℕ) (z : Sizes) (line at : ℕ) (mv sp gv ct st os
       case-of = rw d (case-is r (P .front) z mv sp gv ct st os (P .holds) next line left (P .counted) lv)
 
       -- a case holds of it
-      pub stops-bad : (n : ℕ) → n ≡ caseOf mv sp gv left z line f → (n ≡ 0 → ⊥) → wholeReading t ≡ refused n line
+      pub stops-bad : (n : ℕ) → Bad n ≡ taken (caseOf mv sp gv left z line f) (outcome z f) → wholeReading t ≡ refused n line
       unfolding readingFrom
-      stops-bad n m ne =
+      stops-bad n b =
+          let (p, m) = taken-bad (caseOf mv sp gv left z line f) n z f b in
           let c : lineCase (P .front) next ≡ n = sym case-of ∙ sym m in
-          P .left ∙ rw (lines-left, c, ne-eqb n 0 ne, P .counted)
+          let p′ : eqb n 0 ≡ false = rw (← m) at p in
+          P .left ∙ rw (lines-left, c, p′, P .counted)
 
       reads-on : lineCase (P .front) next ≡ 0
           → readingFrom (P .front) (decoded (drop at t)) (unended (drop at t)) ≡ readingFrom (P .front ++ (next ∷ [])) (decoded (drop (at + (end + 1)) t)) (unended (drop (at + (end + 1)) t))

@@ -3,7 +3,7 @@
 --   Allowed z             == sizes within the paper's limits
 --   onlyIf n a b       == a where the number n is 0, else b
 --   taken n o          == the outcome o where the number n is 0, else Bad n
---   faultOf t          == the number of what a line comes to, 0 where it is none
+--   Good t             == a line comes to no number
 --   sizesOf z t        == the sizes after such a line, z being those before it
 --   refusal n p        == the answer to a text that is refused
 --   givenAt gv m e     == 1 where an `amp` line of monitor m has given event e a step, else 0
@@ -57,10 +57,10 @@ onlyIf n a b = pick (eqb n 0) a b
 abbrev pub taken : ℕ → Taken → Taken
 taken n o = onlyIf n o (Bad n)
 
-abbrev pub faultOf : Taken → ℕ
-faultOf (Next z) = 0
-faultOf Same = 0
-faultOf (Bad n) = n
+abbrev pub Good : Taken → Type 0
+Good (Next z) = Unit {0}
+Good Same = Unit {0}
+Good (Bad n) = ⊥
 
 abbrev pub sizesOf : Sizes → Taken → Sizes
 sizesOf z (Next y) = y

@@ -10,7 +10,7 @@ ghost use lib.ListN.{length};
 ghost use Rattle.promises.specs.Reading as promised;
 ghost use Rattle.kinds.specs.Kinds.{asKind, kindMoves, kindStops};
 ghost use Rattle.reader.specs.Reading.{answerOf, recordOf};
-ghost use Rattle.reader.specs.Taking.{Allowed, taken, rigCase, rigSizes, ordCase, kindCase, kindSizes, kindCounts, kindStarts, goCase, goMoves, stopCase, stopStops, ampCase, ampMoves, ampGiven, faultOf, sizesOf, caseOf, outcome, movesAfter, stopsAfter, givenAfter, countsAfter, startsAfter, onlyIf};
+ghost use Rattle.reader.specs.Taking.{Allowed, taken, rigCase, rigSizes, ordCase, kindCase, kindSizes, kindCounts, kindStarts, goCase, goMoves, stopCase, stopStops, ampCase, ampMoves, ampGiven, caseOf, outcome, movesAfter, stopsAfter, givenAfter, countsAfter, startsAfter, onlyIf};
 ghost use Rattle.reader.specs.Taking as taking;
 ghost use Rattle.reader.specs.declared.Taken.the-variants.{Next, Same};
 
@@ -263,28 +263,6 @@ fn take_line(
     }
 }
 
-// The number of the case that a line comes to, 0 where it comes to none.
-fn fault_of(t: Taken) -> u64
-    ensures { λ n. ⌜ n ≡ faultOf t ⌝ }
-{
-    match t {
-        Taken::Next(_) => 0,
-        Taken::Same => 0,
-        Taken::Bad(number) => number,
-    }
-}
-
-// The sizes after a line, z being those before it.
-fn sizes_of(z: Sizes, t: Taken) -> Sizes
-    ensures { λ y. ⌜ y ≡ sizesOf z t ⌝ }
-{
-    match t {
-        Taken::Next(y) => y,
-        Taken::Same => z,
-        Taken::Bad(_) => z,
-    }
-}
-
 // Reads a text of any length.
 pub fn read(text: &[u8]) -> Reading
     ensures { λ r. ⌜ answerOf (r .verdict) ≡ promised.reading (now (text .entry)) ⌝ }
@@ -315,7 +293,7 @@ pub fn read(text: &[u8]) -> Reading
             return refused(2, line);
         }
         let form = decoding::decode(&rest[..end], &mut order);
-        let t = take_line(
+        match take_line(
             &mut moves,
             &mut stops,
             &mut given,
@@ -325,12 +303,15 @@ pub fn read(text: &[u8]) -> Reading
             sizes,
             line,
             form,
-        );
-        let number = fault_of(t);
-        if number != 0 {
-            return refused(number, line);
+        ) {
+            Taken::Next(z) => {
+                sizes = z;
+            }
+            Taken::Same => {}
+            Taken::Bad(number) => {
+                return refused(number, line);
+            }
         }
-        sizes = sizes_of(sizes, t);
         line += 1;
         at += end + 1;
     }

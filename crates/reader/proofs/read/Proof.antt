@@ -1,7 +1,8 @@
 -- The invariant: the lines passed hold no case and are those of the tables, and reading the text is reading what is left after them.
 -- Each line either stops the reading with its number and place or is passed; at the end the tables are the record.
 -- Assumes nothing.
-use mathlib.Core.Path.{sym, ap, _∙_}
+use mathlib.Core.Path.{_≡_, sym, ap, _∙_}
+use mathlib.Core.Logic.{⊎-elim}
 use Prim.Native.Nat.{ℕ, _-_, _≤_}
 use native.Mathlib.Omega.{arith}
 use lib.ListN.{length, take, drop}
@@ -12,9 +13,10 @@ use Rattle.promises.specs.Answer.{served, refused}
 use Rattle.rig.specs.Record.{emptyRig}
 use Rattle.decoding.proofs.Parts.{indexOf-le}
 use Rattle.decoding.proofs.Listed.{length-over}
-use Rattle.reader.specs.Taking.{taken, sizesOf, outcome}
+use Rattle.reader.specs.declared.Taken.the-variants.{Next, Same}
+use Rattle.reader.specs.Taking.{caseOf, outcome, sizesAfter}
 use Rattle.reader.proofs.Held.{room}
-use Rattle.reader.proofs.Passing.{Passed, passed-none, told-number, stops-unended, stops-bad, goes-on, ends-none, ends-served, ends-record, reading-long, reading-whole, answers-refusal, answers-record}
+use Rattle.reader.proofs.Passing.{Passed, passed-none, taken-good, stops-unended, stops-bad, goes-on, ends-none, ends-served, ends-record, reading-long, reading-whole, answers-refusal, answers-record}
 use borrow.Author.Needs.{needs}
 use Rattle.reader.proofs.read.Statement.{statement}
 use Rattle.reader.proofs.read.Tie as tie
@@ -97,63 +99,67 @@ take-line-requires c κs =
     let d = c .before .before .before .before .before .before .before .decode in
     (h .long, h .wide-stops, h .wide-given, h .wide, h .wide-starts, ap length (d .ensures .1) ∙ length-over _ _ ∙ h .wide-order, room _ _ _ _ _ _ _ _ _ h)
 
-fault-of-requires : tie.Need-fault-of-requires Inv-loop μ-loop
-fault-of-requires c κs = search needs
+enum-known-z : tie.Need-enum-known-z Inv-loop μ-loop
+enum-known-z c = search needs
+
+enum-told : tie.Need-enum-told Inv-loop μ-loop
+enum-told c = search needs
+
+enum-known-number : tie.Need-enum-known-number Inv-loop μ-loop
+enum-known-number c = search needs
 
 refused-requires-3 : tie.Need-refused-requires-3 Inv-loop μ-loop
 refused-requires-3 c κs = search needs
 
 returns-3 : tie.Need-returns-3 Inv-loop μ-loop
 returns-3 c =
-    let t = c .before .before .before .before .before .before .before .before .before .before .before .before .before .before .before .before .before .before .before .before .before .before .before .before .before .before .before .args .text .now in
-    let lp = c .before .before .before .before .before .before .before .before .before .before .before .before .before .before .before .before .before .before .before .before .before .before .before .loop in
-    let u = c .before .before .before .before .before .before .before .before .before .before .before .before .before .before .before .before .before .before .before .before .until in
-    let d = c .before .before .before .before .before .before .before .before .before .before .before .before .before .before .before .before .decode in
-    let tk = c .before .before .before .before .before .before .before .before .take-line in
-    let n = c .before .before .fault-of .ensures ∙ told-number _ (lp .sizes) (d .result) (tk .result) (tk .ensures .0) in
-    answers-refusal t (c .refused3 .result) (c .before .before .fault-of .result) (lp .line) (c .refused3 .ensures)
-    (reading-whole t (c .before .before .before .before .before .before .before .before .before .before .before .before .before .before .before .before .before .before .before .before .before .before .before .before .before .if1 .left) (refused (c .before .before .fault-of .result) (lp .line)) (stops-bad emptyRig t (lp .sizes) (lp .line) (lp .at) (lp .moves) (lp .stops) (lp .given) (lp .counts) (lp .starts) (lp .order) (lp .inv) (u .result) (u .ensures) (c .before .before .before .before .before .before .before .before .before .before .before .before .before .before .before .before .before .before .before .if2 .left) (d .result) (d .ensures .0) (d .last .1 .0) (d .ensures .1) (c .before .before .fault-of .result) n (c .before .if3 .taken)))
-
-sizes-of-requires : tie.Need-sizes-of-requires Inv-loop μ-loop
-sizes-of-requires c κs = search needs
+    let t = c .before .before .before .before .before .before .before .before .before .before .before .before .before .before .before .before .before .before .before .before .before .before .before .before .before .before .before .before .args .text .now in
+    let lp = c .before .before .before .before .before .before .before .before .before .before .before .before .before .before .before .before .before .before .before .before .before .before .before .before .loop in
+    let u = c .before .before .before .before .before .before .before .before .before .before .before .before .before .before .before .before .before .before .before .before .before .until in
+    let d = c .before .before .before .before .before .before .before .before .before .before .before .before .before .before .before .before .before .decode in
+    let tk = c .before .before .before .before .before .before .before .before .before .take-line in
+    let n = c .before .before .number .given in
+    answers-refusal t (c .refused3 .result) (n .0 .0) (lp .line) (c .refused3 .ensures)
+    (reading-whole t (c .before .before .before .before .before .before .before .before .before .before .before .before .before .before .before .before .before .before .before .before .before .before .before .before .before .before .if1 .left) (refused (n .0 .0) (lp .line)) (stops-bad emptyRig t (lp .sizes) (lp .line) (lp .at) (lp .moves) (lp .stops) (lp .given) (lp .counts) (lp .starts) (lp .order) (lp .inv) (u .result) (u .ensures) (c .before .before .before .before .before .before .before .before .before .before .before .before .before .before .before .before .before .before .before .before .if2 .left) (d .result) (d .ensures .0) (d .last .1 .0) (d .ensures .1) (n .0 .0) (sym (n .1) ∙ tk .ensures .0)))
 
 add-line : tie.Need-add-line Inv-loop μ-loop
-add-line c = let lp = c .before .before .before .before .before .before .before .before .before .before .before .before .before .before .before .before .before .before .before .before .before .before .before .loop in record { fits = omega (arith, lp .inv .early, lp .inv .inside, c .before .before .before .before .before .before .before .before .before .before .before .before .before .before .before .before .before .before .before .before .before .before .before .before .before .if1 .left) }
+add-line c = let lp = c .before .before .before .before .before .before .before .before .before .before .before .before .before .before .before .before .before .before .before .before .before .loop in record { fits = omega (arith, lp .inv .early, lp .inv .inside, c .before .before .before .before .before .before .before .before .before .before .before .before .before .before .before .before .before .before .before .before .before .before .before .if1 .left) }
 
 add-at : tie.Need-add-at Inv-loop μ-loop
 add-at c =
-    let t = c .before .before .before .before .before .before .before .before .before .before .before .before .before .before .before .before .before .before .before .before .before .before .before .before .before .before .before .args .text .now in
-    let lp = c .before .before .before .before .before .before .before .before .before .before .before .before .before .before .before .before .before .before .before .before .before .before .before .loop in
-    let u = c .before .before .before .before .before .before .before .before .before .before .before .before .before .before .before .before .before .before .before .before .until in
+    let t = c .before .before .before .before .before .before .before .before .before .before .before .before .before .before .before .before .before .before .before .before .before .before .before .before .before .args .text .now in
+    let lp = c .before .before .before .before .before .before .before .before .before .before .before .before .before .before .before .before .before .before .before .before .before .loop in
+    let u = c .before .before .before .before .before .before .before .before .before .before .before .before .before .before .before .before .before .before .until in
     let rest = take (length t - lp .at) (drop (lp .at) t) in
     let h : u .result ≤ length rest = rw (u .ensures) (indexOf-le rest 10) in
-    omega (arith, c .before .before .before .before .before .before .before .before .before .before .before .before .before .before .before .before .before .before .before .before .before .before .before .before .before .if1 .left, length-take (length t - lp .at) (drop (lp .at) t), length-drop (lp .at) t)
+    omega (arith, c .before .before .before .before .before .before .before .before .before .before .before .before .before .before .before .before .before .before .before .before .before .before .before .if1 .left, length-take (length t - lp .at) (drop (lp .at) t), length-drop (lp .at) t)
 
 add-at-2 : tie.Need-add-at-2 Inv-loop μ-loop
 add-at-2 c =
-    let t = c .before .before .before .before .before .before .before .before .before .before .before .before .before .before .before .before .before .before .before .before .before .before .before .before .before .before .before .args .text .now in
-    let lp = c .before .before .before .before .before .before .before .before .before .before .before .before .before .before .before .before .before .before .before .before .before .before .before .loop in
-    let u = c .before .before .before .before .before .before .before .before .before .before .before .before .before .before .before .before .before .before .before .before .until in
+    let t = c .before .before .before .before .before .before .before .before .before .before .before .before .before .before .before .before .before .before .before .before .before .before .before .before .before .args .text .now in
+    let lp = c .before .before .before .before .before .before .before .before .before .before .before .before .before .before .before .before .before .before .before .before .before .loop in
+    let u = c .before .before .before .before .before .before .before .before .before .before .before .before .before .before .before .before .before .before .until in
     let rest = take (length t - lp .at) (drop (lp .at) t) in
     let h : u .result ≤ length rest = rw (u .ensures) (indexOf-le rest 10) in
-    omega (arith, c .before .before .before .before .before .before .before .before .before .before .before .before .before .before .before .before .before .before .before .before .before .before .before .before .before .if1 .left, length-take (length t - lp .at) (drop (lp .at) t), length-drop (lp .at) t)
+    omega (arith, c .before .before .before .before .before .before .before .before .before .before .before .before .before .before .before .before .before .before .before .before .before .before .before .if1 .left, length-take (length t - lp .at) (drop (lp .at) t), length-drop (lp .at) t)
 
 loop-less : tie.Need-loop-less Inv-loop μ-loop
 loop-less c = search needs
 
 loop-again : tie.Need-loop-again Inv-loop μ-loop
 loop-again c =
-    let t = c .before .before .before .before .before .before .before .before .before .before .before .before .before .before .before .before .before .before .before .before .before .before .before .before .before .before .before .args .text .now in
-    let lp = c .before .before .before .before .before .before .before .before .before .before .before .before .before .before .before .before .before .before .before .before .before .before .before .loop in
-    let u = c .before .before .before .before .before .before .before .before .before .before .before .before .before .before .before .before .before .before .before .before .until in
-    let d = c .before .before .before .before .before .before .before .before .before .before .before .before .before .before .before .before .decode in
-    let tk = c .before .before .before .before .before .before .before .before .take-line in
-    let n = c .before .before .fault-of .ensures ∙ told-number _ (lp .sizes) (d .result) (tk .result) (tk .ensures .0) in
-    let none = sym n ∙ c .before .if3 .left in
-    let y = c .sizes-of .ensures ∙ ap (sizesOf (lp .sizes)) (tk .ensures .0 ∙ ap (λ m. taken m (outcome (lp .sizes) (d .result))) none) in
+    let t = c .before .before .before .before .before .before .before .before .before .before .before .before .before .before .before .before .before .before .before .before .before .before .before .before .before .args .text .now in
+    let lp = c .before .before .before .before .before .before .before .before .before .before .before .before .before .before .before .before .before .before .before .before .before .loop in
+    let u = c .before .before .before .before .before .before .before .before .before .before .before .before .before .before .before .before .before .before .until in
+    let d = c .before .before .before .before .before .before .before .before .before .before .before .before .before .before .decode in
+    let tk = c .before .before .before .before .before .before .take-line in
     let e = tk .ensures .1 in
     let l = tk .last in
-    goes-on emptyRig t (lp .sizes) (lp .line) (lp .at) (lp .moves) (lp .stops) (lp .given) (lp .counts) (lp .starts) (lp .order) (lp .inv) (u .result) (u .ensures) (c .before .before .before .before .before .before .before .before .before .before .before .before .before .before .before .before .before .before .before .if2 .left) (d .result) (d .ensures .0) (d .last .1 .0) (d .ensures .1) (c .sizes-of .result) (l .0) (l .1 .0) (l .1 .1 .0) (l .1 .1 .1 .0) (l .1 .1 .1 .1 .0) none y (e .0) (e .1 .0) (e .1 .1 .0) (e .1 .1 .1 .0) (e .1 .1 .1 .1)
+    let (none, y) : (caseOf (lp .moves) (lp .stops) (lp .given) (d .last .1 .0) (lp .sizes) (lp .line) (d .result) ≡ 0) × (c .match .sizes ≡ sizesAfter (lp .sizes) (d .result)) = ⊎-elim
+    (λ (m, z, k, q). let (n, y) = taken-good (caseOf (lp .moves) (lp .stops) (lp .given) (d .last .1 .0) (lp .sizes) (lp .line) (d .result)) (outcome (lp .sizes) (d .result)) (Next (z .given .0 .0)) (lp .sizes) tt (sym (z .given .1) ∙ tk .ensures .0) in (n, q ∙ y))
+    (λ (m, s, q). let (n, y) = taken-good (caseOf (lp .moves) (lp .stops) (lp .given) (d .last .1 .0) (lp .sizes) (lp .line) (d .result)) (outcome (lp .sizes) (d .result)) Same (lp .sizes) tt (sym (s .given .1) ∙ tk .ensures .0) in (n, q ∙ y))
+    (c .match .came) in
+    goes-on emptyRig t (lp .sizes) (lp .line) (lp .at) (lp .moves) (lp .stops) (lp .given) (lp .counts) (lp .starts) (lp .order) (lp .inv) (u .result) (u .ensures) (c .before .before .before .before .before .before .before .before .before .before .before .before .before .before .before .before .before .if2 .left) (d .result) (d .ensures .0) (d .last .1 .0) (d .ensures .1) (c .match .sizes) (l .0) (l .1 .0) (l .1 .1 .0) (l .1 .1 .1 .0) (l .1 .1 .1 .1 .0) none y (e .0) (e .1 .0) (e .1 .1 .0) (e .1 .1 .1 .0) (e .1 .1 .1 .1)
 
 refused-requires-4 : tie.Need-refused-requires-4 Inv-loop μ-loop
 refused-requires-4 c κs = search needs
@@ -163,14 +169,14 @@ returns-4 c =
     let t = c .before .before .before .before .before .before .before .before .args .text .now in
     let lp = c .before .before .before .before .loop in
     answers-refusal t (c .refused4 .result) 5 (lp .line) (c .refused4 .ensures)
-    (reading-whole t (c .before .before .before .before .before .before .if1 .left) (refused 5 (lp .line)) (ends-none emptyRig t (lp .sizes) (lp .line) (lp .at) (lp .moves) (lp .stops) (lp .given) (lp .counts) (lp .starts) (lp .order) (lp .inv) (c .before .before .before .loop-test .left) (c .before .if4 .taken)))
+    (reading-whole t (c .before .before .before .before .before .before .if1 .left) (refused 5 (lp .line)) (ends-none emptyRig t (lp .sizes) (lp .line) (lp .at) (lp .moves) (lp .stops) (lp .given) (lp .counts) (lp .starts) (lp .order) (lp .inv) (c .before .before .before .loop-test .left) (c .before .if3 .taken)))
 
 returns-5 : tie.Need-returns-5 Inv-loop μ-loop
 returns-5 c =
     let t = c .before .before .before .before .before .before .before .args .text .now in
     let lp = c .before .before .before .loop in
     answers-record t (record { moves = lp .moves; stops = lp .stops; counts = lp .counts; starts = lp .starts; order = lp .order; monitors = lp .sizes .monitors; events = lp .sizes .events })
-    (reading-whole t (c .before .before .before .before .before .if1 .left) (served []) (ends-served emptyRig t (lp .sizes) (lp .line) (lp .at) (lp .moves) (lp .stops) (lp .given) (lp .counts) (lp .starts) (lp .order) (lp .inv) (c .before .before .loop-test .left) (c .if4 .left)))
+    (reading-whole t (c .before .before .before .before .before .if1 .left) (served []) (ends-served emptyRig t (lp .sizes) (lp .line) (lp .at) (lp .moves) (lp .stops) (lp .given) (lp .counts) (lp .starts) (lp .order) (lp .inv) (c .before .before .loop-test .left) (c .if3 .left)))
     (ends-record emptyRig t (lp .sizes) (lp .line) (lp .at) (lp .moves) (lp .stops) (lp .given) (lp .counts) (lp .starts) (lp .order) (lp .inv) (c .before .before .loop-test .left))
 
 pub read-spec : {M : Type 1} → statement M
@@ -199,10 +205,11 @@ read-spec =
     slice-aggregate-take-line-5
     slice-aggregate-take-line-6
     take-line-requires
-    fault-of-requires
+    enum-known-z
+    enum-told
+    enum-known-number
     refused-requires-3
     returns-3
-    sizes-of-requires
     add-line
     add-at
     add-at-2
