@@ -3,12 +3,13 @@
 use mathlib.Core.Path.{_≡_}
 use mathlib.Core.Logic.{inl, inr}
 use mathlib.Core.Bool.{false}
-use Prim.Native.Nat.{ℕ, _+_, _≤_, _<_}
+use Prim.Native.Nat.{ℕ, _+_, _≤_}
 use native.Mathlib.Omega.{arith}
-use lib.IntN.{ℤ, pos, negℤ, natAbs, _+ℤ_, _-ℤ_}
+use lib.IntN.{ℤ, pos, negℤ, _+ℤ_, _-ℤ_}
 use lib.Signed.{mag, _≤ℤ_}
 use mir.Syntax.{w64}
-use mir.Val.{SFits}
+use mir.Val.{SFits, toZ, ofZ}
+use mir.ValLaws.{toZ-pos, toZ-ofZ}
 use Rattle.lists.proofs.Integers.{not-belowℤ, leℤ-trans, mag-add, mag-minus, mag-within}
 use Rattle.promises.specs.Text.{Kind, bal, statesOf}
 use Rattle.promises.specs.Reading.{outsideℤ}
@@ -27,7 +28,7 @@ pub some-state : (k : Kind) → InRange k → 1 ≤ statesOf k
 some-state k r = omega (arith, start-below (r .0) k (ranged k r))
 
 -- a step from −15 to 15
-pub step-small : (d : ℤ) → outsideℤ (negℤ (pos 15)) (pos 15) d ≡ false → mag d ≤ 15
+step-small : (d : ℤ) → outsideℤ (negℤ (pos 15)) (pos 15) d ≡ false → mag d ≤ 15
 step-small d q =
     let out = tells-outsideℤ (negℤ (pos 15)) (pos 15) d .no q in
     mag-within 15 d (not-belowℤ d (negℤ (pos 15)) (λ h. out (inl h))) (not-belowℤ (pos 15) d (λ h. out (inr h)))
@@ -56,13 +57,36 @@ module _ (lo hi : ℤ) (b : Bounds lo hi) where
   pub minus-fits : SFits w64 (pos 0 -ℤ lo)
   minus-fits = record { sfits = omega (arith, mag-minus (pos 0) lo, b .low) }
 
-  module _ (s : ℕ) (h : s ≤ 31) where
-    pub state-fits : SFits w64 (lo +ℤ pos s)
-    state-fits = record { sfits = omega (arith, mag-add lo (pos s), b .low) }
+-- the numbers of one step of a `bal`: each fits 64 bits, and is read back as it is
+pub record Step (lo hi d : ℤ) (s : ℕ) : Type 0 where
+  pub ends : Bounds lo hi
+  pub state-fits : SFits w64 (lo +ℤ pos s)
+  pub moved-fits : SFits w64 (lo +ℤ pos s +ℤ d)
+  pub back-fits : SFits w64 (lo +ℤ pos s +ℤ d -ℤ lo)
+  pub lo-read : toZ w64 (ofZ w64 lo) ≡ lo
+  pub hi-read : toZ w64 (ofZ w64 hi) ≡ hi
+  pub d-read : toZ w64 (ofZ w64 d) ≡ d
+  pub s-read : toZ w64 s ≡ pos s
+  pub state-read : toZ w64 (ofZ w64 (lo +ℤ pos s)) ≡ lo +ℤ pos s
+  pub moved-read : toZ w64 (ofZ w64 (lo +ℤ pos s +ℤ d)) ≡ lo +ℤ pos s +ℤ d
 
-    module _ (d : ℤ) (small : mag d ≤ 15) where
-      pub moved-fits : SFits w64 (lo +ℤ pos s +ℤ d)
-      moved-fits = record { sfits = omega (arith, mag-add (lo +ℤ pos s) d, mag-add lo (pos s), b .low) }
-
-      pub back-fits : SFits w64 (lo +ℤ pos s +ℤ d -ℤ lo)
-      back-fits = record { sfits = omega (arith, mag-minus (lo +ℤ pos s +ℤ d) lo, mag-add (lo +ℤ pos s) d, mag-add lo (pos s), b .low) }
+pub step : (lo hi d : ℤ) (s : ℕ) → SFits w64 lo → SFits w64 hi → SFits w64 d → InRange (bal lo hi) × (outsideℤ (negℤ (pos 15)) (pos 15) d ≡ false) × (s ≤ 31) → Step lo hi d s
+step lo hi d s l h f (r, o, few) =
+    let b = bounds lo hi r in
+    let small = step-small d o in
+    let x = mag-add lo (pos s) in
+    let y = mag-add (lo +ℤ pos s) d in
+    let state : SFits w64 (lo +ℤ pos s) = record { sfits = omega (arith, x, b .low) } in
+    let moved : SFits w64 (lo +ℤ pos s +ℤ d) = record { sfits = omega (arith, x, y, b .low) } in
+    record {
+      ends = b;
+      state-fits = state;
+      moved-fits = moved;
+      back-fits = record { sfits = omega (arith, mag-minus (lo +ℤ pos s +ℤ d) lo, x, y, b .low) };
+      lo-read = toZ-ofZ w64 lo l;
+      hi-read = toZ-ofZ w64 hi h;
+      d-read = toZ-ofZ w64 d f;
+      s-read = toZ-pos w64 s (omega arith);
+      state-read = toZ-ofZ w64 (lo +ℤ pos s) state;
+      moved-read = toZ-ofZ w64 (lo +ℤ pos s +ℤ d) moved;
+    }

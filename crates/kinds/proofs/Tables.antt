@@ -14,7 +14,7 @@ use native.Mathlib.Omega.{arith}
 use lib.IntN.{ℤ, pos}
 use lib.ListN.{length}
 use borrow.Author.Tests.{le-ltb, eq-eqb}
-use Rattle.lists.specs.Lists.{pick, overwrite, firstOf}
+use Rattle.lists.specs.Lists.{pick, firstOf}
 use Rattle.lists.proofs.Tests.{case, contra}
 use Rattle.lists.proofs.Tables.{length-overwrite, overwrite-at, overwrite-beside}
 use Rattle.promises.specs.Text.{Kind, mon, gap, reply, bal, Part, amp, statesOf}

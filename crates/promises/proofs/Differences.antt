@@ -7,7 +7,7 @@ use mathlib.Core.List.{List, [], _∷_, List·Memᴰ as In}
 use mathlib.Core.Option.{Option, none, some, Option·getD}
 use Prim.Native.Nat.{ℕ, suc, _+_, _≤_, _<_}
 use native.Mathlib.Omega.{arith}
-use lib.IntN.{ℤ, pos, negℤ, _+ℤ_, _-ℤ_, natAbs, +ℤ-assoc, +ℤ-idr}
+use lib.IntN.{ℤ, pos, negℤ, _+ℤ_, _-ℤ_, +ℤ-assoc, +ℤ-idr}
 use lib.Signed.{_≤ℤ_, clashℤ, pos-natAbs}
 use lib.ListN.{length}
 use Rattle.lists.specs.Lists.{firstOf}
@@ -17,12 +17,12 @@ use Rattle.automaton.specs.Automaton as automaton
 use Rattle.automaton.specs.Automaton.{walk}
 use Rattle.automaton.proofs.Joint.{admits-state}
 use Rattle.automaton.proofs.Sentences.{bounded-admits, bounded-walk}
-use Rattle.promises.specs.Text.{Kind, bal, Part, amp, Line, continues, Monitor, monitors, latest, statesOf, startOf, eventsOf, decoded, Outsideℤ, OfLatest, continuing, IsBal, cases, Case2, Case5, Case3, Case16, Case17, Case4, LineFault, Readable, Fault}
+use Rattle.promises.specs.Text.{bal, Part, amp, Line, continues, Monitor, monitors, latest, statesOf, startOf, eventsOf, decoded, Outsideℤ, OfLatest, continuing, IsBal, cases, Case2, Case5, Case3, Case16, Case17, Case4, LineFault, Readable, Fault}
 use Rattle.promises.specs.Meaning.{stepIn, stepOf, sumOf, Balanced, Says, Admits, Ends, MayStop, BelowE, AllAdmit, AllMayStop, Belongs}
 use Rattle.promises.specs.Rig.{nextOf, monitorOf}
 use Rattle.promises.specs.Sentences.{Continues}
 use Rattle.promises.specs.Differences.{InBands, Differences}
-use Rattle.promises.proofs.Lines.{Once, Ranged, Kept, readable-formed}
+use Rattle.promises.proofs.Lines.{Once, Ranged, readable-formed}
 use Rattle.promises.proofs.Reading.{step-is, bad-line}
 use Rattle.promises.proofs.Agreeing.{unbounded}
 use Rattle.promises.proofs.Bal.{moves, moved-to, bal-agrees}

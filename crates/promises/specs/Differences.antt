@@ -12,7 +12,7 @@ use lib.Signed.{_≤ℤ_}
 use lib.ListN.{length}
 use Rattle.automaton.specs.Automaton as automaton
 use Rattle.automaton.specs.Automaton.{walk}
-use Rattle.promises.specs.Text.{Kind, bal, Part, amp, Line, Monitor, monitors, latest, statesOf, startOf, eventsOf, decoded, Outsideℤ, IsBal, Readable, Fault}
+use Rattle.promises.specs.Text.{bal, Part, amp, Line, Monitor, monitors, latest, statesOf, startOf, eventsOf, decoded, Outsideℤ, IsBal, Readable, Fault}
 use Rattle.promises.specs.Meaning.{stepOf, sumOf, Balanced, Admits, MayStop, BelowE, Belongs}
 use Rattle.promises.specs.Rig.{monitorOf}
 use Rattle.promises.specs.Sentences.{Agrees, Continues}

@@ -1,5 +1,6 @@
 -- The reader on its way through a text: what it has passed, and what is left to read. Assumes nothing.
 --   wholeReading t         == what reading the lines of t gives
+--   Good t                 == a line comes to no number
 --   Passed r t z n i mv sp gv ct st os == the lines before byte i of t are read into r with no refusal; the next one is line n
 use mathlib.Core.Path.{_≡_, refl, sym, ap, _∙_, subst}
 use mathlib.Core.Bool.{Bool, true, false}
@@ -26,9 +27,9 @@ use Rattle.kinds.specs.Kinds.{emptyBand}
 use Rattle.reader.specs.declared.Reading.{Reading}
 use Rattle.reader.specs.declared.Sizes.{Sizes}
 use Rattle.reader.specs.declared.Taken.{Taken}
-use Rattle.reader.specs.declared.Taken.the-variants.{Bad}
+use Rattle.reader.specs.declared.Taken.the-variants.{Next, Same, Bad}
 use Rattle.reader.specs.Reading.{answerOf, recordFrom, whereServed, recordOf}
-use Rattle.reader.specs.Taking.{onlyIf, taken, Good, sizesOf, refusal, caseOf, outcome, sizesAfter, movesAfter, stopsAfter, givenAfter, countsAfter, startsAfter}
+use Rattle.reader.specs.Taking.{onlyIf, taken, sizesOf, refusal, caseOf, outcome, sizesAfter, movesAfter, stopsAfter, givenAfter, countsAfter, startsAfter}
 use Rattle.reader.proofs.Lines.{decoded-first, unended-first, decoded-none, unended-all}
 use Rattle.reader.proofs.Monitors.{empty-length}
 use Rattle.reader.proofs.Held.{Holds, holds-none, case-is, holds-more}
@@ -52,7 +53,13 @@ passed-none t mv sp gv ct st blank unmarked none-given long wide-stops wide-give
 
 -- ---- what a line comes to
 
--- where a line comes to no number, no case holds of it, and the sizes are those after it
+-- a line comes to no number
+abbrev pub Good : Taken → Type 0
+Good (Next z) = Unit {0}
+Good Same = Unit {0}
+Good (Bad n) = ⊥
+
+-- then no case holds of it, and the sizes are those after it
 pub taken-good : (n : ℕ) (o t : Taken) (z : Sizes) → Good t → t ≡ taken n o → (n ≡ 0) × (sizesOf z t ≡ sizesOf z o)
 taken-good n o t z g q = go (eqb n 0) refl q
   where

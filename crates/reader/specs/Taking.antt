@@ -1,9 +1,8 @@
 -- One line more, in the reader's own state: the sizes so far and the tables. The laws of `proofs/Held` tie it to the lines.
 --   noBand b           == the band b is empty, so the latest monitor is no `bal`
---   Allowed z             == sizes within the paper's limits
+--   Allowed z          == sizes within the paper's limits
 --   onlyIf n a b       == a where the number n is 0, else b
 --   taken n o          == the outcome o where the number n is 0, else Bad n
---   Good t             == a line comes to no number
 --   sizesOf z t        == the sizes after such a line, z being those before it
 --   refusal n p        == the answer to a text that is refused
 --   givenAt gv m e     == 1 where an `amp` line of monitor m has given event e a step, else 0
@@ -56,11 +55,6 @@ onlyIf n a b = pick (eqb n 0) a b
 
 abbrev pub taken : ℕ → Taken → Taken
 taken n o = onlyIf n o (Bad n)
-
-abbrev pub Good : Taken → Type 0
-Good (Next z) = Unit {0}
-Good Same = Unit {0}
-Good (Bad n) = ⊥
 
 abbrev pub sizesOf : Sizes → Taken → Sizes
 sizesOf z (Next y) = y

@@ -7,7 +7,6 @@ use mir.ValLaws.{toZ-ofZ}
 use Rattle.lists.proofs.Integers.{less-nonNeg}
 use Rattle.promises.specs.Text.{bal, statesOf}
 use Rattle.kinds.proofs.Bands.{few, bounds, width-fits}
-use borrow.Author.Needs.{needs}
 use Rattle.kinds.proofs.band_states.Statement.{statement}
 use Rattle.kinds.proofs.band_states.Tie as tie
 

@@ -5,7 +5,6 @@ use mathlib.Core.Bool.{true, false}
 use lib.Signed.{ltZ}
 use mir.Syntax.{w64}
 use mir.ValLaws.{toZ-ofZ}
-use borrow.Author.Needs.{needs}
 use Rattle.kinds.proofs.outside_signed.Statement.{statement}
 use Rattle.kinds.proofs.outside_signed.Tie as tie
 
