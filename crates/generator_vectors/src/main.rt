@@ -173,16 +173,16 @@ fn rules() {
     show_count(b"a reply to itself", b"rig\t2\nreply\t1\t1\t1\t1\n", 0, 1);
 }
 
-// A difference from -1 to 2: event 0 adds 2, event 1 takes 1, event 2 leaves it.
+// A difference from -1 to 2: event 0 adds 2, event 1 takes 1.
 fn differences() {
-    let meters = b"rig\t3\nbal\t-1\t2\namp\t0\t2\namp\t1\t-1\n";
-    let all = [2u64, 0, 1];
-    let inside = [2u8, 1];
+    let meters = b"rig\t2\nbal\t-1\t2\namp\t0\t2\namp\t1\t-1\n";
+    let some = [1u64, 0, 1];
+    let inside = [1u8, 0];
     let above = [0u8, 1, 0];
     let below = [1u8, 1];
     show_count(b"bal h 2", meters, 2, 12);
-    show_list(b"bal h 1: 2 0 1", meters, 1, &all, 3);
-    show_index(b"bal: 2 1", meters, &inside);
+    show_list(b"bal h 1: 1 0 1", meters, 1, &some, 3);
+    show_index(b"bal: 1 0", meters, &inside);
     show_index(b"bal: 0 1 0", meters, &above);
     show_index(b"bal: 1 1", meters, &below);
     show_count(
