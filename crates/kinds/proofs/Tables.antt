@@ -3,7 +3,7 @@
 --   Blank mv sp m      == part m of the tables has no move and no mark
 --   OfKind mv sp m E k ps == it has the moves and marks of a monitor of the kind k with the further lines ps
 use mathlib.Core.Path.{_≡_, refl, sym, ap, _∙_}
-use mathlib.Core.Logic.{_⊎_, inl, inr, _≢_, ⊎-elim}
+use mathlib.Core.Logic.{_≢_, ⊎-elim}
 use mathlib.Core.Bool.{true}
 use mathlib.Core.List.{List, [], _∷_}
 use mathlib.Core.Option.{orElse}
@@ -12,9 +12,9 @@ use native.Mathlib.Nat.{eq-or-lt-of-le, le-of-suc-le-suc, not-suc-le-zero}
 use native.Mathlib.Numerals.{add-one}
 use native.Mathlib.Omega.{arith}
 use lib.IntN.{ℤ, pos}
-use lib.ListN.{length}
+use lib.ListN.{length, getD}
 use borrow.Author.Tests.{le-ltb, eq-eqb}
-use Rattle.lists.specs.Lists.{pick, firstOf}
+use Rattle.lists.specs.Lists.{pick, overwrite, firstOf}
 use Rattle.lists.proofs.Tests.{case, contra}
 use Rattle.lists.proofs.Tables.{length-overwrite, overwrite-at, overwrite-beside}
 use Rattle.promises.specs.Text.{Kind, mon, gap, reply, bal, Part, amp, statesOf}
@@ -22,7 +22,7 @@ use Rattle.promises.specs.Meaning.{stepIn, stepOf}
 use Rattle.promises.specs.Reading.{leadsTo, markedBy, isMon}
 use Rattle.promises.specs.Rig.{nextOf, markedOf}
 use Rattle.rig.specs.Record.{moveIndex, moveAt, stopIndex, stopAt}
-use Rattle.kinds.specs.Kinds.{entryOf, withColumn, withColumns, kindMoves, kindStops}
+use Rattle.kinds.specs.Kinds.{entryOf, withRows, kindMoves, kindStops}
 
 pub record Blank (mv sp : List ℕ) (m : ℕ) : Type 0 where
   pub no-move : (s u : ℕ) → s < 32 → u < 16 → moveAt mv m s u ≡ 255
@@ -32,26 +32,41 @@ pub record OfKind (mv sp : List ℕ) (m E : ℕ) (k : Kind) (ps : List Part) : T
   pub moves : (s u : ℕ) → s < statesOf k → u < E → moveAt mv m s u ≡ entryOf (statesOf k) (nextOf k ps s u)
   pub marks : (s : ℕ) → s < statesOf k → stopAt sp m s ≡ pick (markedOf k ps s) 1 0
 
--- ---- the moves on one event
+-- ---- the moves on some events
 
-module _ (mv : List ℕ) (m u : ℕ) (k : Kind) (d : ℤ) where
-  pub length-column : length (withColumn mv m u k d) ≡ length mv
-  unfolding withColumn
-  length-column = length-overwrite mv (λ s. moveIndex m s u) (λ s. entryOf (statesOf k) (nextOf k (amp u d ∷ []) s u)) (statesOf k)
+module _ (mv : List ℕ) (m u w : ℕ) (k : Kind) (d : ℤ) (events : u + w ≤ 16) where
+  pub length-rows : (n : ℕ) → length (withRows mv m u w k d n) ≡ length mv
+  unfolding withRows
+  length-rows zero = refl
+  length-rows (suc n) = length-overwrite (withRows mv m u w k d n) (λ i. moveIndex m n u + i) (λ i. entryOf (statesOf k) (nextOf k (amp (u + i) d ∷ []) n (u + i))) w ∙ length-rows n
 
-  -- an entry of another monitor, or of another event
-  pub column-beside : statesOf k ≤ 32 → u < 16 → (i x y : ℕ) → x < 32 → y < 16 → (i ≢ m) ⊎ (y ≢ u) → moveAt (withColumn mv m u k d) i x y ≡ moveAt mv i x y
-  unfolding withColumn
-  column-beside few hu i x y hx hy o =
-      overwrite-beside mv (λ s. moveIndex m s u) (λ s. entryOf (statesOf k) (nextOf k (amp u d ∷ []) s u)) (statesOf k) (moveIndex i x y) 0
-      (λ s l q. ⊎-elim (λ ne. ne (omega arith)) (λ ne. ne (omega arith)) o)
+  -- one row more
+  pub rows-more : (n : ℕ)
+      → overwrite (withRows mv m u w k d n) (λ i. moveIndex m n u + i) (λ i. entryOf (statesOf k) (nextOf k (amp (u + i) d ∷ []) n (u + i))) w ≡ withRows mv m u w k d (n + 1)
+  unfolding withRows
+  rows-more n = rw (add-one n)
 
-  pub column-at : statesOf k ≤ 32 → u < 16 → m < 4 → length mv ≡ 2048 → (s : ℕ) → s < statesOf k → moveAt (withColumn mv m u k d) m s u ≡ entryOf (statesOf k) (nextOf k (amp u d ∷ []) s u)
-  unfolding withColumn
-  column-at few hu hm long s h =
-      overwrite-at mv (λ s. moveIndex m s u) (λ s. entryOf (statesOf k) (nextOf k (amp u d ∷ []) s u)) (λ x y q. omega arith) (statesOf k) s 0 h (λ v l. omega arith)
+  -- an entry of another monitor, of a later row, or of another event
+  pub rows-beside : (n i x y : ℕ) → n ≤ 32 → x < 32 → y < 16 → (i ≡ m → x < n → u ≤ y → y < u + w → ⊥) → moveAt (withRows mv m u w k d n) i x y ≡ moveAt mv i x y
+  unfolding withRows
+  rows-beside zero i x y h hx hy o = refl
+  rows-beside (suc n) i x y h hx hy o =
+      overwrite-beside (withRows mv m u w k d n) (λ i. moveIndex m n u + i) (λ i. entryOf (statesOf k) (nextOf k (amp (u + i) d ∷ []) n (u + i))) w (moveIndex i x y) 0
+      (λ j l q. o (omega arith) (omega arith) (omega arith) (omega arith))
+      ∙ rows-beside n i x y (omega arith) hx hy (λ p q. o p (omega arith))
 
--- ---- on each event
+  pub rows-at : (n s i : ℕ) → n ≤ 32 → m < 4 → length mv ≡ 2048 → s < n → i < w → moveAt (withRows mv m u w k d n) m s (u + i) ≡ entryOf (statesOf k) (nextOf k (amp (u + i) d ∷ []) s (u + i))
+  unfolding withRows
+  rows-at zero s i h hm long l hi = absurd (not-suc-le-zero l)
+  rows-at (suc n) s i h hm long l hi =
+      ⊎-elim
+      (λ e. let at : moveIndex m s (u + i) ≡ moveIndex m n u + i = omega arith in
+      ap (λ j. getD (withRows mv m u w k d (suc n)) j 0) at
+      ∙ overwrite-at (withRows mv m u w k d n) (λ i. moveIndex m n u + i) (λ i. entryOf (statesOf k) (nextOf k (amp (u + i) d ∷ []) n (u + i))) (λ x y q. omega arith) w i 0 hi (λ v b. omega (arith, length-rows n))
+      ∙ ap (λ s. entryOf (statesOf k) (nextOf k (amp (u + i) d ∷ []) s (u + i))) (sym e))
+      (λ b. overwrite-beside (withRows mv m u w k d n) (λ i. moveIndex m n u + i) (λ i. entryOf (statesOf k) (nextOf k (amp (u + i) d ∷ []) n (u + i))) w (moveIndex m s (u + i)) 0 (λ j c q. omega arith)
+      ∙ rows-at n s i (omega arith) hm long b hi)
+      (eq-or-lt-of-le (le-of-suc-le-suc l))
 
 -- an event without an `amp` line has step 0
 no-step : (k : Kind) (s u : ℕ) → nextOf k (amp u (pos 0) ∷ []) s u ≡ nextOf k [] s u
@@ -61,39 +76,12 @@ no-step (gap e n) s u = refl
 no-step (reply a b lo hi) s u = refl
 no-step (bal lo hi) s u = rw (eq-eqb u u refl)
 
-module _ (mv : List ℕ) (m : ℕ) (k : Kind) (few : statesOf k ≤ 32) where
-  length-columns : (n : ℕ) → length (withColumns mv m k n) ≡ length mv
-  unfolding withColumns
-  length-columns zero = refl
-  length-columns (suc n) = length-column (withColumns mv m k n) m n k (pos 0) ∙ length-columns n
-
-  -- one event more
-  pub columns-more : (n : ℕ) → withColumn (withColumns mv m k n) m n k (pos 0) ≡ withColumns mv m k (n + 1)
-  unfolding withColumns
-  columns-more n = rw (add-one n)
-
-  columns-beside : (n i x y : ℕ) → n ≤ 16 → x < 32 → y < 16 → (i ≢ m) ⊎ (n ≤ y) → moveAt (withColumns mv m k n) i x y ≡ moveAt mv i x y
-  unfolding withColumns
-  columns-beside zero i x y h hx hy o = refl
-  columns-beside (suc n) i x y h hx hy o =
-      column-beside (withColumns mv m k n) m n k (pos 0) few (omega arith) i x y hx hy (⊎-elim (λ ne. inl ne) (λ l. inr (λ q. omega arith)) o)
-      ∙ columns-beside n i x y (omega arith) hx hy (⊎-elim (λ ne. inl ne) (λ l. inr (omega arith)) o)
-
-  columns-at : (n s u : ℕ) → n ≤ 16 → m < 4 → length mv ≡ 2048 → s < statesOf k → u < n → moveAt (withColumns mv m k n) m s u ≡ entryOf (statesOf k) (nextOf k [] s u)
-  unfolding withColumns
-  columns-at zero s u h hm long hs hu = absurd (not-suc-le-zero hu)
-  columns-at (suc n) s u h hm long hs hu =
-      ⊎-elim
-      (λ e. rw e (column-at (withColumns mv m k n) m n k (pos 0) few (omega arith) hm (length-columns n ∙ long) s hs ∙ ap (entryOf (statesOf k)) (no-step k s n)))
-      (λ l. column-beside (withColumns mv m k n) m n k (pos 0) few (omega arith) m s u (omega arith) (omega arith) (inr (λ q. omega arith)) ∙ columns-at n s u (omega arith) hm long hs l)
-      (eq-or-lt-of-le (le-of-suc-le-suc hu))
-
 -- ---- the line that begins a monitor
 
 module _ (mv sp : List ℕ) (m E : ℕ) (k : Kind) (hm : m < 4) (fewE : E ≤ 16) (few : statesOf k ≤ 32) (long : length mv ≡ 2048) (wide : length sp ≡ 128) where
   pub length-moves : length (kindMoves mv m E k) ≡ 2048
   unfolding kindMoves
-  length-moves = case (isMon k) (λ q. rw q long) (λ q. rw q (length-columns mv m k few E ∙ long))
+  length-moves = case (isMon k) (λ q. rw q long) (λ q. rw q (length-rows mv m 0 E k (pos 0) (omega arith) (statesOf k) ∙ long))
 
   pub length-stops : length (kindStops sp m k) ≡ 128
   unfolding kindStops
@@ -101,7 +89,7 @@ module _ (mv sp : List ℕ) (m E : ℕ) (k : Kind) (hm : m < 4) (fewE : E ≤ 16
 
   pub moves-beside : (i x y : ℕ) → i ≢ m → x < 32 → y < 16 → moveAt (kindMoves mv m E k) i x y ≡ moveAt mv i x y
   unfolding kindMoves
-  moves-beside i x y ne hx hy = case (isMon k) (λ q. rw q) (λ q. rw q (columns-beside mv m k few E i x y fewE hx hy (inl ne)))
+  moves-beside i x y ne hx hy = case (isMon k) (λ q. rw q) (λ q. rw q (rows-beside mv m 0 E k (pos 0) (omega arith) (statesOf k) i x y few hx hy (λ e. absurd (ne e))))
 
   pub stops-beside : (i x : ℕ) → i ≢ m → x < 32 → stopAt (kindStops sp m k) i x ≡ stopAt sp i x
   unfolding kindStops
@@ -111,7 +99,7 @@ module _ (mv sp : List ℕ) (m E : ℕ) (k : Kind) (hm : m < 4) (fewE : E ≤ 16
   pub fills : Blank mv sp m → OfKind (kindMoves mv m E k) (kindStops sp m k) m E k []
   unfolding kindMoves kindStops
   fills b = case (isMon k) (λ q. rw q (no-line k q b few)) (λ q. rw q (record {
-    moves = λ s u hs hu. columns-at mv m k few E s u fewE hm long hs hu;
+    moves = λ s u hs hu. let z : 0 + u ≡ u = omega arith in (rw z at (rows-at mv m 0 E k (pos 0) (omega arith) (statesOf k) s u few hm long hs hu)) ∙ ap (entryOf (statesOf k)) (no-step k s u);
     marks = λ s hs. overwrite-at sp (stopIndex m) (λ s. pick (markedOf k [] s) 1 0) (λ x y q. omega arith) (statesOf k) s 0 hs (λ v l. omega arith);
   }))
     where

@@ -4,15 +4,15 @@
 --   monStates k        == how many states a `go` or `stop` line can name: those of a `mon`, 0 of any other kind
 --   bandOf k           == the band in which an `amp` line moves: that of a `bal`, the empty one of any other kind
 --   entryOf S t        == the state t of S states as an entry of the move table: 255 where it is no state
---   withColumn mv m u k d == the move table mv with the moves of monitor m, of the kind k, on the event u of the step d
---   withColumns mv m k E == with those on each of E events, without further lines
+--   withRows mv m u w k d n == the move table mv with the moves of monitor m, of the kind k, from its first n states on w events from u on, each of the step d
+--   withStep mv m k e d == with its moves on the event e, of the step d
 --   kindMoves mv m E k == the move table mv with what the line says that begins monitor m of the kind k
 --   kindStops sp m k   == the marks sp likewise
 -- A new Kind is one clause each of asKind, monStates and bandOf; its automaton is that of promises/specs/Rig. Assumes nothing.
 use mathlib.Core.Path.{_≡_}
 use mathlib.Core.Bool.{false}
 use mathlib.Core.List.{List, [], _∷_}
-use Prim.Native.Nat.{ℕ, zero, suc}
+use Prim.Native.Nat.{ℕ, zero, suc, _+_}
 use lib.IntN.{ℤ, pos}
 use lib.Dec.{ltb}
 use Rattle.lists.specs.Lists.{pick, overwrite}
@@ -53,17 +53,17 @@ abbrev pub entryOf : ℕ → ℕ → ℕ
 entryOf S t = pick (ltb t S) t 255
 
 -- what stood there before, as the moves of another step, is written over
-unfoldable pub withColumn : List ℕ → ℕ → ℕ → text.Kind → ℤ → List ℕ
-withColumn mv m u k d = overwrite mv (λ s. moveIndex m s u) (λ s. entryOf (statesOf k) (nextOf k (amp u d ∷ []) s u)) (statesOf k)
+unfoldable pub withRows : List ℕ → ℕ → ℕ → ℕ → text.Kind → ℤ → ℕ → List ℕ
+withRows mv m u w k d zero = mv
+withRows mv m u w k d (suc s) = overwrite (withRows mv m u w k d s) (λ i. moveIndex m s u + i) (λ i. entryOf (statesOf k) (nextOf k (amp (u + i) d ∷ []) s (u + i))) w
 
--- 'an event without one has step 0' (02 no. 6)
-unfoldable pub withColumns : List ℕ → ℕ → text.Kind → ℕ → List ℕ
-withColumns mv m k zero = mv
-withColumns mv m k (suc u) = withColumn (withColumns mv m k u) m u k (pos 0)
-
--- 'Each line is a monitor' (02 no. 5): its whole table. A `mon` line has no move yet, and no mark
+-- 'Each line is a monitor' (02 no. 5): its whole table, and 'an event without one has step 0' (02 no. 6). A `mon` line has no move yet, and no mark
 unfoldable pub kindMoves : List ℕ → ℕ → ℕ → text.Kind → List ℕ
-kindMoves mv m E k = pick (isMon k) mv (withColumns mv m k E)
+kindMoves mv m E k = pick (isMon k) mv (withRows mv m 0 E k (pos 0) (statesOf k))
+
+-- '`amp`, e, d line gives event e a signed step d' (02 no. 6)
+abbrev pub withStep : List ℕ → ℕ → text.Kind → ℕ → ℤ → List ℕ
+withStep mv m k e d = withRows mv m e 1 k d (statesOf k)
 
 unfoldable pub kindStops : List ℕ → ℕ → text.Kind → List ℕ
 kindStops sp m k = pick (isMon k) sp (overwrite sp (stopIndex m) (λ s. pick (markedOf k [] s) 1 0) (statesOf k))

@@ -3,7 +3,7 @@ use decoding::Kind;
 ghost use mathlib.Core.Path.{_≡_};
 ghost use mathlib.Core.Bool.{false};
 ghost use mathlib.Core.List.{[], _∷_};
-ghost use Prim.Native.Nat.{_≤_, _<_};
+ghost use Prim.Native.Nat.{_+_, _≤_, _<_};
 ghost use lib.IntN.{pos, negℤ};
 ghost use lib.ListN.{length};
 ghost use Rattle.lists.specs.Lists.{pick, overwrite};
@@ -11,7 +11,7 @@ ghost use Rattle.promises.specs.Text.{bal, amp, statesOf, startOf};
 ghost use Rattle.promises.specs.Reading as promised;
 ghost use Rattle.promises.specs.Rig.{gapNext, replyNext, balNext, nextOf, markedOf};
 ghost use Rattle.rig.specs.Record.{stopIndex};
-ghost use Rattle.kinds.specs.Kinds.{asKind, InRange, monStates, bandOf, entryOf, withColumn, withColumns, kindMoves, kindStops};
+ghost use Rattle.kinds.specs.Kinds.{asKind, InRange, monStates, bandOf, entryOf, withRows, kindMoves, kindStops};
 
 // The band of a `bal`, from lo to hi; of any other kind the empty one, from 1 to 0.
 pub struct Band {
@@ -248,27 +248,27 @@ fn entry(n: usize, t: usize) -> u8
     if t < n { t as u8 } else { 255 }
 }
 
-// The moves of monitor m on u, which has the step d, from each of its states.
-pub fn fill_column(moves: &mut [u8], m: usize, u: usize, k: Kind, d: i64)
-    requires { ⌜ (length (now moves) ≡ 2048) × (m < 4) × (u < 16) ⌝ }
+// The moves from state s on w events from u on, each of the step d, into the entries from `at` on.
+fn fill_row(moves: &mut [u8], at: usize, u: usize, w: usize, k: Kind, n: usize, d: i64, s: usize)
+    requires { ⌜ (at + w ≤ length (now moves)) × (u + w ≤ 16) × (n ≤ 32) ⌝ }
+    requires { ⌜ InRange (asKind k) × (promised.outsideℤ (negℤ (pos 15)) (pos 15) d ≡ false) × (s ≤ 31) ⌝ }
+    ensures { λ _. ⌜ now (moves .exit) ≡ overwrite (now (moves .entry)) (λ i. at + i) (λ i. entryOf n (nextOf (asKind k) (amp (u + i) d ∷ []) s (u + i))) w ⌝ }
+{
+    for i in 0..w {
+        moves[at + i] = entry(n, next(k, d, s, u + i));
+    }
+}
+
+// The moves of monitor m on w events from u on, each of the step d, from each of its states.
+pub fn fill_moves(moves: &mut [u8], m: usize, u: usize, w: usize, k: Kind, d: i64)
+    requires { ⌜ (length (now moves) ≡ 2048) × (m < 4) × (u + w ≤ 16) ⌝ }
     requires { ⌜ InRange (asKind k) × (promised.outsideℤ (negℤ (pos 15)) (pos 15) d ≡ false) ⌝ }
-    ensures { λ _. ⌜ now (moves .exit) ≡ withColumn (now (moves .entry)) m u (asKind k) d ⌝ }
+    ensures { λ _. ⌜ now (moves .exit) ≡ withRows (now (moves .entry)) m u w (asKind k) d (statesOf (asKind k)) ⌝ }
 {
     let n = states(k);
     for s in 0..n {
         let at = (m * 32 + s) * 16 + u;
-        moves[at] = entry(n, next(k, d, s, u));
-    }
-}
-
-// The moves of monitor m on each event, without further lines.
-fn fill_moves(moves: &mut [u8], m: usize, events: usize, k: Kind)
-    requires { ⌜ (length (now moves) ≡ 2048) × (m < 4) × (events ≤ 16) ⌝ }
-    requires { ⌜ InRange (asKind k) ⌝ }
-    ensures { λ _. ⌜ now (moves .exit) ≡ withColumns (now (moves .entry)) m (asKind k) events ⌝ }
-{
-    for u in 0..events {
-        fill_column(moves, m, u, k, 0);
+        fill_row(moves, at, u, w, k, n, d, s);
     }
 }
 
@@ -293,6 +293,6 @@ pub fn fill_tables(moves: &mut [u8], stops: &mut [u8], m: usize, events: usize, 
     if is_mon(k) {
         return;
     }
-    fill_moves(moves, m, events, k);
+    fill_moves(moves, m, 0, events, k, 0); // every step is 0
     fill_marks(stops, m, k);
 }

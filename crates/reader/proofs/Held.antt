@@ -33,8 +33,8 @@ use Rattle.rig.specs.declared.Rig.{Rig}
 use Rattle.rig.specs.Record.{moveIndex, moveAt, stopIndex, stopAt, lowerFirst}
 use Rattle.decoding.specs.Forms.{over, kindOf, formOf}
 use Rattle.decoding.proofs.Listed.{length-over, Leaves}
-use Rattle.kinds.specs.Kinds.{asKind, InRange, monStates, emptyBand, bandOf, withColumn, kindMoves, kindStops}
-use Rattle.kinds.proofs.Tables.{Blank, OfKind, length-column, length-moves, length-stops, moves-beside, stops-beside, fills}
+use Rattle.kinds.specs.Kinds.{asKind, InRange, monStates, emptyBand, bandOf, withStep, kindMoves, kindStops}
+use Rattle.kinds.proofs.Tables.{Blank, OfKind, length-rows, length-moves, length-stops, moves-beside, stops-beside, fills}
 use Rattle.reader.specs.declared.Sizes.{Sizes}
 use Rattle.reader.specs.Reading.{withPart, withLine, recordFrom}
 use Rattle.reader.specs.Record.{nobody}
@@ -644,11 +644,11 @@ module _ (r : Rig) (ls : List Line) (z : Sizes) (mv sp gv ct st os : List ℕ) (
       let start : getD st (z .monitors - 1) 0 ≡ startOf (bal lo hi) = H .tabled .starts (z .monitors - 1) (omega (arith, last-at there)) ∙ ap startOf k in
       let count : getD ct (z .monitors - 1) 0 ≡ statesOf (bal lo hi) = H .tabled .counts (z .monitors - 1) (omega (arith, last-at there)) ∙ ap statesOf k in
       let new : stepBy (last .parts) e ≡ none = not-some (stepBy (last .parts) e) (rw (latest-is-last there) at (given-again p e d o ∙ f)) in
-      holds-continues (amp e d) (ampMoves mv z e d) sp (ampGiven gv z e) there (sym (amp-case e d) ∙ q) (length-column mv (z .monitors - 1) e (bal lo hi) d ∙ H .long) (H .wide-stops)
+      holds-continues (amp e d) (ampMoves mv z e d) sp (ampGiven gv z e) there (sym (amp-case e d) ∙ q) (length-rows mv (z .monitors - 1) e 1 (bal lo hi) d (omega (arith, few-z)) (statesOf (bal lo hi)) ∙ H .long) (H .wide-stops)
       (length-set gv (givenIndex (z .monitors - 1) e) 1 ∙ H .wide-given)
       (rw (start, count, bal-back (eventsOf ls) lo hi (last-band p)))
-      (one-part (amp e d) (monitors ls) (z .events) (z .monitors - 1) mv sp (withColumn mv (z .monitors - 1) e (bal lo hi) d) sp ct st (last-at there) few-z ranged
-      (λ T. subst (λ k. OfKind (withColumn mv (z .monitors - 1) e (bal lo hi) d) sp (z .monitors - 1) (z .events) k (last .parts ++ (amp e d ∷ []))) (sym k)
+      (one-part (amp e d) (monitors ls) (z .events) (z .monitors - 1) mv sp (withStep mv (z .monitors - 1) (bal lo hi) e d) sp ct st (last-at there) few-z ranged
+      (λ T. subst (λ k. OfKind (withStep mv (z .monitors - 1) (bal lo hi) e d) sp (z .monitors - 1) (z .events) k (last .parts ++ (amp e d ∷ []))) (sym k)
       (with-amp mv sp (z .monitors - 1) (z .events) lo hi (last .parts) (subst (λ k. OfKind mv sp (z .monitors - 1) (z .events) k (last .parts)) k T) few e d hm (H .long) few-z he new))
       (λ i ne. amp-beside mv sp i (z .monitors - 1) e (bal lo hi) d ne few (omega (arith, few-z)))
       (H .tabled))

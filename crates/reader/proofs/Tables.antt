@@ -1,11 +1,10 @@
 -- The part of the tables that is one monitor's, with one line more of this monitor or of another. Assumes nothing.
 --   Same mv sp mv′ sp′ k == part k of the tables mv′ and sp′ is that of mv and sp
 use mathlib.Core.Path.{_≡_, refl, sym, ap, ap₂, _∙_, subst}
-use mathlib.Core.Logic.{inl, inr}
 use mathlib.Core.Bool.{Bool, true, false, not, _&&_, or-false}
 use mathlib.Core.List.{List, [], _∷_, _++_}
 use mathlib.Core.Option.{Option, none, some, orElse, Option·getD}
-use Prim.Native.Nat.{ℕ, _≤_, _<_}
+use Prim.Native.Nat.{ℕ, _+_, _≤_, _<_}
 use native.Mathlib.Omega.{arith}
 use lib.IntN.{ℤ, pos}
 use lib.ListN.{length, set}
@@ -20,8 +19,8 @@ use Rattle.promises.specs.Meaning.{stepIn, stepOf}
 use Rattle.promises.specs.Reading.{leadsTo, moveBy, marks, markedBy, stepBy}
 use Rattle.promises.specs.Rig.{balNext, nextOf, markedOf}
 use Rattle.rig.specs.Record.{moveIndex, moveAt, stopIndex, stopAt}
-use Rattle.kinds.specs.Kinds.{entryOf, withColumn}
-use Rattle.kinds.proofs.Tables.{Blank, OfKind, column-beside, column-at}
+use Rattle.kinds.specs.Kinds.{entryOf, withStep}
+use Rattle.kinds.proofs.Tables.{Blank, OfKind, rows-beside, rows-at}
 use Rattle.reader.proofs.Monitors.{markedBy-snoc}
 
 -- ---- the other monitors
@@ -47,8 +46,8 @@ go-beside mv sp k m s e t ne hs he = record { moves = λ x y hx hy. getD-set-oth
 pub stop-beside : (mv sp : List ℕ) (k m s : ℕ) → (k ≡ m → ⊥) → s < 32 → Same mv sp mv (set sp (stopIndex m s) 1) k
 stop-beside mv sp k m s ne hs = record { moves = λ x y hx hy. refl; stops = λ x hx. getD-set-other sp (stopIndex m s) (stopIndex k x) 1 0 (λ q. ne (omega arith)) }
 
-pub amp-beside : (mv sp : List ℕ) (i m e : ℕ) (k : Kind) (d : ℤ) → (i ≡ m → ⊥) → statesOf k ≤ 32 → e < 16 → Same mv sp (withColumn mv m e k d) sp i
-amp-beside mv sp i m e k d ne few he = record { moves = λ x y hx hy. column-beside mv m e k d few he i x y hx hy (inl ne); stops = λ x hx. refl }
+pub amp-beside : (mv sp : List ℕ) (i m e : ℕ) (k : Kind) (d : ℤ) → (i ≡ m → ⊥) → statesOf k ≤ 32 → e < 16 → Same mv sp (withStep mv m k e d) sp i
+amp-beside mv sp i m e k d ne few he = record { moves = λ x y hx hy. rows-beside mv m e 1 k d (omega arith) (statesOf k) i x y few hx hy (λ q. absurd (ne q)); stops = λ x hx. refl }
 
 -- ---- a `mon`
 
@@ -158,12 +157,16 @@ module _ (mv sp : List ℕ) (k E : ℕ) (lo hi : ℤ) (ps : List Part) (T : OfKi
   abbrev entry : ℕ → ℤ → ℕ
   entry x c = entryOf (statesOf (bal lo hi)) (balNext lo hi c x)
 
-  pub with-amp : OfKind (withColumn mv k e (bal lo hi) d) sp k E (bal lo hi) (ps ++ (amp e d ∷ []))
+  pub with-amp : OfKind (withStep mv k (bal lo hi) e d) sp k E (bal lo hi) (ps ++ (amp e d ∷ []))
   unfolding nextOf markedOf
-  with-amp = record {
-    moves = λ x y hx hy. case (eqb e y)
-        (λ q. subst (λ y. moveAt (withColumn mv k e (bal lo hi) d) k x y ≡ entry x (stepOf (ps ++ (amp e d ∷ [])) y)) (eqb-true e y q)
-        (column-at mv k e (bal lo hi) d few (omega arith) hk long x hx ∙ ap (entry x) (step-alone ∙ sym step-here)))
-        (λ q. column-beside mv k e (bal lo hi) d few (omega arith) k x y (omega arith) (omega arith) (inr (λ p. eqb-false e y q (sym p))) ∙ T .moves x y hx hy ∙ ap (entry x) (sym (step-elsewhere y q)));
-    marks = T .marks;
-  }
+  with-amp = record { moves = λ x y hx hy. case (eqb e y) (λ q. here x y hx (eqb-true e y q)) (λ q. elsewhere x y hx hy q); marks = T .marks }
+    where
+      here : (x y : ℕ) → x < statesOf (bal lo hi) → e ≡ y → moveAt (withStep mv k (bal lo hi) e d) k x y ≡ entry x (stepOf (ps ++ (amp e d ∷ [])) y)
+      here x y hx q =
+          let at : e + 0 ≡ e = omega arith in
+          rw (← q, step-here) (unfold nextOf in rw (at, step-alone) at (rows-at mv k e 1 (bal lo hi) d (omega arith) (statesOf (bal lo hi)) x 0 few hk long hx (omega arith)))
+
+      elsewhere : (x y : ℕ) → x < statesOf (bal lo hi) → y < E → eqb e y ≡ false → moveAt (withStep mv k (bal lo hi) e d) k x y ≡ entry x (stepOf (ps ++ (amp e d ∷ [])) y)
+      elsewhere x y hx hy q =
+          rows-beside mv k e 1 (bal lo hi) d (omega arith) (statesOf (bal lo hi)) k x y few (omega arith) (omega arith) (λ p l a b. eqb-false e y q (omega arith))
+          ∙ (unfold nextOf in T .moves x y hx hy) ∙ ap (entry x) (sym (step-elsewhere y q))

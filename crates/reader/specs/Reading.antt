@@ -16,7 +16,7 @@ use Rattle.promises.specs.Text.{Kind, bal, Part, go, stop, amp, Line, rig, ord,
 use Rattle.promises.specs.Reading.{reading}
 use Rattle.rig.specs.declared.Rig.{Rig}
 use Rattle.rig.specs.Record.{moveIndex, stopIndex, countOf, startAt, emptyRig}
-use Rattle.kinds.specs.Kinds.{withColumn, kindMoves, kindStops}
+use Rattle.kinds.specs.Kinds.{withStep, kindMoves, kindStops}
 use Rattle.reader.specs.declared.Verdict.{Verdict}
 use Rattle.reader.specs.declared.Verdict.the-variants.{Readable, Refused}
 
@@ -34,7 +34,7 @@ balAt r m = bal (negℤ (pos (startAt r m))) (pos (countOf r m - 1) -ℤ pos (st
 unfoldable pub withPart : Rig → Part → Rig
 withPart r (go s e t) = record { moves = set (r .moves) (moveIndex (r .monitors - 1) s e) t; stops = r .stops; counts = r .counts; starts = r .starts; order = r .order; monitors = r .monitors; events = r .events }
 withPart r (stop s) = record { moves = r .moves; stops = set (r .stops) (stopIndex (r .monitors - 1) s) 1; counts = r .counts; starts = r .starts; order = r .order; monitors = r .monitors; events = r .events }
-withPart r (amp e d) = record { moves = withColumn (r .moves) (r .monitors - 1) e (balAt r (r .monitors - 1)) d; stops = r .stops; counts = r .counts; starts = r .starts; order = r .order; monitors = r .monitors; events = r .events }
+withPart r (amp e d) = record { moves = withStep (r .moves) (r .monitors - 1) (balAt r (r .monitors - 1)) e d; stops = r .stops; counts = r .counts; starts = r .starts; order = r .order; monitors = r .monitors; events = r .events }
 
 -- '`rig`, E'; `ord` 'lists all E events, first to last' (02 no. 2); '`mon`, S: a new monitor', as are `gap` and `reply` (02 no. 5) and `bal` (02 no. 6); 'The rig record keeps one start for each monitor' (02 no. 1)
 unfoldable pub withLine : Rig → Line → Rig

@@ -30,7 +30,7 @@ use Rattle.decoding.specs.declared.Kind.{Kind}
 use Rattle.decoding.specs.declared.Part.{Part}
 use Rattle.decoding.specs.declared.Part.the-variants.{Go, Stop, Amp}
 use Rattle.kinds.specs.declared.Band.{Band}
-use Rattle.kinds.specs.Kinds.{asKind, InRange, monStates, bandOf, withColumn, kindMoves, kindStops}
+use Rattle.kinds.specs.Kinds.{asKind, InRange, monStates, bandOf, withStep, kindMoves, kindStops}
 use Rattle.reader.specs.declared.Reading.{Reading}
 use Rattle.reader.specs.declared.Sizes.{Sizes}
 use Rattle.reader.specs.declared.Taken.{Taken}
@@ -137,7 +137,7 @@ ampCase gv z e d =
     0))
 
 abbrev pub ampMoves : List ℕ → Sizes → ℕ → ℤ → List ℕ
-ampMoves mv z e d = withColumn mv (z .monitors - 1) e (bal (z .band .lo) (z .band .hi)) d
+ampMoves mv z e d = withStep mv (z .monitors - 1) (bal (z .band .lo) (z .band .hi)) e d
 
 abbrev pub ampGiven : List ℕ → Sizes → ℕ → List ℕ
 ampGiven gv z e = set gv (givenIndex (z .monitors - 1) e) 1

@@ -226,7 +226,7 @@ fn take_amp(moves: &mut [u8], given: &mut [u8], z: Sizes, e: usize, d: i64) -> T
         return Taken::Bad(4); // given twice
     }
     given[at] = 1;
-    kinds::fill_column(moves, m, e, Kind::Bal(band.lo, band.hi), d);
+    kinds::fill_moves(moves, m, e, 1, Kind::Bal(band.lo, band.hi), d);
     Taken::Same
 }
 

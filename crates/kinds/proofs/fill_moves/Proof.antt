@@ -1,46 +1,75 @@
--- The columns so far are those of the kind's automaton, and the rest is as it was.
+-- The rows so far are those of the kind's automaton, and the rest is as it was.
 -- Assumes nothing.
-use mathlib.Core.Path.{_≡_, refl, ap, _∙_}
-use mathlib.Core.List.{List}
-use Prim.Native.Nat.{ℕ, _-_, _≤_}
+use mathlib.Core.Path.{_≡_, refl, ap, ap₂, _∙_}
+use mathlib.Core.List.{List, [], _∷_}
+use Prim.Native.Nat.{ℕ, _+_, _-_, _≤_, _<_}
 use native.Mathlib.Omega.{arith}
-use lib.IntN.{pos}
 use lib.ListN.{length}
-use Rattle.kinds.specs.Kinds.{asKind, withColumn, withColumns}
-use Rattle.kinds.proofs.Tables.{columns-more}
+use mir.Syntax.{w64}
+use mir.Val.{toZ, ofZ}
+use mir.ValLaws.{toZ-ofZ}
+use Rattle.lists.specs.Lists.{overwrite}
+use Rattle.promises.specs.Text.{amp, statesOf}
+use Rattle.promises.specs.Rig.{nextOf}
+use Rattle.rig.specs.Record.{moveIndex}
+use Rattle.kinds.specs.Kinds.{asKind, entryOf, withRows}
+use Rattle.kinds.proofs.Tables.{rows-more}
 use Rattle.kinds.proofs.Bands.{few}
 use borrow.Author.Needs.{needs}
 use Rattle.kinds.proofs.fill_moves.Statement.{statement}
 use Rattle.kinds.proofs.fill_moves.Tie as tie
 
 abbrev Inv-loop : tie.InvT-loop
-Inv-loop moves₀ m events k u₀ moves u =
-    (u ≤ events) × (length moves ≡ length moves₀) × (moves ≡ withColumns moves₀ m (asKind k) u)
+Inv-loop moves₀ m u w k d n s₀ moves s =
+    (s ≤ n) × (length moves ≡ length moves₀) × (moves ≡ withRows moves₀ m u w (asKind k) (toZ w64 d) s)
 
 abbrev μ-loop : tie.MeasureT-loop
-μ-loop moves₀ m events k u₀ moves u = events - u
+μ-loop moves₀ m u w k d n s₀ moves s = n - s
+
+states-requires : tie.Need-states-requires Inv-loop μ-loop
+states-requires c κs = search needs
 
 loop-holds : tie.Need-loop-holds Inv-loop μ-loop
-unfolding withColumns
+unfolding withRows
 loop-holds c = (omega arith, refl, refl)
 
-fill-column-requires : tie.Need-fill-column-requires Inv-loop μ-loop
-fill-column-requires c κs = let st = c .before .before .before .before in ((c .before .before .loop .inv .1 ∙ st .pre .0 .0, st .pre .0 .1, omega (arith, st .pre .0 .2)), (st .pre .1, refl))
+mul-at : tie.Need-mul-at Inv-loop μ-loop
+mul-at c = let l : c .before .loop .s < 32 = omega (arith, few (asKind (c .before .before .before .before .args .k)) (c .before .before .before .before .pre .1 .0), c .before .before .states .ensures) in search needs
 
-add-u : tie.Need-add-u Inv-loop μ-loop
-add-u c = search needs
+add-at : tie.Need-add-at Inv-loop μ-loop
+add-at c = let l : c .before .loop .s < 32 = omega (arith, few (asKind (c .before .before .before .before .args .k)) (c .before .before .before .before .pre .1 .0), c .before .before .states .ensures) in search needs
+
+mul-at-2 : tie.Need-mul-at-2 Inv-loop μ-loop
+mul-at-2 c = let l : c .before .loop .s < 32 = omega (arith, few (asKind (c .before .before .before .before .args .k)) (c .before .before .before .before .pre .1 .0), c .before .before .states .ensures) in search needs
+
+add-at-2 : tie.Need-add-at-2 Inv-loop μ-loop
+add-at-2 c = let l : c .before .loop .s < 32 = omega (arith, few (asKind (c .before .before .before .before .args .k)) (c .before .before .before .before .pre .1 .0), c .before .before .states .ensures) in search needs
+
+fill-row-requires : tie.Need-fill-row-requires Inv-loop μ-loop
+fill-row-requires c κs =
+    let st = c .before .before .before .before .before in
+    let lp = c .before .before .loop in
+    let n = c .before .before .before .states .ensures in
+    let l : lp .s < 32 = omega (arith, few (asKind (c .before .before .before .before .before .args .k)) (c .before .before .before .before .before .pre .1 .0), n) in
+    rw (toZ-ofZ w64 (st .args .d) (st .fits .d)) ((omega (arith, lp .inv .1, st .pre .0 .0), st .pre .0 .2, omega (arith, few (asKind (c .before .before .before .before .before .args .k)) (c .before .before .before .before .before .pre .1 .0), n)), (st .pre .1 .0, st .pre .1 .1, omega arith))
+
+add-s : tie.Need-add-s Inv-loop μ-loop
+add-s c = search needs
 
 loop-less : tie.Need-loop-less Inv-loop μ-loop
 loop-less c = search needs
 
 loop-again : tie.Need-loop-again Inv-loop μ-loop
 loop-again c =
-    let st = c .before .before .before .before .before .before .before in
+    let st = c .before .before .before .before .before .before .before .before in
     let lp = c .before .before .before .before .before .loop in
-    let fc = c .before .before .fill-column in (
+    let fr = c .before .before .fill-row in
+    let d = toZ w64 (ofZ w64 (st .args .d)) in (
       omega arith,
-      fc .kept .0 ∙ lp .inv .1,
-      fc .ensures ∙ ap (λ (l : List ℕ). withColumn l (st .args .m) (lp .u) (asKind (st .args .k)) (pos 0)) (lp .inv .2) ∙ columns-more (st .args .moves .now) (st .args .m) (asKind (st .args .k)) (few (asKind (st .args .k)) (st .pre .1)) (lp .u),
+      fr .kept .0 ∙ lp .inv .1,
+      fr .ensures
+          ∙ ap₂ (λ (l : List ℕ) (n : ℕ). overwrite l (λ i. moveIndex (st .args .m) (lp .s) (st .args .u) + i) (λ i. entryOf n (nextOf (asKind (st .args .k)) (amp (st .args .u + i) d ∷ []) (lp .s) (st .args .u + i))) (st .args .w)) (lp .inv .2) (c .before .before .before .before .before .before .states .ensures)
+          ∙ rows-more (st .args .moves .now) (st .args .m) (st .args .u) (st .args .w) (asKind (st .args .k)) d (st .pre .0 .2) (lp .s),
     )
 
 same-length : tie.Need-same-length Inv-loop μ-loop
@@ -48,10 +77,10 @@ same-length c = search needs
 
 returns : tie.Need-returns Inv-loop μ-loop
 returns c =
-    let st = c .before .before .before in
+    let st = c .before .before .before .before in
     let lp = c .before .loop in
-    let e : lp .u ≡ st .args .events = omega arith in
-    lp .inv .2 ∙ ap (withColumns (st .args .moves .now) (st .args .m) (asKind (st .args .k))) e
+    let e : lp .s ≡ statesOf (asKind (st .args .k)) = omega (arith, c .before .before .states .ensures) in
+    rw (toZ-ofZ w64 (st .args .d) (st .fits .d)) at (lp .inv .2 ∙ ap (withRows (st .args .moves .now) (st .args .m) (st .args .u) (st .args .w) (asKind (st .args .k)) (toZ w64 (ofZ w64 (st .args .d)))) e)
 
 pub fill-moves-spec : {M : Type 1} → statement M
 fill-moves-spec =
@@ -59,9 +88,14 @@ fill-moves-spec =
     (tie.spec
     Inv-loop
     μ-loop
+    states-requires
     loop-holds
-    fill-column-requires
-    add-u
+    mul-at
+    add-at
+    mul-at-2
+    add-at-2
+    fill-row-requires
+    add-s
     loop-less
     loop-again
     same-length

@@ -81,8 +81,8 @@ returns-4 c =
 slice-write-given : tie.Need-slice-write-given
 slice-write-given c = search needs
 
-fill-column-requires : tie.Need-fill-column-requires
-fill-column-requires c κs =
+fill-moves-requires : tie.Need-fill-moves-requires
+fill-moves-requires c κs =
     let st = c .before .before .before .before .before .before .before .before .before .before .before .before .before .before .before in
     let lo : toZ w64 (ofZ w64 (st .args .z .band .lo)) ≡ st .args .z .band .lo = search needs in
     let hi : toZ w64 (ofZ w64 (st .args .z .band .hi)) ≡ st .args .z .band .hi = search needs in
@@ -108,7 +108,7 @@ returns-5 c =
     let o : outsideℤ (negℤ (pos 15)) (pos 15) (st .args .d) ≡ false = rw d at (sym (c .before .before .before .before .before .before .before .before .before .outside-signed .ensures) ∙ c .before .before .before .before .before .before .before .before .if3 .left) in
     let e = lt-leb _ _ (c .before .before .before .before .before .before .before .before .before .before .if2 .left) in
     let g = eq-eqb _ _ (c .before .before .before .before .before .if4 .left) in
-    let f = c .before .before .fill-column .ensures in
+    let f = c .before .before .fill-moves .ensures in
     (rw (b, e, o, g), (rw (b, e, o, g) (rw (lo, hi, d) at f), rw (b, e, o, g)))
 
 pub take-amp-spec : {M : Type 1} → statement M
@@ -125,7 +125,7 @@ take-amp-spec =
     slice-read-if4
     returns-4
     slice-write-given
-    fill-column-requires
+    fill-moves-requires
     same-length
     same-length-2
     returns-5)
