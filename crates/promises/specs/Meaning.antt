@@ -7,7 +7,8 @@
 --   StillDue .. s w     == it has none, and may have one after w
 --   Replied .. w        == the sentence of `reply`, a, b, lo, hi: every a of w has its reply, or it is still due
 --   NoneDue .. w        == every a of w has its reply
---   stepOf ps e         == the step that the `amp` lines of ps give event e
+--   stepBy ps e         == the step that the first `amp` line of ps that does so gives event e
+--   stepOf ps e         == the step of event e by the lines ps
 --   sumOf d w           == the steps d of the events of w, together
 --   InBand lo hi x      == the difference x is from lo to hi
 --   Balanced lo hi d x w == the sentence of `bal`, lo, hi with the steps d: from the difference x on, every partial sum is from lo to hi
@@ -84,9 +85,12 @@ stepIn e (go a b c) = none
 stepIn e (stop a) = none
 stepIn e (amp f d) = pick (eqb f e) (some d) none
 
+abbrev pub stepBy : List Part → ℕ → Option ℤ
+stepBy ps e = firstOf (stepIn e) ps
+
 -- 'an event without one has step 0'
 unfoldable pub stepOf : List Part → ℕ → ℤ
-stepOf ps e = Option·getD (firstOf (stepIn e) ps) (pos 0)
+stepOf ps e = Option·getD (stepBy ps e) (pos 0)
 
 unfoldable pub sumOf : (ℕ → ℤ) → List ℕ → ℤ
 sumOf d [] = pos 0

@@ -1,7 +1,6 @@
 -- Reading a text: the first bad line, and the first case on it. What the reader's contract cites; that it agrees with the words of Text is a theorem.
 --   leadsTo s e p      == where the line p moves from s on e, if it does
 --   moveBy ps s e      == where the first of the lines ps that does so moves
---   stepBy ps e        == the step that the first of the lines ps that does so gives event e
 --   marks s p          == the line p marks the state s
 --   markedBy ps s      == one of the lines ps marks s
 --   isMon k, isBal k   == k is a `mon`, a `bal`
@@ -22,7 +21,7 @@ use lib.Dec.{ltb, leb, eqb}
 use Rattle.lists.specs.Lists.{pick, any, firstOf, isSome}
 use Rattle.promises.specs.Answer.{Answer, served, unless}
 use Rattle.promises.specs.Text.{Kind, mon, gap, reply, bal, Part, go, stop, amp, Line, rig, ord, begins, continues, other, Monitor, monitors, latest, statesOf, eventsOf, product, decoded, unended}
-use Rattle.promises.specs.Meaning.{stepIn}
+use Rattle.promises.specs.Meaning.{stepBy}
 
 abbrev pub empty : {A : Type 0} → List A → Bool
 empty [] = true
@@ -46,10 +45,6 @@ marks s (amp a d) = false
 unfoldable pub markedBy : List Part → ℕ → Bool
 markedBy [] s = false
 markedBy (p ∷ ps) s = marks s p || markedBy ps s
-
--- '`amp`, e, d line gives event e a signed step d' (02 no. 6)
-abbrev pub stepBy : List Part → ℕ → Option ℤ
-stepBy ps e = firstOf (stepIn e) ps
 
 pub record Tests : Type 0 where
   pub misformed : Bool

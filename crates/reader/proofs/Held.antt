@@ -25,8 +25,8 @@ use Rattle.lists.proofs.Firsts.{or-none, first-snoc}
 use Rattle.lists.proofs.Integers.{tells-ltℤ, less-nonNeg, minus-back}
 use Rattle.lists.proofs.Members.{getD-in}
 use Rattle.promises.specs.Text.{Kind, mon, gap, reply, bal, Part, go, stop, amp, Line, rig, ord, begins, continues, other, Monitor, addPart, extended, monitorsFrom, monitors, statesOf, startOf, latest, product, eventsOf, reordered, orderFrom, orderOf, OutOfRange, beginning, cases, Case5}
-use Rattle.promises.specs.Meaning.{stepIn}
-use Rattle.promises.specs.Reading.{empty, moveBy, markedBy, stepBy, outsideℤ, isMon, isBal, testBeginning, ofLatest, testContinuing, tests, lineCase}
+use Rattle.promises.specs.Meaning.{stepIn, stepBy}
+use Rattle.promises.specs.Reading.{empty, moveBy, markedBy, outsideℤ, isMon, isBal, testBeginning, ofLatest, testContinuing, tests, lineCase}
 use Rattle.promises.proofs.Lines.{monitors-more, order-more, length-addPart, product-addPart, product-append, Ranged, PartRanged, Kept, Headed, Formed, band, few-states, begun, sound-formed, nothing-formed}
 use Rattle.promises.proofs.Reading.{moved, tells-out, case-sound}
 use Rattle.rig.specs.declared.Rig.{Rig}

@@ -15,8 +15,8 @@ use Rattle.lists.specs.Lists.{pick, firstOf, isSome}
 use Rattle.lists.proofs.Firsts.{or-none, first-snoc}
 use Rattle.lists.proofs.Tests.{contra, case, and-left, and-right, or-right}
 use Rattle.promises.specs.Text.{Kind, mon, bal, Part, go, stop, amp, statesOf}
-use Rattle.promises.specs.Meaning.{stepIn, stepOf}
-use Rattle.promises.specs.Reading.{leadsTo, moveBy, marks, markedBy, stepBy}
+use Rattle.promises.specs.Meaning.{stepIn, stepBy, stepOf}
+use Rattle.promises.specs.Reading.{leadsTo, moveBy, marks, markedBy}
 use Rattle.promises.specs.Rig.{balNext, nextOf, markedOf}
 use Rattle.rig.specs.Record.{moveIndex, moveAt, stopIndex, stopAt}
 use Rattle.kinds.specs.Kinds.{entryOf, withStep}
