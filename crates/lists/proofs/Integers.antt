@@ -79,10 +79,6 @@ mag-within n (pos a) l h = leb→le a n (h .le)
 mag-within zero (negsuc a) l h = absurd (l .le)
 mag-within (suc n) (negsuc a) l h = omega (arith, leb→le a n (l .le))
 
-pub natAbs-mag : (a : ℤ) → natAbs a ≤ mag a + 1
-natAbs-mag (pos n) = omega arith
-natAbs-mag (negsuc n) = omega arith
-
 pub minus-abs : (a : ℤ) → natAbs (pos 0 -ℤ a) ≡ natAbs a
 minus-abs (pos zero) = refl
 minus-abs (pos (suc n)) = ap natAbs (+ℤ-idl (negsuc n))

@@ -6,7 +6,8 @@ use native.Mathlib.Omega.{arith}
 use lib.IntN.{pos, _+ℤ_, _-ℤ_}
 use mir.Syntax.{w64}
 use mir.ValLaws.{toZ-ofZ}
-use Rattle.lists.proofs.Integers.{less-nonNeg, natAbs-mag}
+use lib.Signed.{natAbs-le}
+use Rattle.lists.proofs.Integers.{less-nonNeg}
 use Rattle.promises.specs.Text.{statesOf}
 use Rattle.promises.specs.Reading.{outsideℤ}
 use Rattle.promises.specs.Rig.{balNext}
@@ -58,7 +59,7 @@ cast-result c =
     let z = toZ-ofZ w64 (st .args .lo +ℤ pos (st .args .s) +ℤ st .args .d -ℤ st .args .lo) (n .back-fits) in
     let q : outsideℤ (st .args .lo) (st .args .hi) (st .args .lo +ℤ pos (st .args .s) +ℤ st .args .d) ≡ false = rw (n .lo-read, n .s-read, n .state-read, n .d-read, n .moved-read, n .hi-read) at (sym (c .before .outside-signed .ensures) ∙ c .if1 .left) in
     let (low, high) = inside (st .args .lo) (st .args .hi) (n .ends .not-over) (st .args .lo +ℤ pos (st .args .s) +ℤ st .args .d) q in
-    rw (n .lo-read, n .s-read, n .state-read, n .d-read, n .moved-read, z) (less-nonNeg (st .args .lo) (st .args .lo +ℤ pos (st .args .s) +ℤ st .args .d) low, record { fits = omega (arith, natAbs-mag (st .args .lo +ℤ pos (st .args .s) +ℤ st .args .d -ℤ st .args .lo), n .back-fits .sfits) })
+    rw (n .lo-read, n .s-read, n .state-read, n .d-read, n .moved-read, z) (less-nonNeg (st .args .lo) (st .args .lo +ℤ pos (st .args .s) +ℤ st .args .d) low, record { fits = omega (arith, natAbs-le (st .args .lo +ℤ pos (st .args .s) +ℤ st .args .d -ℤ st .args .lo) (n .back-fits .sfits)) })
 
 returns-2 : tie.Need-returns-2
 unfolding balNext

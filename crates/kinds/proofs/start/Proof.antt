@@ -6,7 +6,8 @@ use lib.IntN.{pos, _-ℤ_}
 use mir.Syntax.{w64}
 use mir.Val.{toZ, ofZ}
 use mir.ValLaws.{toZ-ofZ}
-use Rattle.lists.proofs.Integers.{less-nonNeg, minus-abs, natAbs-mag}
+use lib.Signed.{natAbs-le}
+use Rattle.lists.proofs.Integers.{less-nonNeg, minus-abs}
 use Rattle.promises.specs.Text.{startOf}
 use Rattle.kinds.specs.Kinds.{asKind, InRange}
 use Rattle.kinds.proofs.Bands.{bounds, minus-fits}
@@ -38,7 +39,8 @@ cast-result c =
     let k = c .before .k2 .given in
     let lo : toZ w64 (ofZ w64 (k .0 .0)) ≡ k .0 .0 = search needs in
     let b = bounds (k .0 .0) (k .0 .1 .0) (subst (λ k. InRange (asKind k)) (k .1) (c .before .before .before .pre)) in
-    rw (lo, toZ-ofZ w64 (pos 0 -ℤ k .0 .0) (minus-fits (k .0 .0) (k .0 .1 .0) b)) (less-nonNeg (k .0 .0) (pos 0) (b .with-zero), record { fits = omega (arith, minus-abs (k .0 .0), natAbs-mag (k .0 .0), b .low) })
+    let f = minus-fits (k .0 .0) (k .0 .1 .0) b in
+    rw (lo, toZ-ofZ w64 (pos 0 -ℤ k .0 .0) f) (less-nonNeg (k .0 .0) (pos 0) (b .with-zero), record { fits = omega (arith, natAbs-le (pos 0 -ℤ k .0 .0) (f .sfits)) })
 
 returns : tie.Need-returns
 unfolding startOf
