@@ -1,8 +1,8 @@
 -- Membership in lists that are mapped, joined and tested. Assumes nothing.
-use mathlib.Core.Path.{_≡_, refl, ap, _∙_}
+use mathlib.Core.Path.{_≡_, refl, sym, ap, _∙_}
 use mathlib.Core.Logic.{_⊎_, inl, inr, _↔_}
-use mathlib.Core.Bool.{Bool, true}
-use mathlib.Core.List.{List, [], _∷_, map}
+use mathlib.Core.Bool.{Bool, true, _||_, or-false, or-assoc}
+use mathlib.Core.List.{List, [], _∷_, _++_, map}
 use mathlib.Core.List.{List·Memᴰ as In, List·Memᴰ·head as here, List·Memᴰ·tail as there, List·Memᴰ·append-cases as in-append, Memᴰ·append-left as in-left, Memᴰ·append-right as in-right}
 use Prim.Native.Nat.{ℕ, zero, suc, _+_, _≤_, _<_}
 use native.Mathlib.Omega.{arith}
@@ -10,17 +10,22 @@ use lib.ListN.{length, getD, length-append}
 use Rattle.lists.specs.Lists.{any, sum, concatMap}
 use Rattle.lists.proofs.Tests.{contra, or-cases, or-right, bool-ext}
 
-pub any-some : (f : ℕ → Bool) (l : List ℕ) → any f l ≡ true → (e : ℕ) × In e l × (f e ≡ true)
+pub any-some : {A : Type 0} (f : A → Bool) (l : List A) → any f l ≡ true → (e : A) × In e l × (f e ≡ true)
 any-some f [] h = contra h refl
-any-some f (x ∷ l) h = go (any-some f l) (or-cases (f x) (any f l) h)
+any-some {A} f (x ∷ l) h = go (any-some f l) (or-cases (f x) (any f l) h)
   where
-    go : (any f l ≡ true → (e : ℕ) × In e l × (f e ≡ true)) → (f x ≡ true) ⊎ (any f l ≡ true) → (e : ℕ) × In e (x ∷ l) × (f e ≡ true)
+    go : (any f l ≡ true → (e : A) × In e l × (f e ≡ true)) → (f x ≡ true) ⊎ (any f l ≡ true) → (e : A) × In e (x ∷ l) × (f e ≡ true)
     go ih (inl p) = (x, here refl, p)
     go ih (inr p) = (ih p .0, there (ih p .1), ih p .2)
 
-pub any-in : (f : ℕ → Bool) {e : ℕ} {l : List ℕ} → In e l → f e ≡ true → any f l ≡ true
+pub any-in : {A : Type 0} (f : A → Bool) {e : A} {l : List A} → In e l → f e ≡ true → any f l ≡ true
 any-in f (here q) p = cc
 any-in f (there {x = x} h) p = or-right (f x) (any-in f h p)
+
+-- one element more
+pub any-snoc : {A : Type 0} (f : A → Bool) (l : List A) (x : A) → any f (l ++ (x ∷ [])) ≡ (any f l || f x)
+any-snoc f [] x = or-false (f x)
+any-snoc f (y ∷ l) x = ap (λ b. f y || b) (any-snoc f l x) ∙ sym (or-assoc (f y) (any f l) (f x))
 
 -- lists with the same members pass the same tests
 pub any-same : (f : ℕ → Bool) (l m : List ℕ) → ((e : ℕ) → In e l ↔ In e m) → any f l ≡ any f m

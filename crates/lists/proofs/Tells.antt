@@ -23,6 +23,13 @@ tells-true {b} t p = case b (λ q. q) (λ q. absurd (t .no q p))
 pub tells-false : {b : Bool} {P : Type 0} → Tells b P → (P → ⊥) → b ≡ false
 tells-false {b} t n = case b (λ q. absurd (n (t .yes q))) (λ q. q)
 
+-- a proposition that a test tells holds where it is not false
+pub tells-stable : {b : Bool} {P : Type 0} → Tells b P → ((P → ⊥) → ⊥) → P
+tells-stable {b} t n = case b (t .yes) (λ q. absurd (n (t .no q)))
+
+pub tells-holds : (b : Bool) → Tells b (b ≡ true)
+tells-holds b = record { yes = λ q. q; no = λ q h. contra h q }
+
 pub tells-lt : (a b : ℕ) → Tells (ltb a b) (a < b)
 tells-lt a b = record { yes = ltb-true a b; no = λ q h. omega (arith, ltb-false a b q) }
 
@@ -55,7 +62,7 @@ tells-and {a = true} s t = record { yes = λ q. (s .yes refl, t .yes q); no = λ
 tells-and {a = false} s t = record { yes = λ q. contra q refl; no = λ q h. s .no refl (h .0) }
 
 -- some element of a list
-pub tells-any : (f : ℕ → Bool) (P : ℕ → Type 0) → ((e : ℕ) → Tells (f e) (P e)) → (es : List ℕ) → Tells (any f es) ((e : ℕ) × In e es × P e)
+pub tells-any : {A : Type 0} (f : A → Bool) (P : A → Type 0) → ((e : A) → Tells (f e) (P e)) → (es : List A) → Tells (any f es) ((e : A) × In e es × P e)
 tells-any f P t es = record {
   yes = λ q. let (e, i, p) = any-some f es q in (e, i, t e .yes p);
   no = λ q (e, i, p). contra (any-in f i (tells-true (t e) p)) q;

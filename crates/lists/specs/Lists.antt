@@ -35,7 +35,7 @@ pub record Permutation (n : ℕ) (l : List ℕ) : Type 0 where
   pub once : Pairwise _≢_ l
   pub just : (e : ℕ) → In e l ↔ (e < n)
 
-abbrev pub any : (ℕ → Bool) → List ℕ → Bool
+abbrev pub any : {A : Type 0} → (A → Bool) → List A → Bool
 any f [] = false
 any f (x ∷ l) = f x || any f l
 

@@ -18,7 +18,7 @@ use Rattle.promises.specs.Meaning.{stepOf, sumOf, InBand, Balanced, Says
 use Rattle.promises.specs.Reading.{outsideℤ}
 use Rattle.promises.specs.Rig.{balNext, nextOf, markedOf}
 use Rattle.promises.specs.Sentences.{Agrees}
-use Rattle.promises.proofs.Reading.{tells-outsideℤ}
+use Rattle.promises.proofs.KindTests.{tells-outsideℤ}
 use Rattle.promises.proofs.Agreeing.{agrees}
 
 module _ (lo hi : ℤ) (band : lo ≤ℤ hi) where

@@ -100,7 +100,7 @@ early-fills n p o = rw (ne-eqb n 9 (λ q. far 9 (omega arith) (omega arith) q o)
 pub fault-fills : (t : List ℕ) (n p : ℕ) → Fault t n p → fills (refused n p) ≡ false
 fault-fills t n p f = early-fills n p (⊎-elim (λ h. inl (omega arith)) (λ h. inr h) (fault-number t n p f))
 
--- whoever fills the cells has passed rows 1 to 8, 16 and 17
+-- whoever fills the cells has passed rows 1 to 8 and 16 to 18
 pub sized-passed : (t : List ℕ) (h : ℕ) (cells : List ℕ) (a : Answer) → fills (sized t h cells a) ≡ true → Sized t h cells
 unfolding sized fills Case7 Case8
 sized-passed t h cells a f = go (readable-or-fault t)

@@ -5,7 +5,7 @@ use mathlib.Core.Path.{_≡_, refl, sym, ap, _∙_, subst}
 use mathlib.Core.Logic.{_⊎_, inl, inr, _↔_}
 use mathlib.Core.List.{List, [], _∷_, List·Memᴰ as In}
 use mathlib.Core.Option.{Option, none, some, Option·getD}
-use Prim.Native.Nat.{ℕ, suc, _+_, _≤_, _<_}
+use Prim.Native.Nat.{ℕ, _+_, _≤_, _<_}
 use native.Mathlib.Omega.{arith}
 use lib.IntN.{ℤ, pos, negℤ, _+ℤ_, _-ℤ_, +ℤ-assoc, +ℤ-idr}
 use lib.Signed.{_≤ℤ_, clashℤ, pos-natAbs}
@@ -17,15 +17,15 @@ use Rattle.automaton.specs.Automaton as automaton
 use Rattle.automaton.specs.Automaton.{walk}
 use Rattle.automaton.proofs.Joint.{admits-state}
 use Rattle.automaton.proofs.Sentences.{bounded-admits, bounded-walk}
-use Rattle.promises.specs.Text.{bal, Part, amp, Line, continues, Monitor, monitors, latest, statesOf, startOf, eventsOf, decoded, Outsideℤ, OfLatest, continuing, IsBal, cases, Case2, Case5, Case3, Case16, Case17, Case4, LineFault, Readable, Fault}
+use Rattle.promises.specs.Text.{bal, Part, amp, Line, continues, Monitor, monitors, statesOf, startOf, eventsOf, decoded, Outsideℤ, never, continuing, IsBal, cases, Readable}
 use Rattle.promises.specs.Meaning.{stepIn, stepOf, sumOf, Balanced, Says, Admits, Ends, MayStop, BelowE, AllAdmit, AllMayStop, Belongs}
 use Rattle.promises.specs.Rig.{nextOf, monitorOf}
-use Rattle.promises.specs.Sentences.{Continues}
 use Rattle.promises.specs.Differences.{InBands, Differences}
 use Rattle.promises.proofs.Lines.{Once, Ranged, readable-formed}
-use Rattle.promises.proofs.Reading.{step-is, bad-line}
+use Rattle.promises.proofs.Reading.{step-is}
 use Rattle.promises.proofs.Agreeing.{unbounded}
 use Rattle.promises.proofs.Bal.{moves, moved-to, bal-agrees}
+use Rattle.promises.proofs.Continuing.{wrong-kind, out-of-range, given-again}
 use Rattle.promises.proofs.Stopping.{stopping}
 
 -- ---- states
@@ -97,39 +97,21 @@ module _ (t : List ℕ) (h : ℕ) (w : List ℕ) (r : Readable t) (is : (m : Mon
 
 -- ---- refusals
 
-module _ (t : List ℕ) (front : List Line) (e : ℕ) (d : ℤ) (z : Continues t front (amp e d)) where
-  bad : (n : ℕ) → LineFault front (continues (amp e d)) n → Fault t n (suc (length front))
-  bad n f = bad-line t front (continues (amp e d)) (z .back) n (z .short) (z .lines-are) (z .sound) f
+-- 'a signed step d, −15 to 15' of an event; what was given before
+abbrev out : List Line → ℕ → ℤ → Monitor → Type 0
+out front e d m = (eventsOf front ≤ e) ⊎ Outsideℤ (negℤ (pos 15)) (pos 15) d
 
-  formed : Case2 front (continues (amp e d)) → ⊥
-  unfolding Case2 cases continuing
-  formed h = h
+abbrev given : ℕ → Monitor → Type 0
+given e m = (c : ℤ) × In (amp e c) (m .parts)
 
-  not-bal : ((m : Monitor) → latest (monitors front) ≡ some m → IsBal (m .kind) → ⊥) → Fault t 5 (suc (length front))
-  unfolding LineFault Case5 cases continuing
-  not-bal isn't = bad 5 (inr (formed, inl (misplaced (latest (monitors front)) refl, refl)))
-    where
-      misplaced : (o : Option Monitor) → latest (monitors front) ≡ o → OfLatest (λ m. IsBal (m .kind)) (latest (monitors front)) → ⊥
-      misplaced none q h = unfold OfLatest in rw q at h
-      misplaced (some m) q h = isn't m q (unfold OfLatest in rw q at h)
+are : (front : List Line) (e : ℕ) (d : ℤ) → cases front (continues (amp e d)) ≡ continuing front IsBal (out front e d) never (given e)
+unfolding cases
+are front e d = refl
 
-  module _ (m : Monitor) (last : latest (monitors front) ≡ some m) (is : IsBal (m .kind)) where
-    placed : Case5 front (continues (amp e d)) → ⊥
-    unfolding Case5 cases continuing OfLatest
-    placed elsewhere = elsewhere (rw last is)
-
-    out-of-range : (eventsOf front ≤ e) ⊎ Outsideℤ (negℤ (pos 15)) (pos 15) d → Fault t 3 (suc (length front))
-    unfolding LineFault Case3 cases continuing OfLatest
-    out-of-range o = bad 3 (inr (formed, inr (placed, inl (rw last o, refl))))
-
-    given-twice : (c : ℤ) → e < eventsOf front → negℤ (pos 15) ≤ℤ d → d ≤ℤ pos 15 → In (amp e c) (m .parts) → Fault t 4 (suc (length front))
-    unfolding LineFault Case3 Case16 Case17 Case4 cases continuing OfLatest
-    given-twice c event low high i = bad 4 (inr (formed, inr (placed, inr (λ k. ranged (rw last at k), inr (λ k. k, inr (λ k. k, inl (rw last (c, i), refl)))))))
-      where
-        ranged : (eventsOf front ≤ e) ⊎ Outsideℤ (negℤ (pos 15)) (pos 15) d → ⊥
-        ranged (inl h) = omega arith
-        ranged (inr (inl h)) = clashℤ h low
-        ranged (inr (inr h)) = clashℤ h high
+in-range : (front : List Line) (e : ℕ) (d : ℤ) (m : Monitor) → e < eventsOf front → negℤ (pos 15) ≤ℤ d → d ≤ℤ pos 15 → out front e d m → ⊥
+in-range front e d m event low high (inl h) = omega arith
+in-range front e d m event low high (inr (inl h)) = clashℤ h low
+in-range front e d m event low high (inr (inr h)) = clashℤ h high
 
 pub differences : Differences
 unfolding MayStop Ends
@@ -143,7 +125,7 @@ differences = record {
   plain = plain;
   marked = λ lo hi ps s w. tt;
   all-bal = all-bal;
-  not-bal = not-bal;
-  out-of-range = out-of-range;
-  given-twice = λ t front e c d z m last is. given-twice t front e d z m last is c;
+  not-bal = λ t front e d z. wrong-kind front (amp e d) _ _ _ _ (are front e d) t z;
+  out-of-range = λ t front e d z. out-of-range front (amp e d) _ _ _ _ (are front e d) t z;
+  given-twice = λ t front e c d z m last is event low high i. given-again front (amp e d) _ _ _ _ (are front e d) t z m last is (in-range front e d m event low high) (λ n h. h) (c, i);
 }

@@ -19,9 +19,9 @@ use Rattle.automaton.proofs.Ranking.{index-belongs, firstViolation-none}
 use Rattle.promises.specs.Text.{onto, splitOn, init, lastOf, lines, unended, fields, digitsValue, number, ahead, numbers, same, field, endOr, end, one, two, three, four, oneOrTwo, anyNumber, form, decode, decoded, addPart, extended, monitorsFrom, monitors, statesOf, startOf, latest, product, eventsOf, reordered, orderFrom, orderOf, Readable, Fault, Case1, signed, minus, plus, oneSigned, twoSigned, thenSigned, twoSigned, thenSigned}
 use Rattle.promises.specs.Answer.{served, refused, Served}
 use Rattle.promises.specs.Meaning.{Belongs, Earlier, Comes, stepIn, stepOf}
-use Rattle.promises.specs.Reading.{leadsTo, marks, markedBy, testBeginning, ofLatest, testContinuing, tests, lineCase, readingFrom, reading}
-use Rattle.promises.specs.Rig.{gapNext, replyNext, nextOf, markedOf, monitorOf, standing, linesAutomaton, linesStart, rigAutomaton, start, balNext}
-use Rattle.promises.specs.Examples.{A, B, A-from-1, A-exchanged, most-events, most-joint-states, Words, closes, one-unmarked, both-marked, may-close, gap-alone, reply-alone, unanswerable, every-kind, widest-kinds, gap-without-n, field-after-n, reply-without-hi, field-after-hi, gap-first, gap-1, gap-33, gap-no-event, reply-to-no-event, reply-no-event, reply-lo-0, reply-hi-32, reply-lo-over-hi, reply-equal, equal-and-too-many, equal-and-fifth, gap-too-many, go-after-gap, stop-after-reply, stop-without-state, field-after-stop, stop-before-mon, stop-S, stop-again, start-S, field-after-start, empty-start, A-ordered, ord-too-short, ord-not-below, ord-twice, ord-third, ord-first, ord-no-number, ord-alone, mon-without-S, last-line-unended, leading-zero, six-digits, empty-field, seventeen-events, five-digits, fifth-monitor, go-again-out-of-range, go-again, nothing, rig-alone, rig-later, go-before-mon, too-many-joint-states, meters, meters-table, no-difference, widest-band, bal-without-hi, field-after-band, amp-without-step, minus-zero, two-signs, plus-sign, sign-and-zero, lone-sign, negative-event, negative-n, six-signed-digits, five-signed-digits, lo-16, lo-1, hi-16, hi-below-0, step-16, step-below, step-of-no-event, given-twice, given-zero-twice, amp-first, amp-after-mon, go-after-bal, stop-after-bal, bal-too-many}
+use Rattle.promises.specs.Reading.{leadsTo, marks, opensBy, testBeginning, ofLatest, testContinuing, tests, lineCase, readingFrom, reading}
+use Rattle.promises.specs.Rig.{gapNext, replyNext, nextOf, markedOf, monitorOf, standing, linesAutomaton, linesStart, rigAutomaton, start, balNext, dayNext}
+use Rattle.promises.specs.Examples.{A, B, A-from-1, A-exchanged, most-events, most-joint-states, Words, closes, one-unmarked, both-marked, may-close, gap-alone, reply-alone, unanswerable, four-kinds, widest-kinds, gap-without-n, field-after-n, reply-without-hi, field-after-hi, gap-first, gap-1, gap-33, gap-no-event, reply-to-no-event, reply-no-event, reply-lo-0, reply-hi-32, reply-lo-over-hi, reply-equal, equal-and-too-many, equal-and-fifth, gap-too-many, go-after-gap, stop-after-reply, stop-without-state, field-after-stop, stop-before-mon, stop-S, stop-again, start-S, field-after-start, empty-start, A-ordered, ord-too-short, ord-not-below, ord-twice, ord-third, ord-first, ord-no-number, ord-alone, mon-without-S, last-line-unended, leading-zero, six-digits, empty-field, seventeen-events, five-digits, fifth-monitor, go-again-out-of-range, go-again, nothing, rig-alone, rig-later, go-before-mon, too-many-joint-states, meters, meters-table, no-difference, widest-band, bal-without-hi, field-after-band, amp-without-step, minus-zero, two-signs, plus-sign, sign-and-zero, lone-sign, negative-event, negative-n, six-signed-digits, five-signed-digits, lo-16, lo-1, hi-16, hi-below-0, step-16, step-below, step-of-no-event, given-twice, given-zero-twice, amp-first, amp-after-mon, go-after-bal, stop-after-bal, bal-too-many, depot-hours, hours-table, always-open, longest-day, day-without-T, field-after-T, open-without-b, field-after-b, negative-step, day-1, day-33, fifth-day, b-over-T, hours-of-no-event, a-is-b, a-over-b, open-first, open-after-mon, open-after-bal, go-after-day, stop-after-day, amp-after-day, day-too-many}
 use Rattle.promises.proofs.Reading.{reading-refuses, reading-serves}
 use Rattle.promises.proofs.Meaning.{text-belongs}
 use Rattle.promises.proofs.Answers.{belongs-listed}
@@ -39,7 +39,7 @@ record Readings : Type 0 where
   of-gap-alone : reading gap-alone ≡ served []
   of-reply-alone : reading reply-alone ≡ served []
   of-unanswerable : reading unanswerable ≡ served []
-  of-every-kind : reading every-kind ≡ served []
+  of-four-kinds : reading four-kinds ≡ served []
   of-widest-kinds : reading widest-kinds ≡ served []
   of-meters : reading meters ≡ served []
   of-meters-table : reading meters-table ≡ served []
@@ -71,6 +71,29 @@ record Readings : Type 0 where
   of-go-after-bal : reading go-after-bal ≡ refused 5 3
   of-stop-after-bal : reading stop-after-bal ≡ refused 5 3
   of-bal-too-many : reading bal-too-many ≡ refused 6 4
+  of-depot-hours : reading depot-hours ≡ served []
+  of-hours-table : reading hours-table ≡ served []
+  of-always-open : reading always-open ≡ served []
+  of-longest-day : reading longest-day ≡ served []
+  of-day-without-T : reading day-without-T ≡ refused 2 2
+  of-field-after-T : reading field-after-T ≡ refused 2 2
+  of-open-without-b : reading open-without-b ≡ refused 2 3
+  of-field-after-b : reading field-after-b ≡ refused 2 3
+  of-negative-step : reading negative-step ≡ refused 2 3
+  of-day-1 : reading day-1 ≡ refused 3 2
+  of-day-33 : reading day-33 ≡ refused 3 2
+  of-fifth-day : reading fifth-day ≡ refused 3 6
+  of-b-over-T : reading b-over-T ≡ refused 3 3
+  of-hours-of-no-event : reading hours-of-no-event ≡ refused 3 3
+  of-a-is-b : reading a-is-b ≡ refused 18 3
+  of-a-over-b : reading a-over-b ≡ refused 18 3
+  of-open-first : reading open-first ≡ refused 5 2
+  of-open-after-mon : reading open-after-mon ≡ refused 5 4
+  of-open-after-bal : reading open-after-bal ≡ refused 5 3
+  of-go-after-day : reading go-after-day ≡ refused 5 3
+  of-stop-after-day : reading stop-after-day ≡ refused 5 3
+  of-amp-after-day : reading amp-after-day ≡ refused 5 3
+  of-day-too-many : reading day-too-many ≡ refused 6 4
   of-gap-without-n : reading gap-without-n ≡ refused 2 2
   of-field-after-n : reading field-after-n ≡ refused 2 2
   of-reply-without-hi : reading reply-without-hi ≡ refused 2 2
@@ -124,7 +147,7 @@ record Readings : Type 0 where
   of-too-many-joint-states : reading too-many-joint-states ≡ refused 6 4
 
 readings : Readings
-unfolding reading readingFrom lineCase tests testBeginning testContinuing ofLatest firstOf leadsTo stepIn markedBy marks orElse decoded lines unended splitOn onto init lastOf decode fields form one two three four oneOrTwo anyNumber field endOr end number numbers ahead digitsValue signed minus plus oneSigned twoSigned thenSigned same monitors monitorsFrom extended addPart latest statesOf product eventsOf orderOf orderFrom reordered
+unfolding reading readingFrom lineCase tests testBeginning testContinuing ofLatest firstOf leadsTo stepIn marks orElse decoded lines unended splitOn onto init lastOf decode fields form one two three four oneOrTwo anyNumber field endOr end number numbers ahead digitsValue signed minus plus oneSigned twoSigned thenSigned same monitors monitorsFrom extended addPart latest statesOf product eventsOf orderOf orderFrom reordered
 readings = record {
   of-A = refl;
   of-B = refl;
@@ -138,7 +161,7 @@ readings = record {
   of-gap-alone = refl;
   of-reply-alone = refl;
   of-unanswerable = refl;
-  of-every-kind = refl;
+  of-four-kinds = refl;
   of-widest-kinds = refl;
   of-meters = refl;
   of-meters-table = refl;
@@ -170,6 +193,29 @@ readings = record {
   of-go-after-bal = refl;
   of-stop-after-bal = refl;
   of-bal-too-many = refl;
+  of-depot-hours = refl;
+  of-hours-table = refl;
+  of-always-open = refl;
+  of-longest-day = refl;
+  of-day-without-T = refl;
+  of-field-after-T = refl;
+  of-open-without-b = refl;
+  of-field-after-b = refl;
+  of-negative-step = refl;
+  of-day-1 = refl;
+  of-day-33 = refl;
+  of-fifth-day = refl;
+  of-b-over-T = refl;
+  of-hours-of-no-event = refl;
+  of-a-is-b = refl;
+  of-a-over-b = refl;
+  of-open-first = refl;
+  of-open-after-mon = refl;
+  of-open-after-bal = refl;
+  of-go-after-day = refl;
+  of-stop-after-day = refl;
+  of-amp-after-day = refl;
+  of-day-too-many = refl;
   of-gap-without-n = refl;
   of-field-after-n = refl;
   of-reply-without-hi = refl;
@@ -237,7 +283,7 @@ record Scenarios-A : Type 0 where
   leaves-at-once : firstViolation (rigAutomaton A-from-1) (start A-from-1) (1 ∷ []) ≡ 0
 
 scenarios-A : Scenarios-A
-unfolding decoded lines unended splitOn onto init lastOf decode fields form one two three four oneOrTwo anyNumber field endOr end number numbers ahead digitsValue signed minus plus oneSigned twoSigned thenSigned same monitors monitorsFrom extended addPart latest statesOf product eventsOf orderOf orderFrom reordered startOf firstOf leadsTo stepIn markedBy marks orElse gapNext replyNext balNext stepOf nextOf markedOf bounded monitorOf standing linesAutomaton linesStart rigAutomaton start range both join idle joint sizes jointState keep prunedSet size passesFrom passes live N choose unrank firstViolation
+unfolding decoded lines unended splitOn onto init lastOf decode fields form one two three four oneOrTwo anyNumber field endOr end number numbers ahead digitsValue signed minus plus oneSigned twoSigned thenSigned same monitors monitorsFrom extended addPart latest statesOf product eventsOf orderOf orderFrom reordered startOf firstOf leadsTo stepIn marks orElse gapNext replyNext balNext stepOf opensBy dayNext nextOf markedOf bounded monitorOf standing linesAutomaton linesStart rigAutomaton start range both join idle joint sizes jointState keep prunedSet size passesFrom passes live N choose unrank firstViolation
 scenarios-A = record { four-below = omega arith; four-is = refl; leaves-at = refl; zero-below = omega arith; zero-is = refl; leaves-at-once = refl }
 
 -- where the depot closes, and where it may: index 0 at horizon 1, and where what follows it leaves the live states; two monitors, with both states marked and with one
@@ -253,7 +299,7 @@ record Closing : Type 0 where
   one-leaves : firstViolation (rigAutomaton one-unmarked) (start one-unmarked) (0 ∷ []) ≡ 0
 
 closing : Closing
-unfolding decoded lines unended splitOn onto init lastOf decode fields form one two three four oneOrTwo anyNumber field endOr end number numbers ahead digitsValue signed minus plus oneSigned twoSigned thenSigned same monitors monitorsFrom extended addPart latest statesOf product eventsOf orderOf orderFrom reordered startOf firstOf leadsTo stepIn markedBy marks orElse gapNext replyNext balNext stepOf nextOf markedOf bounded monitorOf standing linesAutomaton linesStart rigAutomaton start range both join idle joint sizes jointState keep prunedSet size passesFrom passes live N choose unrank firstViolation
+unfolding decoded lines unended splitOn onto init lastOf decode fields form one two three four oneOrTwo anyNumber field endOr end number numbers ahead digitsValue signed minus plus oneSigned twoSigned thenSigned same monitors monitorsFrom extended addPart latest statesOf product eventsOf orderOf orderFrom reordered startOf firstOf leadsTo stepIn marks orElse gapNext replyNext balNext stepOf opensBy dayNext nextOf markedOf bounded monitorOf standing linesAutomaton linesStart rigAutomaton start range both join idle joint sizes jointState keep prunedSet size passesFrom passes live N choose unrank firstViolation
 closing = record { only-below = omega arith; only-is = refl; none-then = refl; last-below = omega arith; last-is = refl; leaves-then = refl; both-below = omega arith; both-is = refl; one-leaves = refl }
 
 -- a difference that stays in the band, and where it leaves it
@@ -264,8 +310,19 @@ record Balancing : Type 0 where
   above-leaves : firstViolation (rigAutomaton meters) (start meters) (0 ∷ 0 ∷ []) ≡ 1
 
 balancing : Balancing
-unfolding decoded lines unended splitOn onto init lastOf decode fields form one two three four oneOrTwo anyNumber field endOr end number numbers ahead digitsValue signed minus plus oneSigned twoSigned thenSigned same monitors monitorsFrom extended addPart latest statesOf product eventsOf orderOf orderFrom reordered startOf firstOf leadsTo stepIn markedBy marks orElse gapNext replyNext balNext stepOf nextOf markedOf bounded monitorOf standing linesAutomaton linesStart rigAutomaton start range both join idle joint sizes jointState keep prunedSet size passesFrom passes live N choose unrank firstViolation
+unfolding decoded lines unended splitOn onto init lastOf decode fields form one two three four oneOrTwo anyNumber field endOr end number numbers ahead digitsValue signed minus plus oneSigned twoSigned thenSigned same monitors monitorsFrom extended addPart latest statesOf product eventsOf orderOf orderFrom reordered startOf firstOf leadsTo stepIn marks orElse gapNext replyNext balNext stepOf opensBy dayNext nextOf markedOf bounded monitorOf standing linesAutomaton linesStart rigAutomaton start range both join idle joint sizes jointState keep prunedSet size passesFrom passes live N choose unrank firstViolation
 balancing = record { inside-below = omega arith; inside-is = refl; below-leaves = refl; above-leaves = refl }
+
+-- an event inside its hours, and outside them on the first day and on the next
+record Opening : Type 0 where
+  inside-below : 1 < N (rigAutomaton depot-hours) 4 (start depot-hours)
+  inside-is : unrank (rigAutomaton depot-hours) 4 (start depot-hours) 0 ≡ 0 ∷ 1 ∷ 0 ∷ 0 ∷ []
+  closed-leaves : firstViolation (rigAutomaton depot-hours) (start depot-hours) (1 ∷ 0 ∷ []) ≡ 1
+  next-leaves : firstViolation (rigAutomaton depot-hours) (start depot-hours) (1 ∷ 1 ∷ 1 ∷ 1 ∷ 0 ∷ []) ≡ 4
+
+opening : Opening
+unfolding decoded lines unended splitOn onto init lastOf decode fields form one two three four oneOrTwo anyNumber field endOr end number numbers ahead digitsValue signed minus plus oneSigned twoSigned thenSigned same monitors monitorsFrom extended addPart latest statesOf product eventsOf orderOf orderFrom reordered startOf firstOf leadsTo stepIn marks orElse gapNext replyNext balNext stepOf opensBy dayNext nextOf markedOf bounded monitorOf standing linesAutomaton linesStart rigAutomaton start range both join idle joint sizes jointState keep prunedSet size passesFrom passes live N choose unrank firstViolation
+opening = record { inside-below = omega arith; inside-is = refl; closed-leaves = refl; next-leaves = refl }
 
 -- the reply to an event, in time, still due, before it and too late; an event that is barred; one that no reply can follow
 record Replying : Type 0 where
@@ -281,7 +338,7 @@ record Replying : Type 0 where
   unanswered-leaves : firstViolation (rigAutomaton unanswerable) (start unanswerable) (1 ∷ 0 ∷ []) ≡ 1
 
 replying : Replying
-unfolding decoded lines unended splitOn onto init lastOf decode fields form one two three four oneOrTwo anyNumber field endOr end number numbers ahead digitsValue signed minus plus oneSigned twoSigned thenSigned same monitors monitorsFrom extended addPart latest statesOf product eventsOf orderOf orderFrom reordered startOf firstOf leadsTo stepIn markedBy marks orElse gapNext replyNext balNext stepOf nextOf markedOf bounded monitorOf standing linesAutomaton linesStart rigAutomaton start range both join idle joint sizes jointState keep prunedSet size passesFrom passes live N choose unrank firstViolation
+unfolding decoded lines unended splitOn onto init lastOf decode fields form one two three four oneOrTwo anyNumber field endOr end number numbers ahead digitsValue signed minus plus oneSigned twoSigned thenSigned same monitors monitorsFrom extended addPart latest statesOf product eventsOf orderOf orderFrom reordered startOf firstOf leadsTo stepIn marks orElse gapNext replyNext balNext stepOf opensBy dayNext nextOf markedOf bounded monitorOf standing linesAutomaton linesStart rigAutomaton start range both join idle joint sizes jointState keep prunedSet size passesFrom passes live N choose unrank firstViolation
 replying = record {
   replied-below = omega arith;
   replied-is = refl;
@@ -340,12 +397,16 @@ words = record {
   readable-gap-alone = readable gap-alone (readings .of-gap-alone);
   readable-reply-alone = readable reply-alone (readings .of-reply-alone);
   readable-unanswerable = readable unanswerable (readings .of-unanswerable);
-  readable-every-kind = readable every-kind (readings .of-every-kind);
+  readable-four-kinds = readable four-kinds (readings .of-four-kinds);
   readable-widest-kinds = readable widest-kinds (readings .of-widest-kinds);
   readable-meters = readable meters (readings .of-meters);
   readable-meters-table = readable meters-table (readings .of-meters-table);
   readable-no-difference = readable no-difference (readings .of-no-difference);
   readable-widest-band = readable widest-band (readings .of-widest-band);
+  readable-depot-hours = readable depot-hours (readings .of-depot-hours);
+  readable-hours-table = readable hours-table (readings .of-hours-table);
+  readable-always-open = readable always-open (readings .of-always-open);
+  readable-longest-day = readable longest-day (readings .of-longest-day);
   readable-most-events = readable most-events (readings .of-most-events);
   readable-most-joint-states = readable most-joint-states (readings .of-most-joint-states);
   belongs = index-given A (readable A (readings .of-A)) 3 4 _ (scenarios-A .four-below) (scenarios-A .four-is);
@@ -369,6 +430,9 @@ words = record {
   not-belongs-unanswered = leaves unanswerable (readable unanswerable (readings .of-unanswerable)) (1 ∷ 0 ∷ []) (omega (arith, replying .unanswered-leaves));
   belongs-in-band = index-given meters (readable meters (readings .of-meters)) 2 2 _ (balancing .inside-below) (balancing .inside-is);
   not-belongs-below = leaves meters (readable meters (readings .of-meters)) (1 ∷ 1 ∷ []) (omega (arith, balancing .below-leaves));
+  belongs-in-hours = index-given depot-hours (readable depot-hours (readings .of-depot-hours)) 4 0 _ (omega (arith, opening .inside-below)) (opening .inside-is);
+  not-belongs-out-of-hours = leaves depot-hours (readable depot-hours (readings .of-depot-hours)) (1 ∷ 0 ∷ []) (omega (arith, opening .closed-leaves));
+  not-belongs-next-day = leaves depot-hours (readable depot-hours (readings .of-depot-hours)) (1 ∷ 1 ∷ 1 ∷ 1 ∷ 0 ∷ []) (omega (arith, opening .next-leaves));
   not-belongs-above = leaves meters (readable meters (readings .of-meters)) (0 ∷ 0 ∷ []) (omega (arith, balancing .above-leaves));
   fault-too-long = inl (omega (arith, length-replicate {A = ℕ} 65536 10), refl, refl);
   never-too-long = long-enough;
@@ -442,6 +506,25 @@ words = record {
   fault-go-after-bal = reading-refuses go-after-bal 5 3 .0 (readings .of-go-after-bal);
   fault-stop-after-bal = reading-refuses stop-after-bal 5 3 .0 (readings .of-stop-after-bal);
   fault-bal-too-many = reading-refuses bal-too-many 6 4 .0 (readings .of-bal-too-many);
+  fault-day-without-T = reading-refuses day-without-T 2 2 .0 (readings .of-day-without-T);
+  fault-field-after-T = reading-refuses field-after-T 2 2 .0 (readings .of-field-after-T);
+  fault-open-without-b = reading-refuses open-without-b 2 3 .0 (readings .of-open-without-b);
+  fault-field-after-b = reading-refuses field-after-b 2 3 .0 (readings .of-field-after-b);
+  fault-negative-step = reading-refuses negative-step 2 3 .0 (readings .of-negative-step);
+  fault-day-1 = reading-refuses day-1 3 2 .0 (readings .of-day-1);
+  fault-day-33 = reading-refuses day-33 3 2 .0 (readings .of-day-33);
+  fault-fifth-day = reading-refuses fifth-day 3 6 .0 (readings .of-fifth-day);
+  fault-b-over-T = reading-refuses b-over-T 3 3 .0 (readings .of-b-over-T);
+  fault-hours-of-no-event = reading-refuses hours-of-no-event 3 3 .0 (readings .of-hours-of-no-event);
+  fault-a-is-b = reading-refuses a-is-b 18 3 .0 (readings .of-a-is-b);
+  fault-a-over-b = reading-refuses a-over-b 18 3 .0 (readings .of-a-over-b);
+  fault-open-first = reading-refuses open-first 5 2 .0 (readings .of-open-first);
+  fault-open-after-mon = reading-refuses open-after-mon 5 4 .0 (readings .of-open-after-mon);
+  fault-open-after-bal = reading-refuses open-after-bal 5 3 .0 (readings .of-open-after-bal);
+  fault-go-after-day = reading-refuses go-after-day 5 3 .0 (readings .of-go-after-day);
+  fault-stop-after-day = reading-refuses stop-after-day 5 3 .0 (readings .of-stop-after-day);
+  fault-amp-after-day = reading-refuses amp-after-day 5 3 .0 (readings .of-amp-after-day);
+  fault-day-too-many = reading-refuses day-too-many 6 4 .0 (readings .of-day-too-many);
   fault-nothing = reading-refuses nothing 5 1 .0 (readings .of-nothing);
   fault-rig-alone = reading-refuses rig-alone 5 2 .0 (readings .of-rig-alone);
   fault-rig-later = reading-refuses rig-later 5 2 .0 (readings .of-rig-later);

@@ -1,13 +1,16 @@
 -- The theorems over the definitions of specs/.
+pub mod KindTests
 pub mod Lines
 pub mod Pieces
 pub mod Spelling
 pub mod Reading
+pub mod Continuing
 pub mod Agreeing
 pub mod Mon
 pub mod Gap
 pub mod Reply
 pub mod Bal
+pub mod Day
 pub mod Meaning
 pub mod Order
 pub mod Checks
@@ -21,6 +24,7 @@ pub mod Ordering
 pub mod Stopping
 pub mod Sentences
 pub mod Differences
+pub mod Hours
 pub mod Refusals
 pub mod Buffers
 pub mod Shapes

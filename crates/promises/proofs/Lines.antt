@@ -2,12 +2,13 @@
 -- for a state and an event, at most 1,024 joint states, every event once in their order.
 -- Why: each sound line keeps it so, whatever sound lines stand before it.
 --   Ranged E k         == the numbers of the kind k are in their ranges, in a rig with E events, and its a and b differ
---   PartRanged E k p   == so are those of the line p of a monitor of the kind k, in a rig with E events
+--   PartRanged E k p   == so are those of the line p of a monitor of the kind k, which is the kind that has such lines
 --   Kept E m           == all lines of the monitor m are in range, and no move and no step is given twice
 --   Formed ls          == one `rig` line first, at most four monitors that are kept, at most 1,024 joint states, every event once in their order
 -- Assumes nothing.
 use mathlib.Core.Path.{_≡_, refl, sym, ap, _∙_, subst}
 use mathlib.Core.Logic.{_⊎_, inl, inr, _≢_, ⊎-elim}
+use mathlib.Core.Bool.{Bool}
 use mathlib.Core.List.{List, [], _∷_, _++_, append-nil, append-assoc}
 use mathlib.Core.List.{List·Memᴰ as In, List·Memᴰ·head as here, List·Memᴰ·tail as there, List·Memᴰ·append-cases as in-append, List·Memᴰ·not-nil, List·Memᴰ·eq-of-singleton}
 use mathlib.Core.Option.{some}
@@ -23,7 +24,9 @@ use Rattle.lists.proofs.Tests.{split, ℕ-trichotomy}
 use Rattle.lists.proofs.Integers.{not-belowℤ, more-le, more-back, more-more, leℤ-trans, more-zero}
 use Rattle.lists.proofs.Distinct.{once-distinct}
 use Rattle.lists.proofs.Permutations.{range-permutation, full-permutation}
-use Rattle.promises.specs.Text.{Kind, mon, gap, reply, bal, Part, go, stop, amp, Line, rig, ord, begins, continues, other, Monitor, addPart, extended, monitorsFrom, monitors, statesOf, startOf, latest, product, eventsOf, reordered, orderFrom, orderOf, OutOfRange, Equal, beginning, OfLatest, continuing, Twice, cases, Case2, Case3, Case16, Case17, Case4, Case5, Case6, Sound, AllSound, Readable, decoded}
+use Rattle.lists.proofs.Tells.{Tells, tells-stable}
+use Rattle.promises.specs.Text.{Kind, mon, gap, reply, bal, day, Part, go, stop, amp, opens, Line, rig, ord, begins, continues, other, Monitor, addPart, extended, monitorsFrom, monitors, statesOf, startOf, latest, product, eventsOf, reordered, orderFrom, orderOf, OutOfRange, Equal, beginning, OfLatest, continuing, IsMon, IsBal, IsDay, Twice, cases, Case2, Case3, Case16, Case17, Case18, Case4, Case5, Case6, Sound, AllSound, Readable, decoded}
+use Rattle.promises.proofs.KindTests.{tells-mon, tells-bal, tells-day}
 
 -- ---- one line more
 
@@ -87,11 +90,13 @@ Ranged E (mon S a) = (1 ≤ S) × (S ≤ 32) × (a < S)
 Ranged E (gap e n) = (e < E) × (2 ≤ n) × (n ≤ 32)
 Ranged E (reply a b lo hi) = (a < E) × (b < E) × (1 ≤ lo) × (lo ≤ hi) × (hi ≤ 31) × (a ≢ b)
 Ranged E (bal lo hi) = (negℤ (pos 15) ≤ℤ lo) × (lo ≤ℤ pos 0) × (pos 0 ≤ℤ hi) × (hi ≤ℤ pos 15)
+Ranged E (day T) = (2 ≤ T) × (T ≤ 32)
 
 unfoldable pub PartRanged : ℕ → Kind → Part → Type 0
-PartRanged E k (go s e t) = (s < statesOf k) × (e < E) × (t < statesOf k)
-PartRanged E k (stop s) = s < statesOf k
-PartRanged E k (amp e d) = (e < E) × (negℤ (pos 15) ≤ℤ d) × (d ≤ℤ pos 15)
+PartRanged E k (go s e t) = IsMon k × (s < statesOf k) × (e < E) × (t < statesOf k)
+PartRanged E k (stop s) = IsMon k × (s < statesOf k)
+PartRanged E k (amp e d) = IsBal k × (e < E) × (negℤ (pos 15) ≤ℤ d) × (d ≤ℤ pos 15)
+PartRanged E k (opens e a b) = IsDay k × (e < E) × (a < b) × (b ≤ statesOf k)
 
 -- the lines ps have at most one f
 unfoldable pub Once : {A : Type 0} → (A → Part) → List Part → Type 0
@@ -150,6 +155,7 @@ start-below E (mon S a) r = omega arith
 start-below E (gap e n) r = omega arith
 start-below E (reply a b lo hi) r = omega arith
 start-below E (bal lo hi) (l, low, high, h) = omega (arith, zero-inside lo hi low high)
+start-below E (day T) r = omega arith
 
 pub few-states : (E : ℕ) (k : Kind) → Ranged E k → statesOf k ≤ 32
 unfolding Ranged statesOf
@@ -157,6 +163,7 @@ few-states E (mon S a) r = omega arith
 few-states E (gap e n) r = omega arith
 few-states E (reply a b lo hi) (x, y, one, le, h, ne) = omega arith
 few-states E (bal lo hi) (l, low, high, h) = omega (arith, band-few lo hi low high l h)
+few-states E (day T) r = omega arith
 
 -- ---- what a sound line says
 
@@ -181,6 +188,7 @@ in-range E (bal lo hi) r d = (
   not-belowℤ hi (pos 0) (λ h. r (inr (inl h))),
   not-belowℤ (pos 15) hi (λ h. r (inr (inr h))),
 )
+in-range E (day T) r d = (within 2 T (λ h. r (inl h)), within T 32 (λ h. r (inr h)))
 
 pub begun : (ls : List Line) (k : Kind) → Sound ls (begins k) → Ranged (eventsOf ls) k × (length (monitors ls) < 4) × (product (monitors ls) * statesOf k ≤ 1024)
 unfolding Case3 Case17 Case6 cases beginning
@@ -191,18 +199,34 @@ begun ls k s = (
 )
 
 module _ (ls : List Line) (m : Monitor) (q : latest (monitors ls) ≡ some m) where
+  -- the latest monitor is of the kind that has such lines
+  right-kind : {b : Bool} (R : Kind → Type 0) → Tells b (R (m .kind)) → ((OfLatest (λ m. R (m .kind)) (latest (monitors ls)) → ⊥) → ⊥) → R (m .kind)
+  unfolding OfLatest
+  right-kind R t placed = tells-stable t (λ n. placed (λ r. n (rw q at r)))
+
   continued : (p : Part) → Sound ls (continues p) → PartRanged (eventsOf ls) (m .kind) p
-  unfolding Case3 cases continuing OfLatest PartRanged
+  unfolding Case5 Case3 Case18 cases continuing OfLatest PartRanged
   continued (go s e t) h = (
+    right-kind IsMon (tells-mon (m .kind)) (h .placed),
     within (suc s) (statesOf (m .kind)) (λ l. h .ranged (rw q (inl (omega arith)))),
     within (suc e) (eventsOf ls) (λ l. h .ranged (rw q (inr (inl (omega arith))))),
     within (suc t) (statesOf (m .kind)) (λ l. h .ranged (rw q (inr (inr (omega arith))))),
   )
-  continued (stop s) h = within (suc s) (statesOf (m .kind)) (λ l. h .ranged (rw q (let k : statesOf (m .kind) ≤ s = omega arith in k)))
+  continued (stop s) h = (
+    right-kind IsMon (tells-mon (m .kind)) (h .placed),
+    within (suc s) (statesOf (m .kind)) (λ l. h .ranged (rw q (let k : statesOf (m .kind) ≤ s = omega arith in k))),
+  )
   continued (amp e d) h = (
+    right-kind IsBal (tells-bal (m .kind)) (h .placed),
     within (suc e) (eventsOf ls) (λ l. h .ranged (rw q (inl (omega arith)))),
     not-belowℤ d (negℤ (pos 15)) (λ l. h .ranged (rw q (inr (inl l)))),
     not-belowℤ (pos 15) d (λ l. h .ranged (rw q (inr (inr l)))),
+  )
+  continued (opens e a b) h = (
+    right-kind IsDay (tells-day (m .kind)) (h .placed),
+    within (suc e) (eventsOf ls) (λ l. h .ranged (rw q (inl (omega arith)))),
+    within (suc a) b (λ l. h .nonempty (refl, omega arith)),
+    within b (statesOf (m .kind)) (λ l. h .ranged (rw q (inr l))),
   )
 
   new-move : (s e t : ℕ) → Sound ls (continues (go s e t)) → (u : ℕ) → In (go s e u) (m .parts) → ⊥
@@ -324,6 +348,7 @@ first-line (begins k) s = absurd (s .placed refl)
 first-line (continues (go a b c)) s = absurd (s .placed (λ h. h))
 first-line (continues (stop a)) s = absurd (s .placed (λ h. h))
 first-line (continues (amp a d)) s = absurd (s .placed (λ h. h))
+first-line (continues (opens a b c)) s = absurd (s .placed (λ h. h))
 first-line other s = absurd (s .formed tt)
 
 later-line : (l : Line) (ls : List Line) (k : Line) → Formed (l ∷ ls) → Sound (l ∷ ls) k → Formed ((l ∷ ls) ++ (k ∷ []))

@@ -16,7 +16,7 @@ use Rattle.automaton.specs.Automaton.{bounded, Over, walk}
 use Rattle.automaton.specs.Joint.{At, idle, sizes, Fit, EachAdmits, EachStops}
 use Rattle.automaton.proofs.Joint.{joint-admits, joint-states, joint-events, joint-state, joint-stops, joint-never}
 use Rattle.automaton.proofs.Sentences.{Steps, says-admits}
-use Rattle.promises.specs.Text.{Kind, mon, gap, reply, bal, Part, stop, Monitor, monitors, statesOf, startOf, product, eventsOf, orderOf, decoded, Readable, jointStates}
+use Rattle.promises.specs.Text.{Kind, mon, gap, reply, bal, day, Part, stop, Monitor, monitors, statesOf, startOf, product, eventsOf, orderOf, decoded, Readable, jointStates}
 use Rattle.promises.specs.Meaning.{Leads, Ends, Admits, MayStop, BelowE, AllAdmit, AllMayStop, CarriedOn, Belongs, Earlier}
 use Rattle.promises.specs.Rig.{markedOf, monitorOf, standing, linesAutomaton, linesStart, rigAutomaton, start}
 use Rattle.promises.specs.Demand2.{Endless}
@@ -27,6 +27,7 @@ use Rattle.promises.proofs.Mon.{mon-agrees}
 use Rattle.promises.proofs.Gap.{gap-agrees}
 use Rattle.promises.proofs.Reply.{marked, reply-agrees}
 use Rattle.promises.proofs.Bal.{bal-agrees}
+use Rattle.promises.proofs.Day.{day-agrees}
 
 -- ---- one monitor
 
@@ -37,6 +38,7 @@ kind-agrees E es (mon S a) ps k = mon-agrees E S a ps k es
 kind-agrees E es (gap e n) ps k = gap-agrees e n es ps
 kind-agrees E es (reply a b lo hi) ps k = let (x, y, one, le, h, ne) = k .ranged in reply-agrees a b lo hi one le ne es ps
 kind-agrees E es (bal lo hi) ps k = let (l, low, high, h) = k .ranged in bal-agrees es lo hi ps (band lo hi low high)
+kind-agrees E es (day T) ps k = day-agrees es T ps
 
 pub monitor-agrees : (E : ℕ) (es : List ℕ) (m : Monitor) → Kept E m → Agrees es m
 monitor-agrees E es m k = kind-agrees E es (m .kind) (m .parts) k
@@ -44,10 +46,11 @@ monitor-agrees E es m k = kind-agrees E es (m .kind) (m .parts) k
 -- a monitor that may stop in none of its states has no marked one
 unmarked : (E : ℕ) (k : Kind) (ps : List Part) → Kept E (record { kind = k; parts = ps }) → ((s : ℕ) → s < statesOf k → Ends k ps s [] → ⊥) → (s : ℕ) → markedOf k ps s ≡ false
 unfolding markedOf Ranged PartRanged Ends Leads statesOf
-unmarked E (mon S a) ps k nowhere s = tells-false (tells-marked ps s) (λ i. nowhere s (k .parts-ranged (stop s) i) (s, refl, i))
+unmarked E (mon S a) ps k nowhere s = tells-false (tells-marked ps s) (λ i. nowhere s (k .parts-ranged (stop s) i .1) (s, refl, i))
 unmarked E (gap e n) ps k nowhere s = absurd (nowhere 0 (omega (arith, k .ranged .1)) tt)
 unmarked E (reply a b lo hi) ps k nowhere s = absurd (nowhere 0 (omega arith) (marked a b lo hi ps 0 .1 refl))
 unmarked E (bal lo hi) ps k nowhere s = absurd (nowhere 0 (omega arith) tt)
+unmarked E (day T) ps k nowhere s = absurd (nowhere 0 (omega (arith, k .ranged .0)) tt)
 
 -- what holds of the first monitor and of the others
 pub all : {m : Monitor} {ms : List Monitor} (P : Monitor → Type 0) → P m → ((k : Monitor) → In k ms → P k) → (k : Monitor) → In k (m ∷ ms) → P k

@@ -29,7 +29,7 @@ module _ (E S a : ℕ) (ps : List Part) (k : Kept E (record { kind = mon S a; pa
 
   target-state : (s e t : ℕ) → In (go s e t) ps → t < S
   unfolding PartRanged statesOf
-  target-state s e t i = k .parts-ranged (go s e t) i .2
+  target-state s e t i = k .parts-ranged (go s e t) i .3
 
   step : (Q : ℕ → Type 0) (s e : ℕ) (w : List ℕ) → LeadsTo Q s (e ∷ w) ↔ ((Option·getD (moveBy ps s e) S < S) × LeadsTo Q (Option·getD (moveBy ps s e) S) w)
   unfolding Leads

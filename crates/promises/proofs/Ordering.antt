@@ -6,7 +6,7 @@ use mathlib.Core.List.{List, [], _∷_, _++_, List·Memᴰ as In}
 use Prim.Native.Nat.{ℕ, suc, _≤_, _<_}
 use native.Mathlib.Omega.{arith}
 use lib.ListN.{length}
-use Rattle.promises.specs.Text.{Line, rig, ord, extended, monitorsFrom, monitors, eventsOf, decoded, Twice, cases, Case1, Case2, Case5, Case3, Case16, Case17, Case4, Case6, AllSound, LineFault, Fault}
+use Rattle.promises.specs.Text.{Line, rig, ord, extended, monitorsFrom, monitors, eventsOf, decoded, Twice, cases, Case1, Case2, Case5, Case3, Case16, Case17, Case18, Case4, Case6, AllSound, LineFault, Fault}
 use Rattle.promises.specs.Meaning.{BelowE, AllAdmit, AllMayStop, Belongs}
 use Rattle.promises.specs.Ordering.{Second, Ordering}
 use Rattle.promises.proofs.Reading.{bad-line}
@@ -18,8 +18,8 @@ use Rattle.promises.proofs.Answers.{same-count}
 
 module _ (t : List ℕ) (E : ℕ) (es : List ℕ) (z : Second t E es) where
   first-sound : AllSound [] (rig E ∷ [])
-  unfolding AllSound Case2 Case5 Case3 Case16 Case17 Case4 Case6 cases
-  first-sound = (record { formed = λ h. h; placed = λ h. h refl; ranged = outside; named-once = λ h. h; unequal = λ h. h; new = λ h. h; fits = λ h. h }, tt)
+  unfolding AllSound Case2 Case5 Case3 Case16 Case17 Case18 Case4 Case6 cases
+  first-sound = (record { formed = λ h. h; placed = λ h. h refl; ranged = outside; named-once = λ h. h; unequal = λ h. h; nonempty = λ h. h; new = λ h. h; fits = λ h. h }, tt)
     where
       outside : (E < 1) ⊎ (16 < E) → ⊥
       outside (inl h) = omega (arith, z .some-event)

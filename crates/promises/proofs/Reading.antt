@@ -2,8 +2,8 @@
 -- Why: each test tells its case, line by line; after sound lines the search stands where the first bad line is. Assumes nothing.
 use mathlib.Core.Path.{_≡_, refl, sym, ap, _∙_, subst}
 use mathlib.Core.Logic.{_⊎_, inl, inr, _≢_, _↔_, ⊎-elim}
-use mathlib.Core.Bool.{Bool, not, _&&_}
-use mathlib.Core.List.{List, [], _∷_, _++_, append-nil, append-assoc, List·Memᴰ as In, List·Memᴰ·head as here, List·Memᴰ·tail as there, List·Memᴰ·not-nil}
+use mathlib.Core.Bool.{Bool, true, not, _&&_}
+use mathlib.Core.List.{List, [], _∷_, _++_, append-nil, append-assoc, List·Memᴰ as In}
 use mathlib.Core.Option.{Option, none, some, Option·none-ne-some}
 use Prim.Native.Nat.{ℕ, zero, suc, _*_, _≤_, _<_}
 use native.Mathlib.Omega.{arith}
@@ -11,17 +11,17 @@ use lib.IntN.{ℤ, pos, negℤ}
 use lib.ListN.{length, getD}
 use lib.Dec.{ltb, leb, eqb}
 use borrow.Author.Tests.{eq-eqb, eqb-true}
-use Rattle.lists.specs.Lists.{pick}
+use Rattle.lists.specs.Lists.{pick, any}
 use Rattle.lists.proofs.Tests.{contra, case}
 use Rattle.lists.proofs.Members.{getD-in}
 use Rattle.lists.proofs.Distinct.{in-place}
-use Rattle.lists.proofs.Tells.{Tells, tells-true, tells-false, tells-lt, tells-le, tells-eq, tells-never, tells-always, tells-not, tells-or, tells-and, tells-any}
+use Rattle.lists.proofs.Tells.{Tells, tells-true, tells-false, tells-holds, tells-lt, tells-le, tells-eq, tells-never, tells-always, tells-not, tells-or, tells-and, tells-any}
 use Rattle.lists.proofs.Firsts.{first-in, in-first, tells-first}
-use Rattle.lists.proofs.Integers.{tells-ltℤ}
 use Rattle.promises.specs.Answer.{served, refused, Served, unless}
-use Rattle.promises.specs.Text.{Kind, mon, gap, reply, bal, Part, go, stop, amp, Line, rig, ord, begins, continues, other, Monitor, monitors, latest, statesOf, eventsOf, product, decoded, unended, Outside, Outsideℤ, OutOfRange, Equal, Cases, beginning, OfLatest, continuing, IsMon, IsBal, Twice, cases, Case1, Case2, Case3, Case16, Case17, Case4, Case5, Case6, Sound, AllSound, Readable, first, LineFault, Fault}
+use Rattle.promises.specs.Text.{Kind, Part, go, stop, amp, opens, Line, rig, ord, begins, continues, other, Monitor, monitors, latest, statesOf, eventsOf, product, decoded, unended, Cases, beginning, OfLatest, continuing, Twice, cases, Case1, Case2, Case3, Case16, Case17, Case18, Case4, Case5, Case6, Sound, AllSound, Readable, first, LineFault, Fault}
 use Rattle.promises.specs.Meaning.{stepIn}
-use Rattle.promises.specs.Reading.{empty, leadsTo, moveBy, marks, markedBy, Tests, outside, outsideℤ, isMon, isBal, outOfRange, equal, testBeginning, ofLatest, testContinuing, repeats, tests, lineCase, readingFrom, reading}
+use Rattle.promises.specs.Reading.{empty, leadsTo, moveBy, marks, markedBy, opensBy, Tests, testBeginning, ofLatest, testContinuing, repeats, tests, lineCase, readingFrom, reading}
+use Rattle.promises.proofs.KindTests.{tells-outside, tells-outsideℤ, tells-mon, tells-bal, tells-day, tells-out, tells-equal}
 use Rattle.promises.proofs.Lines.{not-empty}
 
 -- ---- each test tells its case
@@ -29,12 +29,6 @@ use Rattle.promises.proofs.Lines.{not-empty}
 pub tells-empty : {A : Type 0} (l : List A) → Tells (empty l) (l ≡ [])
 tells-empty [] = record { yes = λ q. refl; no = λ q h. contra refl q }
 tells-empty (x ∷ l) = record { yes = λ q. contra q refl; no = λ q. not-empty x l }
-
-tells-outside : (lo hi n : ℕ) → Tells (outside lo hi n) (Outside lo hi n)
-tells-outside lo hi n = tells-or (tells-lt n lo) (tells-lt hi n)
-
-pub tells-outsideℤ : (lo hi x : ℤ) → Tells (outsideℤ lo hi x) (Outsideℤ lo hi x)
-tells-outsideℤ lo hi x = tells-or (tells-ltℤ x lo) (tells-ltℤ hi x)
 
 -- a line that moves from s on e to u is `go` s e u
 leads-is : (s e : ℕ) (p : Part) (u : ℕ) → (leadsTo s e p ≡ some u) ↔ (p ≡ go s e u)
@@ -55,6 +49,7 @@ leads-is s e (go a b c) u = (to, from)
         rw (x, y, z, eq-eqb s s refl, eq-eqb e e refl)
 leads-is s e (stop a) u = (λ q. absurd (Option·none-ne-some u q), λ q. let z : _≡_ {A = ℕ} 0 1 = cc in absurd (omega arith))
 leads-is s e (amp a d) u = (λ q. absurd (Option·none-ne-some u q), λ q. let z : _≡_ {A = ℕ} 0 1 = cc in absurd (omega arith))
+leads-is s e (opens a b c) u = (λ q. absurd (Option·none-ne-some u q), λ q. let z : _≡_ {A = ℕ} 0 1 = cc in absurd (omega arith))
 
 -- the lines move where one of them does
 pub moved : (ps : List Part) (s e u : ℕ) → moveBy ps s e ≡ some u → In (go s e u) ps
@@ -78,22 +73,41 @@ step-is e (amp f c) d = (to, from)
         let x : f ≡ e = cc in
         let y : c ≡ d = cc in
         rw (x, y, eq-eqb e e refl)
+step-is e (opens a b c) d = (λ q. absurd (Option·none-ne-some d q), λ q. let z : _≡_ {A = ℕ} 0 1 = cc in absurd (omega arith))
 
 -- a line that marks s is `stop` s
-marks-is : (s : ℕ) (p : Part) → Tells (marks s p) (stop s ≡ p)
+marks-is : (s : ℕ) (p : Part) → Tells (marks s p) (p ≡ stop s)
 unfolding marks
 marks-is s (go a b c) = record { yes = λ q. contra q refl; no = λ q r. let z : _≡_ {A = ℕ} 0 1 = cc in omega arith }
+marks-is s (stop a) = record { yes = λ q. ap stop (tells-eq a s .yes q); no = λ q r. tells-eq a s .no q (let z : a ≡ s = cc in z) }
 marks-is s (amp a d) = record { yes = λ q. contra q refl; no = λ q r. let z : _≡_ {A = ℕ} 0 1 = cc in omega arith }
-marks-is s (stop a) = record { yes = λ q. ap stop (sym (tells-eq a s .yes q)); no = λ q r. tells-eq a s .no q (let z : a ≡ s = cc in z) }
+marks-is s (opens a b c) = record { yes = λ q. contra q refl; no = λ q r. let z : _≡_ {A = ℕ} 0 1 = cc in omega arith }
 
 pub tells-marked : (ps : List Part) (s : ℕ) → Tells (markedBy ps s) (In (stop s) ps)
-unfolding markedBy
-tells-marked [] s = record { yes = λ q. contra q refl; no = λ q i. List·Memᴰ·not-nil i }
-tells-marked (p ∷ ps) s = let t = tells-or (marks-is s p) (tells-marked ps s) in record { yes = λ q. ⊎-elim (λ r. here r) (λ i. there i) (t .yes q); no = λ q i. t .no q (where-in i) }
-  where
-    where-in : In (stop s) (p ∷ ps) → (stop s ≡ p) ⊎ In (stop s) ps
-    where-in (here r) = inl r
-    where-in (there i) = inr i
+tells-marked ps s =
+    let t = tells-any (marks s) (λ p. p ≡ stop s) (marks-is s) ps in
+    record { yes = λ q. let (p, i, r) = t .yes q in subst (λ p. In p ps) r i; no = λ q i. t .no q (stop s, i, refl) }
+
+-- a line that gives event e hours is `open` e a b
+opens-is : (f : ℕ → ℕ → Bool) (e : ℕ) (p : Part) → Tells (opensBy f e p) ((a : ℕ) × (b : ℕ) × (p ≡ opens e a b) × (f a b ≡ true))
+unfolding opensBy
+opens-is f e (go a b c) = record { yes = λ q. contra q refl; no = λ q (x, y, r, t). let z : _≡_ {A = ℕ} 0 1 = cc in omega arith }
+opens-is f e (stop a) = record { yes = λ q. contra q refl; no = λ q (x, y, r, t). let z : _≡_ {A = ℕ} 0 1 = cc in omega arith }
+opens-is f e (amp a d) = record { yes = λ q. contra q refl; no = λ q (x, y, r, t). let z : _≡_ {A = ℕ} 0 1 = cc in omega arith }
+opens-is f e (opens u a b) =
+    let t = tells-and (tells-eq u e) (tells-holds (f a b)) in
+    record {
+      yes = λ q. let (i, h) = t .yes q in (a, b, ap (λ u. opens u a b) i, h);
+      no = λ q (x, y, r, h). let i : u ≡ e = cc in let j : x ≡ a = cc in let k : y ≡ b = cc in t .no q (i, rw (j, k) at h);
+    }
+
+pub tells-opens : (f : ℕ → ℕ → Bool) (ps : List Part) (e : ℕ) → Tells (any (opensBy f e) ps) ((a : ℕ) × (b : ℕ) × In (opens e a b) ps × (f a b ≡ true))
+tells-opens f ps e =
+    let t = tells-any (opensBy f e) (λ p. (a : ℕ) × (b : ℕ) × (p ≡ opens e a b) × (f a b ≡ true)) (opens-is f e) ps in
+    record {
+      yes = λ q. let (p, i, (a, b, r, h)) = t .yes q in (a, b, subst (λ p. In p ps) r i, h);
+      no = λ q (a, b, i, h). t .no q (opens e a b, i, (a, b, refl, h));
+    }
 
 tells-latest : (f : Monitor → Bool) (P : Monitor → Type 0) → ((m : Monitor) → Tells (f m) (P m)) → (m : Option Monitor) → Tells (ofLatest f m) (OfLatest P m)
 unfolding ofLatest OfLatest
@@ -128,34 +142,6 @@ record Told (t : Tests) (c : Cases) : Type 0 where
   again : Tells (t .again) (c .again)
   too-many : Tells (t .too-many) (c .too-many)
 
-tells-mon : (k : Kind) → Tells (isMon k) (IsMon k)
-unfolding IsMon
-tells-mon (mon S a) = record { yes = λ q. (S, a, refl); no = λ q. contra refl q }
-tells-mon (gap e n) = record { yes = λ q. contra q refl; no = λ q (S, a, r). let z : _≡_ {A = ℕ} 0 1 = cc in omega arith }
-tells-mon (reply a b lo hi) = record { yes = λ q. contra q refl; no = λ q (S, x, r). let z : _≡_ {A = ℕ} 0 1 = cc in omega arith }
-tells-mon (bal lo hi) = record { yes = λ q. contra q refl; no = λ q (S, x, r). let z : _≡_ {A = ℕ} 0 1 = cc in omega arith }
-
-tells-bal : (k : Kind) → Tells (isBal k) (IsBal k)
-unfolding IsBal
-tells-bal (mon S a) = record { yes = λ q. contra q refl; no = λ q (lo, hi, r). let z : _≡_ {A = ℕ} 0 1 = cc in omega arith }
-tells-bal (gap e n) = record { yes = λ q. contra q refl; no = λ q (lo, hi, r). let z : _≡_ {A = ℕ} 0 1 = cc in omega arith }
-tells-bal (reply a b l h) = record { yes = λ q. contra q refl; no = λ q (lo, hi, r). let z : _≡_ {A = ℕ} 0 1 = cc in omega arith }
-tells-bal (bal lo hi) = record { yes = λ q. (lo, hi, refl); no = λ q. contra refl q }
-
-pub tells-out : (E : ℕ) (k : Kind) → Tells (outOfRange E k) (OutOfRange E k)
-unfolding OutOfRange
-tells-out E (mon S a) = tells-or (tells-outside 1 32 S) (tells-le S a)
-tells-out E (gap e n) = tells-or (tells-le E e) (tells-outside 2 32 n)
-tells-out E (reply a b lo hi) = tells-or (tells-le E a) (tells-or (tells-le E b) (tells-or (tells-lt lo 1) (tells-or (tells-lt hi lo) (tells-lt 31 hi))))
-tells-out E (bal lo hi) = tells-or (tells-outsideℤ (negℤ (pos 15)) (pos 0) lo) (tells-outsideℤ (pos 0) (pos 15) hi)
-
-pub tells-equal : (k : Kind) → Tells (equal k) (Equal k)
-unfolding Equal
-tells-equal (mon S a) = tells-never
-tells-equal (gap e n) = tells-never
-tells-equal (reply a b lo hi) = tells-eq a b
-tells-equal (bal lo hi) = tells-never
-
 told-beginning : (ls : List Line) (k : Kind) → Told (testBeginning ls k) (beginning ls k)
 unfolding testBeginning beginning
 told-beginning ls k = record {
@@ -167,14 +153,15 @@ told-beginning ls k = record {
   too-many = tells-lt 1024 (product (monitors ls) * statesOf k);
 }
 
-told-continuing : (ls : List Line) (r : Kind → Bool) (f g : Monitor → Bool) (R : Kind → Type 0) (P Q : Monitor → Type 0)
-    → ((k : Kind) → Tells (r k) (R k)) → ((m : Monitor) → Tells (f m) (P m)) → ((m : Monitor) → Tells (g m) (Q m)) → Told (testContinuing ls r f g) (continuing ls R P Q)
+told-continuing : (ls : List Line) (r : Kind → Bool) (f : Monitor → Bool) (c : ℕ → Bool) (g : Monitor → Bool) (R : Kind → Type 0) (P : Monitor → Type 0) (C : ℕ → Type 0) (Q : Monitor → Type 0)
+    → ((k : Kind) → Tells (r k) (R k)) → ((m : Monitor) → Tells (f m) (P m)) → ((n : ℕ) → Tells (c n) (C n)) → ((m : Monitor) → Tells (g m) (Q m))
+    → Told (testContinuing ls r f c g) (continuing ls R P C Q)
 unfolding testContinuing continuing
-told-continuing ls r f g R P Q right out again = record {
+told-continuing ls r f c g R P C Q right out clash again = record {
   misformed = tells-never;
   misplaced = tells-not (tells-latest (λ m. r (m .kind)) (λ m. R (m .kind)) (λ m. right (m .kind)) (latest (monitors ls)));
   out-of-range = tells-latest f P out (latest (monitors ls));
-  clash = λ n. tells-never;
+  clash = clash;
   again = tells-latest g Q again (latest (monitors ls));
   too-many = tells-never;
 }
@@ -200,21 +187,30 @@ told ls (ord es) = record {
 }
 told ls (begins k) = told-beginning ls k
 told ls (continues (go s e t)) =
-    told-continuing ls _ _ _ _ _ _ tells-mon
+    told-continuing ls _ _ _ _ _ _ _ _ tells-mon
     (λ m. tells-or (tells-le (statesOf (m .kind)) s) (tells-or (tells-le (eventsOf ls) e) (tells-le (statesOf (m .kind)) t)))
+    (λ n. tells-never)
     (λ m. tells-first (leadsTo s e) (go s e) (leads-is s e) (m .parts))
-told ls (continues (stop s)) = told-continuing ls _ _ _ _ _ _ tells-mon (λ m. tells-le (statesOf (m .kind)) s) (λ m. tells-marked (m .parts) s)
+told ls (continues (stop s)) = told-continuing ls _ _ _ _ _ _ _ _ tells-mon (λ m. tells-le (statesOf (m .kind)) s) (λ n. tells-never) (λ m. tells-marked (m .parts) s)
 told ls (continues (amp e d)) =
-    told-continuing ls _ _ _ _ _ _ tells-bal (λ m. tells-or (tells-le (eventsOf ls) e) (tells-outsideℤ (negℤ (pos 15)) (pos 15) d)) (λ m. tells-first (stepIn e) (amp e) (step-is e) (m .parts))
+    told-continuing ls _ _ _ _ _ _ _ _ tells-bal
+    (λ m. tells-or (tells-le (eventsOf ls) e) (tells-outsideℤ (negℤ (pos 15)) (pos 15) d))
+    (λ n. tells-never)
+    (λ m. tells-first (stepIn e) (amp e) (step-is e) (m .parts))
+told ls (continues (opens e a b)) =
+    told-continuing ls _ _ _ _ _ _ _ _ tells-day
+    (λ m. tells-or (tells-le (eventsOf ls) e) (tells-lt (statesOf (m .kind)) b))
+    (λ n. tells-and (tells-eq n 18) (tells-le b a))
+    (λ m. tells-never)
 told ls other = record { misformed = tells-always; misplaced = tells-empty ls; out-of-range = tells-never; clash = λ n. tells-never; again = tells-never; too-many = tells-never }
 
 -- ---- one line
 
 pub sound-case : (ls : List Line) (l : Line) → Sound ls l → lineCase ls l ≡ 0
-unfolding lineCase Case2 Case5 Case3 Case16 Case17 Case4 Case6
+unfolding lineCase Case2 Case5 Case3 Case16 Case17 Case18 Case4 Case6
 sound-case ls l s =
     let t = told ls l in
-    rw (tells-false (t .misformed) (s .formed), tells-false (t .misplaced) (s .placed), tells-false (t .out-of-range) (s .ranged), tells-false (t .clash 16) (s .named-once), tells-false (t .clash 17) (s .unequal), tells-false (t .again) (s .new), tells-false (t .too-many) (s .fits))
+    rw (tells-false (t .misformed) (s .formed), tells-false (t .misplaced) (s .placed), tells-false (t .out-of-range) (s .ranged), tells-false (t .clash 16) (s .named-once), tells-false (t .clash 17) (s .unequal), tells-false (t .clash 18) (s .nonempty), tells-false (t .again) (s .new), tells-false (t .too-many) (s .fits))
 
 -- where a case is the first that holds, its test picks its number m; k is what the later tests pick
 picked : {b : Bool} {P L : Type 0} (m k : ℕ) {n : ℕ} → Tells b P → m ≢ 0 → (L → (k ≡ n) × (n ≢ 0)) → first P (n ≡ m) L → (pick b m k ≡ n) × (n ≢ 0)
@@ -222,7 +218,7 @@ picked m k t ne later (inl (p, q)) = rw (tells-true t p, q) (refl, ne)
 picked m k t ne later (inr (p, l)) = rw (tells-false t p) (later l)
 
 pub fault-case : (ls : List Line) (l : Line) (n : ℕ) → LineFault ls l n → (lineCase ls l ≡ n) × (n ≢ 0)
-unfolding LineFault lineCase Case2 Case5 Case3 Case16 Case17 Case4 Case6
+unfolding LineFault lineCase Case2 Case5 Case3 Case16 Case17 Case18 Case4 Case6
 fault-case ls l n =
     let t = told ls l in
     picked 2 _ (t .misformed) (λ q. omega arith)
@@ -230,13 +226,14 @@ fault-case ls l n =
     (picked 3 _ (t .out-of-range) (λ q. omega arith)
     (picked 16 _ (t .clash 16) (λ q. omega arith)
     (picked 17 _ (t .clash 17) (λ q. omega arith)
+    (picked 18 _ (t .clash 18) (λ q. omega arith)
     (picked 4 _ (t .again) (λ q. omega arith)
     (picked 6 0 (t .too-many) (λ q. omega arith)
-    (λ never. absurd never)))))))
+    (λ never. absurd never))))))))
 
 -- every line is sound, or some case is the first that holds of it
 judged : (ls : List Line) (l : Line) → Sound ls l ⊎ ((n : ℕ) × LineFault ls l n)
-unfolding LineFault Case2 Case5 Case3 Case16 Case17 Case4 Case6
+unfolding LineFault Case2 Case5 Case3 Case16 Case17 Case18 Case4 Case6
 judged ls l =
     let t = told ls l in
     case (tests ls l .misformed) (λ q. inr (2, inl (t .misformed .yes q, refl))) (λ q.
@@ -249,10 +246,12 @@ judged ls l =
     let d = t .clash 16 .no q in
     case (tests ls l .clash 17) (λ q. inr (17, inr (a, inr (b, inr (c, inr (d, inl (t .clash 17 .yes q, refl))))))) (λ q.
     let e = t .clash 17 .no q in
-    case (tests ls l .again) (λ q. inr (4, inr (a, inr (b, inr (c, inr (d, inr (e, inl (t .again .yes q, refl)))))))) (λ q.
-    let f = t .again .no q in
-    case (tests ls l .too-many) (λ q. inr (6, inr (a, inr (b, inr (c, inr (d, inr (e, inr (f, inl (t .too-many .yes q, refl))))))))) (λ q.
-    inl (record { formed = a; placed = b; ranged = c; named-once = d; unequal = e; new = f; fits = t .too-many .no q }))))))))
+    case (tests ls l .clash 18) (λ q. inr (18, inr (a, inr (b, inr (c, inr (d, inr (e, inl (t .clash 18 .yes q, refl)))))))) (λ q.
+    let f = t .clash 18 .no q in
+    case (tests ls l .again) (λ q. inr (4, inr (a, inr (b, inr (c, inr (d, inr (e, inr (f, inl (t .again .yes q, refl))))))))) (λ q.
+    let g = t .again .no q in
+    case (tests ls l .too-many) (λ q. inr (6, inr (a, inr (b, inr (c, inr (d, inr (e, inr (f, inr (g, inl (t .too-many .yes q, refl)))))))))) (λ q.
+    inl (record { formed = a; placed = b; ranged = c; named-once = d; unequal = e; nonempty = f; new = g; fits = t .too-many .no q })))))))))
 
 -- a line is sound exactly if no test finds a case
 pub case-sound : (ls : List Line) (l : Line) → lineCase ls l ≡ 0 → Sound ls l
@@ -335,7 +334,7 @@ numbered m o later (inr (p, l)) = later l
 line-number : (ls : List Line) (l : Line) (n : ℕ) → LineFault ls l n → OfText n
 unfolding LineFault
 line-number ls l n =
-    numbered 2 (inl (omega arith)) (numbered 5 (inl (omega arith)) (numbered 3 (inl (omega arith)) (numbered 16 (inr (omega arith)) (numbered 17 (inr (omega arith)) (numbered 4 (inl (omega arith)) (numbered 6 (inl (omega arith)) (λ never. absurd never)))))))
+    numbered 2 (inl (omega arith)) (numbered 5 (inl (omega arith)) (numbered 3 (inl (omega arith)) (numbered 16 (inr (omega arith)) (numbered 17 (inr (omega arith)) (numbered 18 (inr (omega arith)) (numbered 4 (inl (omega arith)) (numbered 6 (inl (omega arith)) (λ never. absurd never))))))))
 
 pub fault-number : (t : List ℕ) (n p : ℕ) → Fault t n p → OfText n
 unfolding Fault

@@ -40,7 +40,7 @@ first-at n bad l a p lt b good = ⊎-elim (λ (q, g). contra b (g p lt)) (λ (k,
     same k c g (inr (inl h)) = h
     same k c g (inr (inr h)) = contra b (g p h)
 
--- ---- rows 1 to 8, 16 and 17
+-- ---- rows 1 to 8 and 16 to 18
 
 early-rows : (t : List ℕ) (h : ℕ) (cells : List ℕ) (a : Answer) → EarlyRows t h cells (sized t h cells a)
 unfolding sized Case7 Case8

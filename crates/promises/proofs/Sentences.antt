@@ -12,7 +12,7 @@ use Rattle.automaton.specs.Automaton as automaton
 use Rattle.automaton.specs.Automaton.{Automaton, bounded, Over, walk}
 use Rattle.automaton.proofs.Joint.{admits-last}
 use Rattle.automaton.proofs.Counting.{walk-append, admits-append}
-use Rattle.promises.specs.Text.{Kind, gap, reply, Part, go, stop, amp, Line, begins, continues, Monitor, monitors, latest, statesOf, startOf, eventsOf, product, orderOf, decoded, Readable, OutOfRange, Equal, beginning, OfLatest, continuing, IsMon, cases, Case1, Case2, Case5, Case3, Case16, Case17, Case4, Case6, AllSound, LineFault, Fault}
+use Rattle.promises.specs.Text.{Kind, gap, reply, Part, go, stop, amp, opens, Line, begins, Monitor, monitors, latest, statesOf, startOf, eventsOf, product, orderOf, decoded, Readable, OutOfRange, Equal, beginning, IsMon, cases, Case1, Case2, Case5, Case3, Case16, Case17, Case18, Case4, Case6, AllSound, LineFault, Fault}
 use Rattle.promises.specs.Meaning.{Stands, Apart, Answered, StillDue, Replied, Says, Admits, Ends, MayStop, BelowE}
 use Rattle.promises.specs.Rig.{monitorOf}
 use Rattle.promises.specs.Sentences.{Agrees, RepliedAt, Begins, Continues, OfMon, Sentences}
@@ -21,6 +21,7 @@ use Rattle.promises.proofs.Reading.{bad-line}
 use Rattle.promises.proofs.Gap.{free, gap-agrees}
 use Rattle.promises.proofs.Reply.{marked, reply-agrees}
 use Rattle.promises.proofs.Meaning.{monitor-agrees, over-iff}
+use Rattle.promises.proofs.Continuing.{wrong-kind}
 
 -- ---- the sentences in other states
 
@@ -133,21 +134,20 @@ module _ (t : List ℕ) (front : List Line) (k : Kind) (z : Begins t front k) wh
     equal e = bad 17 (inr (λ h. h, inr (z .not-first, inr (in-range, inr (λ (q, s). omega arith, inl ((refl, e), refl))))))
 
     too-many : (Equal k → ⊥) → 1024 < product (monitors front) * statesOf k → Fault t 6 (suc (length front))
-    unfolding LineFault Case2 Case5 Case3 Case16 Case17 Case4 Case6 cases beginning
-    too-many e p = bad 6 (inr (λ h. h, inr (z .not-first, inr (in-range, inr (λ (q, s). omega arith, inr (λ (q, s). e s, inr (λ h. h, inl (p, refl))))))))
+    unfolding LineFault Case2 Case5 Case3 Case16 Case17 Case18 Case4 Case6 cases beginning
+    too-many e p = bad 6 (inr (λ h. h, inr (z .not-first, inr (in-range, inr (λ (q, s). omega arith, inr (λ (q, s). e s, inr (λ (q, s). omega arith, inr (λ h. h, inl (p, refl)))))))))
 
 not-first : (t : List ℕ) (k : Kind) (back : List Line) → (Case1 t → ⊥) → decoded t ≡ begins k ∷ back → Fault t 5 1
 unfolding LineFault Case2 Case5 cases beginning AllSound
 not-first t k back short q = bad-line t [] (begins k) back 5 short q tt (inr (λ h. h, inl (refl, refl)))
 
 -- a line of the latest monitor
-not-mon : (t : List ℕ) (front : List Line) (p : Part) → OfMon p → Continues t front p → (m : Monitor) → latest (monitors front) ≡ some m → (IsMon (m .kind) → ⊥) → Fault t 5 (suc (length front))
-not-mon t front p of z m last isn't = bad-line t front (continues p) (z .back) 5 (z .short) (z .lines-are) (z .sound) (misplaced p of)
-  where
-    misplaced : (p : Part) → OfMon p → LineFault front (continues p) 5
-    misplaced (go s e u) o = unfold LineFault Case2 Case5 cases continuing OfLatest in inr (λ h. h, inl (λ h. isn't (rw last at h), refl))
-    misplaced (amp e d) o = absurd (unfold OfMon in o)
-    misplaced (stop s) o = unfold LineFault Case2 Case5 cases continuing OfLatest in inr (λ h. h, inl (λ h. isn't (rw last at h), refl))
+not-mon : (t : List ℕ) (front : List Line) (p : Part) → OfMon p → Continues t front p → ((m : Monitor) → latest (monitors front) ≡ some m → IsMon (m .kind) → ⊥) → Fault t 5 (suc (length front))
+unfolding OfMon cases
+not-mon t front (go s e u) o z isn't = wrong-kind front (go s e u) IsMon _ _ _ refl t z isn't
+not-mon t front (stop s) o z isn't = wrong-kind front (stop s) IsMon _ _ _ refl t z isn't
+not-mon t front (amp e d) o z isn't = absurd o
+not-mon t front (opens e a b) o z isn't = absurd o
 
 pub sentences : Sentences
 unfolding MayStop Ends

@@ -18,7 +18,7 @@ use Rattle.lists.specs.Decimal.{decimal, value, valueFrom, Digit}
 use Rattle.lists.proofs.Tests.{contra, case, and-left, and-right, or-left, or-rest, split}
 use Rattle.lists.proofs.Tells.{Tells, tells-eq, tells-and}
 use Rattle.lists.proofs.Decimal.{decimal-one, decimal-digit, decimal-some, decimal-lead, decimal-value, value-decimal, decimal-short, decimal-long}
-use Rattle.promises.specs.Text.{splitOn, init, lastOf, lines, unended, fields, digitsValue, number, ahead, numbers, minus, plus, signed, same, mon, gap, reply, bal, go, stop, amp, Line, rig, ord, begins, continues, other, field, endOr, end, one, two, three, four, oneSigned, twoSigned, thenSigned, oneOrTwo, anyNumber, bytes, form, decode}
+use Rattle.promises.specs.Text.{splitOn, init, lastOf, lines, unended, fields, digitsValue, number, ahead, numbers, minus, plus, signed, same, mon, gap, reply, bal, day, go, stop, amp, opens, Line, rig, ord, begins, continues, other, field, endOr, end, one, two, three, four, oneSigned, twoSigned, thenSigned, oneOrTwo, anyNumber, bytes, form, decode}
 use Rattle.promises.specs.Spelling.{preceded, written, spelled, Small, SpelledAs, signedDecimal, Spelled, joined, Spelling}
 use Rattle.promises.proofs.Pieces.{Free, splitOn-some, splitOn-joined, splitOn-free, splitOn-pieces, init-last, in-init, last-in}
 
@@ -365,7 +365,11 @@ form-spelled l v fs e k ne q =
     (λ o. let (a, b, g, c, d, r) = two-signed-is k ne (λ lo hi. begins (bal lo hi)) fs (rw (t, u, x, y, z, m, n, o) at q) in subst (λ k. Spelled k l) r (written-fields "bal" (signedDecimal a ∷ signedDecimal b ∷ []) l v fs e o g, c, d))
     (λ o. case (same v (bytes "amp"))
     (λ p. let (a, b, g, c, d, r) = then-signed-is k ne (λ e d. continues (amp e d)) fs (rw (t, u, x, y, z, m, n, o, p) at q) in subst (λ k. Spelled k l) r (written-fields "amp" (decimal a ∷ signedDecimal b ∷ []) l v fs e p g, c, d))
-    (λ p. absurd (ne (sym (rw (t, u, x, y, z, m, n, o, p) at q))))))))))))
+    (λ p. case (same v (bytes "day"))
+    (λ i. let (a, g, s, r) = one-is k ne (λ T. begins (day T)) fs (rw (t, u, x, y, z, m, n, o, p, i) at q) in subst (λ k. Spelled k l) r (spelled-fields "day" (a ∷ []) l v fs e i g s))
+    (λ i. case (same v (bytes "open"))
+    (λ j. let (a, b, c, g, s, r) = three-is k ne (λ e a b. continues (opens e a b)) fs (rw (t, u, x, y, z, m, n, o, p, i, j) at q) in subst (λ k. Spelled k l) r (spelled-fields "open" (a ∷ b ∷ c ∷ []) l v fs e j g s))
+    (λ j. absurd (ne (sym (rw (t, u, x, y, z, m, n, o, p, i, j) at q))))))))))))))
 
 spelled-decodes : (k : Line) (l : List ℕ) → Spelled k l → decode l ≡ k
 unfolding decode Spelled form same
@@ -378,11 +382,13 @@ spelled-decodes (begins (reply a b c d)) l (q, s) = rw (q, fields-spelled "reply
 spelled-decodes (begins (bal lo hi)) l (q, a, b) =
     rw (q, fields-written "bal" (signedDecimal lo ∷ signedDecimal hi ∷ []) refl (λ f. two-free (signedDecimal lo) (signedDecimal hi) f (signed-free lo) (signed-free hi)))
     (two-signed-reads (λ lo hi. begins (bal lo hi)) lo hi a b)
+spelled-decodes (begins (day T)) l (q, s) = rw (q, fields-spelled "day" (T ∷ []) refl) (one-reads (λ T. begins (day T)) T s)
 spelled-decodes (continues (go a b c)) l (q, s) = rw (q, fields-spelled "go" (a ∷ b ∷ c ∷ []) refl) (three-reads (λ s e t. continues (go s e t)) a b c s)
 spelled-decodes (continues (stop a)) l (q, s) = rw (q, fields-spelled "stop" (a ∷ []) refl) (one-reads (λ s. continues (stop s)) a s)
 spelled-decodes (continues (amp e d)) l (q, a, b) =
     rw (q, fields-written "amp" (decimal e ∷ signedDecimal d ∷ []) refl (λ f. two-free (decimal e) (signedDecimal d) f (decimal-free e) (signed-free d)))
     (then-signed-reads (λ e d. continues (amp e d)) e d a b)
+spelled-decodes (continues (opens a b c)) l (q, s) = rw (q, fields-spelled "open" (a ∷ b ∷ c ∷ []) refl) (three-reads (λ e a b. continues (opens e a b)) a b c s)
 spelled-decodes other l never = absurd never
 
 pub spelling : Spelling

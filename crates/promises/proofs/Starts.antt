@@ -19,8 +19,8 @@ use Rattle.automaton.specs.Counting as counting
 use Rattle.automaton.proofs.Counting.{scenarios-ordered}
 use Rattle.automaton.proofs.Ranking.{unrank-at}
 use Rattle.promises.specs.Answer.{served}
-use Rattle.promises.specs.Text.{onto, splitOn, init, lines, fields, digitsValue, number, ahead, numbers, same, field, endOr, end, one, two, three, four, oneOrTwo, anyNumber, form, decode, Kind, mon, gap, reply, bal, Part, go, stop, amp, IsBal, Monitor, addPart, extended, monitorsFrom, monitors, decoded, startOf, eventsOf, orderOf, Readable, Case7, Case8}
-use Rattle.promises.specs.Meaning.{Leads, stepIn, stepOf, Says, Ends, Admits, MayStop, BelowE, AllAdmit, AllMayStop, Belongs, Earlier}
+use Rattle.promises.specs.Text.{onto, splitOn, init, lines, fields, digitsValue, number, ahead, numbers, same, field, endOr, end, one, two, three, four, oneOrTwo, anyNumber, form, decode, Kind, mon, gap, reply, bal, day, Part, go, stop, amp, opens, IsBal, Monitor, addPart, extended, monitorsFrom, monitors, decoded, startOf, eventsOf, orderOf, Readable, Case7, Case8}
+use Rattle.promises.specs.Meaning.{Leads, stepIn, stepOf, HasHours, InHours, OnTime, Says, Ends, Admits, MayStop, BelowE, AllAdmit, AllMayStop, Belongs, Earlier}
 use Rattle.promises.specs.Rig.{rigAutomaton, start}
 use Rattle.promises.specs.Calls.{total, count}
 use Rattle.promises.specs.Demand3.{Gives}
@@ -53,6 +53,10 @@ module _ (f : ℕ → ℕ) (injective : (s t : ℕ) → f s ≡ f t → s ≡ t)
           let q′ : go (f s) e v ≡ amp x d = unfold renumberedPart in q in
           let z : _≡_ {A = ℕ} 0 1 = cc in
           absurd (omega arith)
+      back (opens x a b) j q =
+          let q′ : go (f s) e v ≡ opens x a b = unfold renumberedPart in q in
+          let z : _≡_ {A = ℕ} 0 1 = cc in
+          absurd (omega arith)
 
   -- so is a mark
   mark-back : (ps : List Part) (s : ℕ) → In (stop (f s)) (map (renumberedPart f) ps) → In (stop s) ps
@@ -70,6 +74,35 @@ module _ (f : ℕ → ℕ) (injective : (s t : ℕ) → f s ≡ f t → s ≡ t)
           let q′ : stop (f s) ≡ amp x d = unfold renumberedPart in q in
           let z : _≡_ {A = ℕ} 0 1 = cc in
           absurd (omega arith)
+      back (opens x a b) j q =
+          let q′ : stop (f s) ≡ opens x a b = unfold renumberedPart in q in
+          let z : _≡_ {A = ℕ} 0 1 = cc in
+          absurd (omega arith)
+
+  -- and hours
+  hours-back : (ps : List Part) (e a b : ℕ) → In (opens e a b) (map (renumberedPart f) ps) → In (opens e a b) ps
+  hours-back ps e a b i = let (p, j, q) = in-map (renumberedPart f) ps i in back p j q
+    where
+      back : (p : Part) → In p ps → opens e a b ≡ renumberedPart f p → In (opens e a b) ps
+      back (go x y z) j q =
+          let q′ : opens e a b ≡ go (f x) y (f z) = unfold renumberedPart in q in
+          let z : _≡_ {A = ℕ} 0 1 = cc in
+          absurd (omega arith)
+      back (stop x) j q =
+          let q′ : opens e a b ≡ stop (f x) = unfold renumberedPart in q in
+          let z : _≡_ {A = ℕ} 0 1 = cc in
+          absurd (omega arith)
+      back (amp x d) j q =
+          let q′ : opens e a b ≡ amp x d = unfold renumberedPart in q in
+          let z : _≡_ {A = ℕ} 0 1 = cc in
+          absurd (omega arith)
+      back (opens x y z) j q =
+          let q′ : opens e a b ≡ opens x y z = unfold renumberedPart in q in
+          subst (λ p. In p ps) (sym q′) j
+
+  hours-on : (ps : List Part) (e a b : ℕ) → In (opens e a b) ps → In (opens e a b) (map (renumberedPart f) ps)
+  unfolding renumberedPart
+  hours-on ps e a b i = map-in (renumberedPart f) i
 
   -- and a step stays as it is
   step-same : (e : ℕ) (ps : List Part) → firstOf (stepIn e) (map (renumberedPart f) ps) ≡ firstOf (stepIn e) ps
@@ -78,6 +111,7 @@ module _ (f : ℕ → ℕ) (injective : (s t : ℕ) → f s ≡ f t → s ≡ t)
   step-same e (go a b c ∷ ps) = step-same e ps
   step-same e (stop a ∷ ps) = step-same e ps
   step-same e (amp a d ∷ ps) = ap (orElse (stepIn e (amp a d))) (step-same e ps)
+  step-same e (opens a b c ∷ ps) = step-same e ps
 
   steps-same : (ps : List Part) → stepOf (map (renumberedPart f) ps) ≡ stepOf ps
   unfolding stepOf
@@ -103,6 +137,10 @@ module _ (f : ℕ → ℕ) (injective : (s t : ℕ) → f s ≡ f t → s ≡ t)
   says w (gap e n) ps = (λ p. p, λ p. p)
   says w (reply a b lo hi) ps = (λ p. p, λ p. p)
   says w (bal lo hi) ps = rw (steps-same ps) (λ p. p, λ p. p)
+  says w (day T) ps = unfold OnTime HasHours InHours in (
+    λ o i e t (a, b, h). let (c, d, k, l, r) = o i e t (a, b, hours-back ps e a b h) in (c, d, hours-on ps e c d k, l, r),
+    λ o i e t (a, b, h). let (c, d, k, l, r) = o i e t (a, b, hours-on ps e a b h) in (c, d, hours-back ps e c d k, l, r),
+  )
 
   ends : (w : List ℕ) (k : Kind) (ps : List Part) → Ends k ps (startOf k) w ↔ Ends (renumberedKind f k) (map (renumberedPart f) ps) (startOf (renumberedKind f k)) w
   unfolding Ends startOf renumberedKind renumberedPart
@@ -113,6 +151,7 @@ module _ (f : ℕ → ℕ) (injective : (s t : ℕ) → f s ≡ f t → s ≡ t)
   ends w (gap e n) ps = (λ p. p, λ p. p)
   ends w (reply a b lo hi) ps = (λ p. p, λ p. p)
   ends w (bal lo hi) ps = (λ p. p, λ p. p)
+  ends w (day T) ps = (λ p. p, λ p. p)
 
 -- ---- all monitors
 
@@ -200,6 +239,7 @@ start-exchanged (mon S a) = inl (rw (eq-eqb a a refl))
 start-exchanged (gap e n) = inl refl
 start-exchanged (reply a b lo hi) = inl refl
 start-exchanged (bal lo hi) = inr (lo, hi, refl)
+start-exchanged (day T) = inl refl
 
 from-0 : (ms : List Monitor) → (ns : List Monitor) × Renumbered ms ns × ((n : Monitor) → In n ns → (startOf (n .kind) ≡ 0) ⊎ IsBal (n .kind))
 unfolding Renumbered

@@ -4,53 +4,51 @@
 use mathlib.Core.Path.{_≡_, refl, ap, subst}
 use mathlib.Core.Logic.{_⊎_, inl, inr, _↔_, ⊎-elim}
 use mathlib.Core.List.{List, [], _∷_, _++_, append-nil, List·Memᴰ as In, List·Memᴰ·head as here, List·Memᴰ·tail as there, List·Memᴰ·append-cases as in-append, List·Memᴰ·not-nil, List·Memᴰ·eq-of-singleton}
-use mathlib.Core.Option.{some}
+use mathlib.Core.Option.{some, Option·none-ne-some}
 use Prim.Native.Nat.{ℕ, zero, suc, _≤_, _<_}
 use native.Mathlib.Omega.{arith}
 use lib.ListN.{length}
 use Rattle.automaton.specs.Counting.{N}
 use Rattle.automaton.proofs.Counting.{live-count, scenarios-sound, stays-live, carried-plain}
 use Rattle.automaton.proofs.Ranking.{index-belongs}
-use Rattle.promises.specs.Text.{Kind, Part, stop, Line, rig, ord, begins, continues, other, Monitor, extended, monitorsFrom, monitors, latest, statesOf, OfLatest, continuing, IsMon, cases, Case1, Case2, Case5, Case3, Case16, Case17, Case4, AllSound, LineFault, Readable, Fault, decoded}
+use Rattle.promises.specs.Text.{Kind, Part, stop, Line, rig, ord, begins, continues, other, Monitor, extended, monitorsFrom, monitors, latest, statesOf, never, continuing, IsMon, cases, Case1, AllSound, Readable, Fault, decoded}
 use Rattle.promises.specs.Meaning.{Ends, MayStop, AllAdmit, AllMayStop, CarriedOn, Belongs}
 use Rattle.promises.specs.Rig.{rigAutomaton, start}
 use Rattle.promises.specs.Demand2.{Endless}
+use Rattle.promises.specs.Sentences.{Continues}
 use Rattle.promises.specs.Stopping.{Stopping}
 use Rattle.promises.proofs.Lines.{in-addPart}
-use Rattle.promises.proofs.Reading.{bad-line}
+use Rattle.promises.proofs.Continuing.{wrong-kind, out-of-range, given-again}
 use Rattle.promises.proofs.Meaning.{text-admits, text-carried, text-belongs, endless-never-stops}
 use Rattle.promises.proofs.Answers.{belongs-listed}
 use Rattle.promises.proofs.Examples.{words}
 
 -- ---- refusals
 
-module _ (t : List ℕ) (front : List Line) (s : ℕ) (back : List Line) (short : Case1 t → ⊥) (q : decoded t ≡ front ++ (continues (stop s) ∷ back)) (sound : AllSound [] front) where
-  bad-stop : (n : ℕ) → LineFault front (continues (stop s)) n → Fault t n (suc (length front))
-  bad-stop n f = bad-line t front (continues (stop s)) back n short q sound f
+abbrev out : ℕ → Monitor → Type 0
+out s m = statesOf (m .kind) ≤ s
 
-  formed : Case2 front (continues (stop s)) → ⊥
-  unfolding Case2 cases continuing
-  formed h = h
+abbrev given : ℕ → Monitor → Type 0
+given s m = In (stop s) (m .parts)
+
+are : (front : List Line) (s : ℕ) → cases front (continues (stop s)) ≡ continuing front IsMon (out s) never (given s)
+unfolding cases
+are front s = refl
+
+module _ (t : List ℕ) (front : List Line) (s : ℕ) (back : List Line) (short : Case1 t → ⊥) (q : decoded t ≡ front ++ (continues (stop s) ∷ back)) (sound : AllSound [] front) where
+  line : Continues t front (stop s)
+  line = record { short = short; back = back; lines-are = q; sound = sound }
 
   before-mon : monitors front ≡ [] → Fault t 5 (suc (length front))
-  unfolding LineFault Case5 cases continuing OfLatest latest
-  before-mon none = bad-stop 5 (inr (formed, inl (λ h. rw none at h, refl)))
+  unfolding latest
+  before-mon none = wrong-kind front (stop s) _ _ _ _ (are front s) t line (λ m last is. Option·none-ne-some m (rw none at last))
 
   module _ (m : Monitor) (last : latest (monitors front) ≡ some m) (is : IsMon (m .kind)) where
-    placed : Case5 front (continues (stop s)) → ⊥
-    unfolding Case5 cases continuing OfLatest
-    placed none = none (rw last is)
-
     not-below : statesOf (m .kind) ≤ s → Fault t 3 (suc (length front))
-    unfolding LineFault Case3 cases continuing OfLatest
-    not-below h = bad-stop 3 (inr (formed, inr (placed, inl (rw last h, refl))))
+    not-below h = out-of-range front (stop s) _ _ _ _ (are front s) t line m last is h
 
     marked-twice : s < statesOf (m .kind) → In (stop s) (m .parts) → Fault t 4 (suc (length front))
-    unfolding LineFault Case3 Case16 Case17 Case4 cases continuing OfLatest
-    marked-twice h i = bad-stop 4 (inr (formed, inr (placed, inr (λ k. below (rw last at k), inr (λ k. k, inr (λ k. k, inl (rw last i, refl)))))))
-      where
-        below : statesOf (m .kind) ≤ s → ⊥
-        below k = omega arith
+    marked-twice below i = given-again front (stop s) _ _ _ _ (are front s) t line m last is (λ h. omega arith) (λ n h. h) i
 
 -- ---- what belongs
 

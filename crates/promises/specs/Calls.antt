@@ -9,7 +9,7 @@
 --   countCells, scenariosCells, indexCells     == the cells afterwards
 --   written, shuffled                          == the output afterwards
 --   ScratchKept, ShuffleKeeps == what is known of the scratch afterwards: the one part that is left free
--- Checks go in the order of the table's rows: 1 to 6, 16 and 17 (reading), 7, 8, 12, 13, 9, 10, 11, 14, 15. Assumes nothing.
+-- Checks go in the order of the table's rows: 1 to 6 and 16 to 18 (reading), 7, 8, 12, 13, 9, 10, 11, 14, 15. Assumes nothing.
 use mathlib.Core.Path.{_≡_}
 use mathlib.Core.Bool.{Bool, true, _||_}
 use mathlib.Core.List.{List, [], _∷_, _++_}

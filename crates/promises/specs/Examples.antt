@@ -67,9 +67,9 @@ reply-alone = bytes "rig\t3\nreply\t0\t1\t2\t3\n"
 abbrev pub unanswerable : List ℕ
 unanswerable = bytes "rig\t2\ngap\t1\t4\nreply\t0\t1\t1\t2\n"
 
--- a `go` and a `stop` of a `mon` between other kinds
-abbrev pub every-kind : List ℕ
-every-kind = bytes "rig\t2\ngap\t0\t2\nmon\t1\ngo\t0\t0\t0\nstop\t0\nreply\t0\t1\t1\t1\n"
+-- a `go` and a `stop` of a `mon` between other kinds: four of the five, as there are 'One to four monitors'
+abbrev pub four-kinds : List ℕ
+four-kinds = bytes "rig\t2\ngap\t0\t2\nmon\t1\ngo\t0\t0\t0\nstop\t0\nreply\t0\t1\t1\t1\nday\t2\nopen\t1\t0\t1\n"
 
 -- 'n from 2 to 32', '1 ≤ lo ≤ hi ≤ 31': 32 states each, P 1,024
 abbrev pub widest-kinds : List ℕ
@@ -92,6 +92,24 @@ no-difference = bytes "rig\t1\nbal\t0\t0\n"
 -- 'lo from −15 to 0 and hi from 0 to 15', 'a signed step d, −15 to 15': 31 states; a later `bal` gives event 0 a step anew
 abbrev pub widest-band : List ℕ
 widest-band = bytes "rig\t1\nbal\t-15\t15\namp\t0\t-15\nbal\t0\t0\namp\t0\t15\n"
+
+-- ---- depot hours (02 no. 7)
+
+-- a day of three steps: event 0 is admitted at steps 0 and 2, event 1 always
+abbrev pub depot-hours : List ℕ
+depot-hours = bytes "rig\t2\nday\t3\nopen\t0\t0\t1\nopen\t0\t2\t3\n"
+
+-- the same as a `mon` with every move, each state marked
+abbrev pub hours-table : List ℕ
+hours-table = bytes "rig\t2\nmon\t3\ngo\t0\t0\t1\ngo\t0\t1\t1\ngo\t1\t1\t2\ngo\t2\t0\t0\ngo\t2\t1\t0\nstop\t0\nstop\t1\nstop\t2\n"
+
+-- no hours
+abbrev pub always-open : List ℕ
+always-open = bytes "rig\t1\nday\t2\n"
+
+-- 'T from 2 to 32', 'b at most T'; equal lines, and one inside the hours of another; a later `day` gives event 0 hours anew
+abbrev pub longest-day : List ℕ
+longest-day = bytes "rig\t1\nday\t32\nopen\t0\t0\t32\nopen\t0\t0\t32\nopen\t0\t31\t32\nday\t2\nopen\t0\t0\t2\n"
 
 -- ---- the largest rigs
 
@@ -395,6 +413,82 @@ stop-after-bal = bytes "rig\t1\nbal\t0\t0\nstop\t0\n"
 abbrev pub bal-too-many : List ℕ
 bal-too-many = bytes "rig\t1\nbal\t-15\t15\nbal\t-1\t0\nbal\t-15\t1\n"
 
+-- 2, place 2: `day` has one number
+abbrev pub day-without-T : List ℕ
+day-without-T = bytes "rig\t1\nday\n"
+
+-- 2, place 2: and no more
+abbrev pub field-after-T : List ℕ
+field-after-T = bytes "rig\t1\nday\t2\t0\n"
+
+-- 2, place 3: `open` has three
+abbrev pub open-without-b : List ℕ
+open-without-b = bytes "rig\t1\nday\t2\nopen\t0\t0\n"
+
+-- 2, place 3: and no more
+abbrev pub field-after-b : List ℕ
+field-after-b = bytes "rig\t1\nday\t2\nopen\t0\t0\t1\t1\n"
+
+-- 2, place 3: no sign
+abbrev pub negative-step : List ℕ
+negative-step = bytes "rig\t1\nday\t2\nopen\t0\t-1\t1\n"
+
+-- 3, place 2: 'T from 2 to 32'
+abbrev pub day-1 : List ℕ
+day-1 = bytes "rig\t1\nday\t1\n"
+
+-- 3, place 2
+abbrev pub day-33 : List ℕ
+day-33 = bytes "rig\t1\nday\t33\n"
+
+-- 3, place 6: it 'counts as a `mon`'
+abbrev pub fifth-day : List ℕ
+fifth-day = bytes "rig\t1\nmon\t1\nmon\t1\nmon\t1\nmon\t1\nday\t2\n"
+
+-- 3, place 3: 'b at most T', though a is not below b either
+abbrev pub b-over-T : List ℕ
+b-over-T = bytes "rig\t1\nday\t2\nopen\t0\t9\t3\n"
+
+-- 3, place 3: likewise
+abbrev pub hours-of-no-event : List ℕ
+hours-of-no-event = bytes "rig\t1\nday\t2\nopen\t1\t1\t1\n"
+
+-- 18, place 3: 'a .. not below b'
+abbrev pub a-is-b : List ℕ
+a-is-b = bytes "rig\t1\nday\t2\nopen\t0\t0\t0\n"
+
+-- 18, place 3: 'a, which has no other range'
+abbrev pub a-over-b : List ℕ
+a-over-b = bytes "rig\t1\nday\t2\nopen\t0\t99999\t2\n"
+
+-- 5, place 2: 'an `open` is 5 if the latest monitor isn't a `day`'
+abbrev pub open-first : List ℕ
+open-first = bytes "rig\t1\nopen\t0\t0\t1\n"
+
+-- 5, place 4: though there is one before it, and out of range
+abbrev pub open-after-mon : List ℕ
+open-after-mon = bytes "rig\t1\nday\t2\nmon\t1\nopen\t9\t9\t9\n"
+
+-- 5, place 3
+abbrev pub open-after-bal : List ℕ
+open-after-bal = bytes "rig\t1\nbal\t0\t1\nopen\t0\t0\t1\n"
+
+-- 5, place 3: 'A `go` or `stop` is 5 if the latest monitor isn't a `mon`'
+abbrev pub go-after-day : List ℕ
+go-after-day = bytes "rig\t1\nday\t2\ngo\t0\t0\t0\n"
+
+-- 5, place 3: though its state is marked already
+abbrev pub stop-after-day : List ℕ
+stop-after-day = bytes "rig\t1\nday\t2\nstop\t0\n"
+
+-- 5, place 3
+abbrev pub amp-after-day : List ℕ
+amp-after-day = bytes "rig\t1\nday\t2\namp\t0\t0\n"
+
+-- 6, place 4: 32, 16 and 3 states
+abbrev pub day-too-many : List ℕ
+day-too-many = bytes "rig\t1\nday\t32\nday\t16\nday\t3\n"
+
 -- 5, place 1: 'empty text, place 1'
 abbrev pub nothing : List ℕ
 nothing = []
@@ -432,12 +526,16 @@ pub record Words : Type 0 where
   pub readable-gap-alone : Readable gap-alone
   pub readable-reply-alone : Readable reply-alone
   pub readable-unanswerable : Readable unanswerable
-  pub readable-every-kind : Readable every-kind
+  pub readable-four-kinds : Readable four-kinds
   pub readable-widest-kinds : Readable widest-kinds
   pub readable-meters : Readable meters
   pub readable-meters-table : Readable meters-table
   pub readable-no-difference : Readable no-difference
   pub readable-widest-band : Readable widest-band
+  pub readable-depot-hours : Readable depot-hours
+  pub readable-hours-table : Readable hours-table
+  pub readable-always-open : Readable always-open
+  pub readable-longest-day : Readable longest-day
   pub readable-most-events : Readable most-events
   pub readable-most-joint-states : Readable most-joint-states
   -- A's scenario of index 4 belongs; '0 1 1' does not
@@ -472,6 +570,10 @@ pub record Words : Type 0 where
   pub belongs-in-band : Belongs meters 2 (1 ∷ 0 ∷ [])
   pub not-belongs-below : Belongs meters 2 (1 ∷ 1 ∷ []) → ⊥
   pub not-belongs-above : Belongs meters 2 (0 ∷ 0 ∷ []) → ⊥
+  -- 'stands inside its hours, by its place from 0 modulo T': event 0 at steps 0, 2 and 0 again; not at step 1, of this day or the next
+  pub belongs-in-hours : Belongs depot-hours 4 (0 ∷ 1 ∷ 0 ∷ 0 ∷ [])
+  pub not-belongs-out-of-hours : Belongs depot-hours 2 (1 ∷ 0 ∷ []) → ⊥
+  pub not-belongs-next-day : Belongs depot-hours 5 (1 ∷ 1 ∷ 1 ∷ 1 ∷ 0 ∷ []) → ⊥
   pub fault-too-long : Fault too-long 1 0
   -- 'At most 65,535 bytes.'
   pub never-too-long : (t : List ℕ) → length t ≡ 65535 → Fault t 1 0 → ⊥
@@ -545,6 +647,25 @@ pub record Words : Type 0 where
   pub fault-go-after-bal : Fault go-after-bal 5 3
   pub fault-stop-after-bal : Fault stop-after-bal 5 3
   pub fault-bal-too-many : Fault bal-too-many 6 4
+  pub fault-day-without-T : Fault day-without-T 2 2
+  pub fault-field-after-T : Fault field-after-T 2 2
+  pub fault-open-without-b : Fault open-without-b 2 3
+  pub fault-field-after-b : Fault field-after-b 2 3
+  pub fault-negative-step : Fault negative-step 2 3
+  pub fault-day-1 : Fault day-1 3 2
+  pub fault-day-33 : Fault day-33 3 2
+  pub fault-fifth-day : Fault fifth-day 3 6
+  pub fault-b-over-T : Fault b-over-T 3 3
+  pub fault-hours-of-no-event : Fault hours-of-no-event 3 3
+  pub fault-a-is-b : Fault a-is-b 18 3
+  pub fault-a-over-b : Fault a-over-b 18 3
+  pub fault-open-first : Fault open-first 5 2
+  pub fault-open-after-mon : Fault open-after-mon 5 4
+  pub fault-open-after-bal : Fault open-after-bal 5 3
+  pub fault-go-after-day : Fault go-after-day 5 3
+  pub fault-stop-after-day : Fault stop-after-day 5 3
+  pub fault-amp-after-day : Fault amp-after-day 5 3
+  pub fault-day-too-many : Fault day-too-many 6 4
   pub fault-nothing : Fault nothing 5 1
   pub fault-rig-alone : Fault rig-alone 5 2
   pub fault-rig-later : Fault rig-later 5 2

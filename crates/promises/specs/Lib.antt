@@ -20,4 +20,5 @@ pub mod Ordering
 pub mod Stopping
 pub mod Sentences
 pub mod Differences
+pub mod Hours
 pub mod Wrong

@@ -12,6 +12,9 @@
 --   sumOf d w           == the steps d of the events of w, together
 --   InBand lo hi x      == the difference x is from lo to hi
 --   Balanced lo hi d x w == the sentence of `bal`, lo, hi with the steps d: from the difference x on, every partial sum is from lo to hi
+--   HasHours ps e       == event e has `open` lines among ps
+--   InHours ps e s      == one of them has the step s of the day in its hours
+--   OnTime T ps s w     == the sentence of `day`, T with the lines ps: from the step s on, each event of w with `open` lines stands inside its hours
 --   Says k ps s w       == what a monitor of the kind k with the further lines ps says of w in state s
 --   Ends k ps s w       == what it says of w as a sequence to stop after
 --   Admits m s w        == the monitor m, in state s, admits the sequence w
@@ -29,13 +32,13 @@ use mathlib.Core.Path.{_≡_}
 use mathlib.Core.Logic.{_⊎_}
 use mathlib.Core.List.{List, [], _∷_, _++_, List·Memᴰ as In}
 use mathlib.Core.Option.{Option, none, some, Option·getD}
-use Prim.Native.Nat.{ℕ, zero, suc, _+_, _≤_, _<_}
+use Prim.Native.Nat.{ℕ, zero, suc, _+_, _%_, _≤_, _<_}
 use lib.IntN.{ℤ, pos, _+ℤ_}
 use lib.Signed.{_≤ℤ_}
 use lib.ListN.{length, take, drop}
 use lib.Dec.{eqb}
 use Rattle.lists.specs.Lists.{pick, indexOf, firstOf}
-use Rattle.promises.specs.Text.{Kind, mon, gap, reply, bal, Part, go, stop, amp, Line, Monitor, monitors, startOf, eventsOf, orderOf, decoded}
+use Rattle.promises.specs.Text.{Kind, mon, gap, reply, bal, day, Part, go, stop, amp, opens, Line, Monitor, monitors, startOf, eventsOf, orderOf, decoded}
 
 unfoldable pub Stands : ℕ → List ℕ → ℕ → Type 0
 Stands e [] i = ⊥
@@ -84,6 +87,7 @@ unfoldable pub stepIn : ℕ → Part → Option ℤ
 stepIn e (go a b c) = none
 stepIn e (stop a) = none
 stepIn e (amp f d) = pick (eqb f e) (some d) none
+stepIn e (opens f a b) = none
 
 abbrev pub stepBy : List Part → ℕ → Option ℤ
 stepBy ps e = firstOf (stepIn e) ps
@@ -103,23 +107,39 @@ InBand lo hi x = (lo ≤ℤ x) × (x ≤ℤ hi)
 unfoldable pub Balanced : ℤ → ℤ → (ℕ → ℤ) → ℤ → List ℕ → Type 0
 Balanced lo hi d x w = (k : ℕ) → k ≤ length w → InBand lo hi (x +ℤ sumOf d (take k w))
 
+-- ---- `day` (02 no. 7)
+
+-- 'each event with `open` lines'
+unfoldable pub HasHours : List Part → ℕ → Type 0
+HasHours ps e = (a : ℕ) × (b : ℕ) × In (opens e a b) ps
+
+-- '`open`, e, a, b lines admit e at steps a up to but not including b'; 'Several lines add up'
+unfoldable pub InHours : List Part → ℕ → ℕ → Type 0
+InHours ps e s = (a : ℕ) × (b : ℕ) × In (opens e a b) ps × (a ≤ s) × (s < b)
+
+-- 'each event with `open` lines stands inside its hours, by its place from 0 modulo T'; 'an event with none is always admitted'
+unfoldable pub OnTime : ℕ → List Part → ℕ → List ℕ → Type 0
+OnTime T ps s w = (i e : ℕ) → Stands e w i → HasHours ps e → InHours ps e ((s + i) % T)
+
 -- ---- a monitor
 
 -- 'A user reading the sentence gets what the third demand says of monitors.' The state of `reply` 'is 0 with nothing due, 1 just after a, and one more each
--- step' (02 no. 5); of `bal`, 'state j is the difference lo+j' (02 no. 6)
+-- step' (02 no. 5); of `bal`, 'state j is the difference lo+j' (02 no. 6); of `day`, the states 'are the steps of the day' (02 no. 7)
 unfoldable pub Says : Kind → List Part → ℕ → List ℕ → Type 0
 Says (mon S a) ps s w = (u : ℕ) × Leads ps s w u
 Says (gap e n) ps s w = Barred e s w × Apart e n w
 Says (reply a b lo hi) ps s w = (0 < s → Answered a b lo hi s w ⊎ StillDue a b lo hi s w) × Replied a b lo hi w
 Says (bal lo hi) ps s w = Balanced lo hi (stepOf ps) (lo +ℤ pos s) w
+Says (day T) ps s w = OnTime T ps s w
 
 -- 'A line `stop`, s marks a state of the latest monitor.' (02 no. 4) 'All `gap` states are marked `stop`, of `reply` only state 0.' (02 no. 5) Of `bal`, 'all
--- marked `stop`' (02 no. 6)
+-- marked `stop`' (02 no. 6); of `day`, 'All T states' (02 no. 7)
 unfoldable pub Ends : Kind → List Part → ℕ → List ℕ → Type 0
 Ends (mon S a) ps s w = (u : ℕ) × Leads ps s w u × In (stop u) ps
 Ends (gap e n) ps s w = Unit {0}
 Ends (reply a b lo hi) ps s w = (0 < s → Answered a b lo hi s w) × NoneDue a b lo hi w
 Ends (bal lo hi) ps s w = Unit {0}
+Ends (day T) ps s w = Unit {0}
 
 -- 'A monitor admits a sequence if, from its start state, it admits each event in the state that the events before it led to.'
 unfoldable pub Admits : Monitor → ℕ → List ℕ → Type 0

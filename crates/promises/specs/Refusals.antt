@@ -1,7 +1,7 @@
 -- 'Numbers of refusal': the table, row by row and in its order, stated of any four calls in the words of Text and Meaning.
 -- Where no row applies the calls are served: that is demand 3.
---   Sized t h cells       == rows 1 to 8, 16 and 17 are passed
---   EarlyRows t h cells a == the answer a is that of rows 1 to 8, 16 and 17, where one of them applies
+--   Sized t h cells       == rows 1 to 8 and 16 to 18 are passed
+--   EarlyRows t h cells a == the answer a is that of rows 1 to 8 and 16 to 18, where one of them applies
 --   All t h L             == L has just the sequences that belong, each once
 --   Refusals C            == the table
 -- Assumes nothing.
@@ -22,7 +22,8 @@ pub record Sized (t : List ℕ) (h : ℕ) (cells : List ℕ) : Type 0 where
   pub room : Case8 t h cells → ⊥
 
 pub record EarlyRows (t : List ℕ) (h : ℕ) (cells : List ℕ) (a : Answer) : Type 0 where
-  -- 1 to 6 by Fault; among them 16, 'an event named twice in `ord`, place the line, tested after 3' (02 no. 2), and 17, 'a equals b, place the line, after 3' (02 no. 5)
+  -- 1 to 6 by Fault; among them 16, 'an event named twice in `ord`, place the line, tested after 3' (02 no. 2), 17, 'a equals b, place the line, after 3' (02 no. 5), and 18, 'a .. not below b, place the line, after 3'
+  -- (02 no. 7)
   pub text : (n p : ℕ) → Fault t n p → a ≡ refused n p
   pub seven : Readable t → Case7 h → a ≡ refused 7 0
   pub eight : Readable t → (Case7 h → ⊥) → Case8 t h cells → a ≡ refused 8 0
@@ -45,7 +46,7 @@ module _ (C : Calls) where
   open Calls C using (count, scenarios, index, shuffle)
 
   pub record Refusals : Type 0 where
-    -- rows 1 to 8, 16 and 17
+    -- rows 1 to 8 and 16 to 18
     pub count-early : (t : List ℕ) (h : ℕ) (cells : List ℕ) → EarlyRows t h cells (count t h cells)
     pub scenarios-early : (t : List ℕ) (h : ℕ) (is cells out : List ℕ) → EarlyRows t h cells (scenarios t h is cells out)
     pub index-early : (t s cells : List ℕ) → EarlyRows t (length s) cells (index t s cells)

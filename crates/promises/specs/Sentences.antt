@@ -14,7 +14,7 @@ use Prim.Native.Nat.{ℕ, suc, _+_, _*_, _≤_, _<_}
 use lib.ListN.{length}
 use Rattle.automaton.specs.Automaton as automaton
 use Rattle.automaton.specs.Automaton.{Over, walk}
-use Rattle.promises.specs.Text.{Kind, gap, reply, Part, go, stop, amp, Line, begins, continues, Monitor, monitors, latest, statesOf, startOf, eventsOf, product, orderOf, decoded, OutOfRange, Equal, IsMon, Case1, AllSound, Readable, Fault}
+use Rattle.promises.specs.Text.{Kind, gap, reply, Part, go, stop, amp, opens, Line, begins, continues, Monitor, monitors, latest, statesOf, startOf, eventsOf, product, orderOf, decoded, OutOfRange, Equal, IsMon, Case1, AllSound, Readable, Fault}
 use Rattle.promises.specs.Meaning.{Stands, Apart, Admits, MayStop, BelowE}
 use Rattle.promises.specs.Rig.{monitorOf}
 
@@ -48,6 +48,7 @@ unfoldable pub OfMon : Part → Type 0
 OfMon (go s e t) = Unit {0}
 OfMon (stop s) = Unit {0}
 OfMon (amp e d) = ⊥
+OfMon (opens e a b) = ⊥
 
 pub record Sentences : Type 0 where
   -- 'That the table admits exactly the sequences of the sentence is shown for all n, lo and hi together.'
@@ -78,6 +79,6 @@ pub record Sentences : Type 0 where
   -- and 6 where it is
   pub too-many : (t : List ℕ) (front : List Line) (k : Kind) → Begins t front k → (OutOfRange (eventsOf front) k → ⊥) → length (monitors front) < 4 → (Equal k → ⊥)
       → 1024 < product (monitors front) * statesOf k → Fault t 6 (suc (length front))
-  -- 'A `go` or `stop` is 5 if the latest monitor isn't a `mon`', whatever its numbers
-  pub not-mon : (t : List ℕ) (front : List Line) (p : Part) → OfMon p → Continues t front p → (m : Monitor) → latest (monitors front) ≡ some m → (IsMon (m .kind) → ⊥)
+  -- 'A `go` or `stop` is 5 if the latest monitor isn't a `mon`', or there is none, whatever its numbers
+  pub not-mon : (t : List ℕ) (front : List Line) (p : Part) → OfMon p → Continues t front p → ((m : Monitor) → latest (monitors front) ≡ some m → IsMon (m .kind) → ⊥)
       → Fault t 5 (suc (length front))

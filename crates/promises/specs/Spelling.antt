@@ -16,7 +16,7 @@ use Prim.Native.Nat.{ℕ, suc, _<_}
 use Prim.Native.String.{String}
 use lib.IntN.{ℤ, pos, negsuc, natAbs}
 use Rattle.lists.specs.Decimal.{decimal}
-use Rattle.promises.specs.Text.{lines, unended, number, signed, mon, gap, reply, bal, go, stop, amp, Line, rig, ord, begins, continues, other, bytes, decode}
+use Rattle.promises.specs.Text.{lines, unended, number, signed, mon, gap, reply, bal, day, go, stop, amp, opens, Line, rig, ord, begins, continues, other, bytes, decode}
 
 -- 'fields are parted by one byte 9'
 abbrev pub preceded : ℕ → List (List ℕ) → List ℕ
@@ -42,7 +42,7 @@ signedDecimal (pos n) = decimal n
 signedDecimal (negsuc n) = 45 ∷ decimal (suc n)
 
 -- '`rig`, E'; `ord` and its events (02 no. 2); '`mon`, S', and the start, which may be left out where it is 0 (02 no. 1); '`go`, s, e, t'; `stop`, s
--- (02 no. 4); `gap`, e, n; `reply`, a, b, lo, hi (02 no. 5); `bal`, lo, hi; `amp`, e, d (02 no. 6)
+-- (02 no. 4); `gap`, e, n; `reply`, a, b, lo, hi (02 no. 5); `bal`, lo, hi; `amp`, e, d (02 no. 6); `day`, T; `open`, e, a, b (02 no. 7)
 unfoldable pub Spelled : Line → List ℕ → Type 0
 Spelled (rig E) l = SpelledAs "rig" (E ∷ []) l
 Spelled (ord es) l = SpelledAs "ord" es l
@@ -50,9 +50,11 @@ Spelled (begins (mon S a)) l = SpelledAs "mon" (S ∷ a ∷ []) l ⊎ ((a ≡ 0)
 Spelled (begins (gap e n)) l = SpelledAs "gap" (e ∷ n ∷ []) l
 Spelled (begins (reply a b lo hi)) l = SpelledAs "reply" (a ∷ b ∷ lo ∷ hi ∷ []) l
 Spelled (begins (bal lo hi)) l = (l ≡ written "bal" (signedDecimal lo ∷ signedDecimal hi ∷ [])) × (natAbs lo < 100000) × (natAbs hi < 100000)
+Spelled (begins (day T)) l = SpelledAs "day" (T ∷ []) l
 Spelled (continues (go s e t)) l = SpelledAs "go" (s ∷ e ∷ t ∷ []) l
 Spelled (continues (stop s)) l = SpelledAs "stop" (s ∷ []) l
 Spelled (continues (amp e d)) l = (l ≡ written "amp" (decimal e ∷ signedDecimal d ∷ [])) × (e < 100000) × (natAbs d < 100000)
+Spelled (continues (opens e a b)) l = SpelledAs "open" (e ∷ a ∷ b ∷ []) l
 Spelled other l = ⊥
 
 -- 'A line ends with byte 10'

@@ -7,7 +7,7 @@ use lib.ListN.{replicate}
 use Rattle.promises.specs.Answer.{served, refused}
 use Rattle.promises.specs.Rig.{start}
 use Rattle.promises.specs.Calls.{count, scenarios, written, index, shuffle, shuffled}
-use Rattle.promises.specs.Examples.{A, B, A-from-1, A-exchanged, two-starts, A-ordered, closes, one-unmarked, both-marked, may-close, gap-alone, reply-alone, unanswerable, meters, meters-table, no-difference}
+use Rattle.promises.specs.Examples.{A, B, A-from-1, A-exchanged, two-starts, A-ordered, closes, one-unmarked, both-marked, may-close, gap-alone, reply-alone, unanswerable, meters, meters-table, no-difference, depot-hours, hours-table, always-open}
 
 -- n numbers to lend
 abbrev pub lent : ℕ → List ℕ
@@ -77,3 +77,13 @@ pub record Starred : Type 0 where
   pub table-2 : count meters-table 2 (lent 12) ≡ served (7 ∷ 1 ∷ [])
   -- 'an event without one has step 0'
   pub no-difference-3 : count no-difference 3 (lent 4) ≡ served (1 ∷ 1 ∷ [])
+  -- 02 no. 7. 'step 0 begins the scenario and the day repeats': event 0 at steps 0 and 2 of three
+  pub hours-start : start depot-hours ≡ 0
+  pub hours-4 : count depot-hours 4 (lent 15) ≡ served (8 ∷ 1 ∷ [])
+  pub hours-bytes : written depot-hours 4 (0 ∷ 1 ∷ 6 ∷ []) (lent 15) (lent 12) ≡ 0 ∷ 1 ∷ 0 ∷ 0 ∷ 0 ∷ 1 ∷ 0 ∷ 1 ∷ 1 ∷ 1 ∷ 1 ∷ 0 ∷ []
+  pub hours-index : index depot-hours (1 ∷ 1 ∷ 0 ∷ []) (lent 12) ≡ served (2 ∷ [])
+  pub hours-closed : index depot-hours (0 ∷ 0 ∷ []) (lent 9) ≡ refused 14 1
+  -- so of the table that it replaces
+  pub hours-table-4 : count hours-table 4 (lent 15) ≡ served (8 ∷ 1 ∷ [])
+  -- 'an event with none is always admitted'
+  pub always-open-3 : count always-open 3 (lent 8) ≡ served (1 ∷ 1 ∷ [])

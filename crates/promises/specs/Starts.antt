@@ -9,7 +9,7 @@ use mathlib.Core.Logic.{_⊎_, _↔_}
 use mathlib.Core.List.{List, [], _∷_, map, List·Memᴰ as In}
 use Prim.Native.Nat.{ℕ, _<_}
 use Rattle.promises.specs.Answer.{served}
-use Rattle.promises.specs.Text.{Kind, mon, gap, reply, bal, Part, go, stop, amp, IsBal, Monitor, monitors, decoded, startOf, eventsOf, orderOf, Readable, Case7, Case8}
+use Rattle.promises.specs.Text.{Kind, mon, gap, reply, bal, day, Part, go, stop, amp, opens, IsBal, Monitor, monitors, decoded, startOf, eventsOf, orderOf, Readable, Case7, Case8}
 use Rattle.promises.specs.Meaning.{Belongs}
 use Rattle.promises.specs.Demand3.{Gives}
 use Rattle.promises.specs.Calls.{count}
@@ -21,11 +21,13 @@ renumberedKind f (mon S a) = mon S (f a)
 renumberedKind f (gap e n) = gap e n
 renumberedKind f (reply a b lo hi) = reply a b lo hi
 renumberedKind f (bal lo hi) = bal lo hi
+renumberedKind f (day T) = day T
 
 unfoldable pub renumberedPart : (ℕ → ℕ) → Part → Part
 renumberedPart f (go s e t) = go (f s) e (f t)
 renumberedPart f (stop s) = stop (f s)
 renumberedPart f (amp e d) = amp e d
+renumberedPart f (opens e a b) = opens e a b
 
 abbrev pub renumbered : (ℕ → ℕ) → Monitor → Monitor
 renumbered f m = record { kind = renumberedKind f (m .kind); parts = map (renumberedPart f) (m .parts) }

@@ -15,7 +15,7 @@
 --   orderOf ls         == the events, in the order in which they are compared
 --   OutOfRange E k     == a number of a line that begins a monitor of the kind k is out of its range, in a rig with E events
 --   Equal k            == the a and the b of such a line are equal
---   cases ls l         == what each of the cases 2, 5, 3, 16, 17, 4 and 6 says of the line l after the lines ls
+--   cases ls l         == what each of the cases 2, 5, 3, 16 to 18, 4 and 6 says of the line l after the lines ls
 --   Readable t         == no case of a check on the text holds of it
 --   Fault t n p        == the checks on the text, in their order, refuse t with number n and place p
 --   Case7 .. Case13    == the case holds of a horizon, of lent buffers, of a sequence
@@ -118,12 +118,14 @@ pub data Kind : Type 0 where
   gap : ℕ → ℕ → Kind  -- `gap`, e, n (02 no. 5)
   reply : ℕ → ℕ → ℕ → ℕ → Kind  -- `reply`, a, b, lo, hi (02 no. 5)
   bal : ℤ → ℤ → Kind  -- `bal`, lo, hi (02 no. 6)
+  day : ℕ → Kind  -- `day`, T (02 no. 7)
 
 -- a line of 'the latest monitor'
 pub data Part : Type 0 where
   go : ℕ → ℕ → ℕ → Part  -- `go`, s, e, t
   stop : ℕ → Part  -- `stop`, s, which 'marks a state' (02 no. 4)
   amp : ℕ → ℤ → Part  -- `amp`, e, d, which 'gives event e a signed step d' (02 no. 6)
+  opens : ℕ → ℕ → ℕ → Part  -- `open`, e, a, b, which admits e 'at steps a up to but not including b' (02 no. 7)
 
 pub data Line : Type 0 where
   rig : ℕ → Line  -- `rig`, E
@@ -202,7 +204,9 @@ form (w ∷ fs) =
     (pick (same w (bytes "reply")) (four (λ a b lo hi. begins (reply a b lo hi)) fs)
     (pick (same w (bytes "bal")) (twoSigned (λ lo hi. begins (bal lo hi)) fs)
     (pick (same w (bytes "amp")) (thenSigned (λ e d. continues (amp e d)) fs)
-    other))))))))
+    (pick (same w (bytes "day")) (one (λ T. begins (day T)) fs)
+    (pick (same w (bytes "open")) (three (λ e a b. continues (opens e a b)) fs)
+    other))))))))))
 
 unfoldable pub decode : List ℕ → Line
 decode l = form (fields l)
@@ -237,20 +241,23 @@ monitorsFrom ms (l ∷ ls) = monitorsFrom (extended ms l) ls
 unfoldable pub monitors : List Line → List Monitor
 monitors ls = monitorsFrom [] ls
 
--- '`mon`, S: a new monitor with states 0 to S−1'; `gap` and `reply`: 'a monitor, with n or hi+1 states' (02 no. 5); `bal`: 'It has hi−lo+1 states' (02 no. 6)
+-- '`mon`, S: a new monitor with states 0 to S−1'; `gap` and `reply`: 'a monitor, with n or hi+1 states' (02 no. 5); `bal`: 'It has hi−lo+1 states' (02 no. 6);
+-- `day`: 'a monitor whose T states are the steps of the day' (02 no. 7)
 unfoldable pub statesOf : Kind → ℕ
 statesOf (mon S a) = S
 statesOf (gap e n) = n
 statesOf (reply a b lo hi) = hi + 1
 statesOf (bal lo hi) = natAbs (hi -ℤ lo) + 1
+statesOf (day T) = T
 
 -- 'the monitor's start state' (02 no. 1); `gap`: no coming step bars e; `reply`: '0 with nothing due' (02 no. 5); `bal`: 'beginning at 0', and 'state j is the
--- difference lo+j', so −lo (02 no. 6)
+-- difference lo+j', so −lo (02 no. 6); `day`: 'step 0 begins the scenario' (02 no. 7)
 unfoldable pub startOf : Kind → ℕ
 startOf (mon S a) = a
 startOf (gap e n) = 0
 startOf (reply a b lo hi) = 0
 startOf (bal lo hi) = natAbs lo
+startOf (day T) = 0
 
 -- 'the latest monitor'
 unfoldable pub latest : List Monitor → Option Monitor
@@ -293,9 +300,9 @@ orderOf ls = orderFrom [] ls
 
 pub record Cases : Type 1 where
   pub misformed : Type 0  -- 2, 'no such line form; a field that isn't a number as above'; `ord`, 'the wrong number of fields'
-  pub misplaced : Type 0  -- 5, 'first line not `rig`; `rig` later'; `ord` 'elsewhere'; `go` or `stop` 'if the latest monitor isn't a `mon`', `amp` if it isn't a `bal`
+  pub misplaced : Type 0  -- 5, 'first line not `rig`; `rig` later'; `ord` 'elsewhere'; `go` or `stop` 'if the latest monitor isn't a `mon`', `amp` .. a `bal`, `open` .. a `day`
   pub out-of-range : Type 0  -- 3, 'a number out of its range, or a fifth `mon`'
-  pub clash : ℕ → Type 0  -- by its number: 16, 'an event named twice in `ord`'; 17, 'a equals b'
+  pub clash : ℕ → Type 0  -- by its number: 16, 'an event named twice in `ord`'; 17, 'a equals b'; 18, 'a .. not below b'
   pub again : Type 0  -- 4, 's and e again in one monitor'; 'A state marked twice'; 'An event given twice'
   pub too-many : Type 0  -- 6, 'P over 1,024'
 
@@ -318,6 +325,8 @@ OutOfRange E (gap e n) = (E ≤ e) ⊎ Outside 2 32 n
 OutOfRange E (reply a b lo hi) = (E ≤ a) ⊎ ((E ≤ b) ⊎ ((lo < 1) ⊎ ((hi < lo) ⊎ (31 < hi))))
 -- 'lo from −15 to 0 and hi from 0 to 15' (02 no. 6)
 OutOfRange E (bal lo hi) = Outsideℤ (negℤ (pos 15)) (pos 0) lo ⊎ Outsideℤ (pos 0) (pos 15) hi
+-- 'T from 2 to 32' (02 no. 7)
+OutOfRange E (day T) = Outside 2 32 T
 
 -- '17, a equals b' (02 no. 5)
 unfoldable pub Equal : Kind → Type 0
@@ -325,6 +334,7 @@ Equal (mon S a) = ⊥
 Equal (gap e n) = ⊥
 Equal (reply a b lo hi) = a ≡ b
 Equal (bal lo hi) = ⊥
+Equal (day T) = ⊥
 
 -- a line that begins a monitor of the kind k: it 'counts as a `mon` in 3, 5 and 6, as do all later kinds' (02 no. 5)
 unfoldable pub beginning : List Line → Kind → Cases
@@ -343,12 +353,12 @@ OfLatest P none = ⊥
 OfLatest P (some m) = P m
 
 -- a line of the latest monitor, which must be there and of the right kind; whether its numbers are out of range, or were given before, is said of that monitor
-unfoldable pub continuing : List Line → (Kind → Type 0) → (Monitor → Type 0) → (Monitor → Type 0) → Cases
-continuing ls right out again = record {
+unfoldable pub continuing : List Line → (Kind → Type 0) → (Monitor → Type 0) → (ℕ → Type 0) → (Monitor → Type 0) → Cases
+continuing ls right out clash again = record {
   misformed = ⊥;
   misplaced = OfLatest (λ m. right (m .kind)) (latest (monitors ls)) → ⊥;
   out-of-range = OfLatest out (latest (monitors ls));
-  clash = never;
+  clash = clash;
   again = OfLatest again (latest (monitors ls));
   too-many = ⊥;
 }
@@ -358,6 +368,9 @@ IsMon k = (S : ℕ) × (a : ℕ) × (k ≡ mon S a)
 
 unfoldable pub IsBal : Kind → Type 0
 IsBal k = (lo : ℤ) × (hi : ℤ) × (k ≡ bal lo hi)
+
+unfoldable pub IsDay : Kind → Type 0
+IsDay k = (T : ℕ) × (k ≡ day T)
 
 -- 'an event named twice in `ord`'
 unfoldable pub Twice : List ℕ → Type 0
@@ -381,11 +394,14 @@ cases ls (begins k) = beginning ls k
 cases ls (continues (go s e t)) =
     continuing ls IsMon
     (λ m. (statesOf (m .kind) ≤ s) ⊎ ((eventsOf ls ≤ e) ⊎ (statesOf (m .kind) ≤ t)))
+    never
     (λ m. (u : ℕ) × In (go s e u) (m .parts))
 -- 'A state marked twice is 4, a state not below S is 3, a `stop` before any `mon` is 5.' (02 no. 4)
-cases ls (continues (stop s)) = continuing ls IsMon (λ m. statesOf (m .kind) ≤ s) (λ m. In (stop s) (m .parts))
+cases ls (continues (stop s)) = continuing ls IsMon (λ m. statesOf (m .kind) ≤ s) never (λ m. In (stop s) (m .parts))
 -- 'a signed step d, −15 to 15'; 'An event given twice is 4; an `amp` is 5 if the latest monitor isn't a `bal`.' (02 no. 6)
-cases ls (continues (amp e d)) = continuing ls IsBal (λ m. (eventsOf ls ≤ e) ⊎ Outsideℤ (negℤ (pos 15)) (pos 15) d) (λ m. (c : ℤ) × In (amp e c) (m .parts))
+cases ls (continues (amp e d)) = continuing ls IsBal (λ m. (eventsOf ls ≤ e) ⊎ Outsideℤ (negℤ (pos 15)) (pos 15) d) never (λ m. (c : ℤ) × In (amp e c) (m .parts))
+-- 'b at most T'; 'an `open` is 5 if the latest monitor isn't a `day`'; '18, a, which has no other range, not below b'; 'Several lines add up' (02 no. 7)
+cases ls (continues (opens e a b)) = continuing ls IsDay (λ m. (eventsOf ls ≤ e) ⊎ (statesOf (m .kind) < b)) (λ n. (n ≡ 18) × (b ≤ a)) (λ m. ⊥)
 cases ls other = record { misformed = Unit {0}; misplaced = ls ≡ []; out-of-range = ⊥; clash = never; again = ⊥; too-many = ⊥ }
 
 unfoldable pub Case2 : List Line → Line → Type 0
@@ -403,6 +419,9 @@ Case16 ls l = cases ls l .clash 16
 unfoldable pub Case17 : List Line → Line → Type 0
 Case17 ls l = cases ls l .clash 17
 
+unfoldable pub Case18 : List Line → Line → Type 0
+Case18 ls l = cases ls l .clash 18
+
 unfoldable pub Case4 : List Line → Line → Type 0
 Case4 ls l = cases ls l .again
 
@@ -415,13 +434,14 @@ Case6 ls l = cases ls l .too-many
 unfoldable pub Case1 : List ℕ → Type 0
 Case1 t = 65535 < length t
 
--- no case of 2 to 6, nor 16 or 17, holds of the line
+-- no case of 2 to 6, nor of 16 to 18, holds of the line
 pub record Sound (ls : List Line) (l : Line) : Type 0 where
   pub formed : Case2 ls l → ⊥
   pub placed : Case5 ls l → ⊥
   pub ranged : Case3 ls l → ⊥
   pub named-once : Case16 ls l → ⊥
   pub unequal : Case17 ls l → ⊥
+  pub nonempty : Case18 ls l → ⊥
   pub new : Case4 ls l → ⊥
   pub fits : Case6 ls l → ⊥
 
@@ -430,7 +450,7 @@ unfoldable pub AllSound : List Line → List Line → Type 0
 AllSound front [] = Unit {0}
 AllSound front (l ∷ back) = Sound front l × AllSound (front ++ (l ∷ [])) back
 
--- 'A rig is readable if no case of a check on its text, here 1 to 6, holds of it, whatever a call answers.' 16 (02 no. 2) and 17 (02 no. 5) are two more
+-- 'A rig is readable if no case of a check on its text, here 1 to 6, holds of it, whatever a call answers.' 16 (02 no. 2), 17 (02 no. 5) and 18 (02 no. 7) are three more
 pub record Readable (t : List ℕ) : Type 0 where
   pub short : Case1 t → ⊥
   pub sound : AllSound [] (decoded t)
@@ -443,7 +463,7 @@ pub record Readable (t : List ℕ) : Type 0 where
 abbrev pub first : Type 0 → Type 0 → Type 0 → Type 0
 first case says later = (case × says) ⊎ ((case → ⊥) × later)
 
--- 'on one line 2, 5, 3, 4, 6'; 16 'tested after 3' (02 no. 2), 17 'after 3' (02 no. 5): no line has both
+-- 'on one line 2, 5, 3, 4, 6'; 16 'tested after 3' (02 no. 2), 17 'after 3' (02 no. 5), 18 'after 3' (02 no. 7): no line has two of these
 unfoldable pub LineFault : List Line → Line → ℕ → Type 0
 LineFault ls l n =
     first (Case2 ls l) (n ≡ 2)
@@ -451,9 +471,10 @@ LineFault ls l n =
     (first (Case3 ls l) (n ≡ 3)
     (first (Case16 ls l) (n ≡ 16)
     (first (Case17 ls l) (n ≡ 17)
+    (first (Case18 ls l) (n ≡ 18)
     (first (Case4 ls l) (n ≡ 4)
     (first (Case6 ls l) (n ≡ 6)
-    ⊥))))))
+    ⊥)))))))
 
 -- 'Checks go in the table's order, but 2 to 6 are made line by line and the first bad line counts'; 'line, from 1'; 'at the end, lines + 1'
 unfoldable pub Fault : List ℕ → ℕ → ℕ → Type 0
