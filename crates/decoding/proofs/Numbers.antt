@@ -16,7 +16,7 @@ use types.Run.{OneOf}
 use denote.Enum.Declared.{tagOf}
 use Rattle.lists.specs.Lists.{pick, indexOf}
 use Rattle.lists.proofs.Tests.{case}
-use Rattle.promises.specs.Text.{Line, ord, other, bytes, splitOn, same, fields, digitsValue, number, field, endOr, end, one, two, three, four, twoSigned, thenSigned, oneOrTwo, anyNumber, form, decode}
+use Rattle.promises.specs.Text.{Line, rig, ord, begins, continues, other, mon, gap, reply, bal, day, go, stop, amp, opens, bytes, splitOn, same, fields, digitsValue, number, field, endOr, end, one, two, three, four, twoSigned, thenSigned, oneOrTwo, anyNumber, form, decode}
 use Rattle.promises.proofs.Pieces.{splitOn-some}
 use Rattle.promises.proofs.Spelling.{same-tells}
 use Rattle.decoding.specs.declared.Field.the-variants.{Last, More, Bad}
@@ -225,10 +225,6 @@ module _ (l : List ℕ) (end : ℕ) (e : end ≡ indexOf l 9) where
   unfolding fieldsFrom
   decode-more h = decode-first ∙ rw (lt-ltb end (length l) h, rest-whole l (end + 1))
 
-  -- by its word
-  pub decode-word : (w : String) → end < length l → same (take end l) (bytes w) ≡ true → decode l ≡ form (bytes w ∷ fields (take (length l - (end + 1)) (drop (end + 1) l)))
-  decode-word w h p = decode-more h ∙ ap (λ w. form (w ∷ fields (take (length l - (end + 1)) (drop (end + 1) l)))) (same-tells (take end l) (bytes w) .yes p)
-
   pub decode-ord : same (take end l) (bytes "ord") ≡ true → decode l ≡ anyNumber (λ es. ord es) (fieldsFrom l end)
   unfolding form same
   decode-ord p = decode-first ∙ ap (λ w. form (w ∷ fieldsFrom l end)) (same-tells (take end l) (bytes "ord") .yes p)
@@ -238,15 +234,11 @@ module _ (l : List ℕ) (end : ℕ) (e : end ≡ indexOf l 9) where
   unfolding fieldsFrom form one two three four twoSigned thenSigned oneOrTwo field
   decode-alone h p =
       decode-first ∙ rw (le-ltb end (length l) h, p)
-      (either (same (take end l) (bytes "rig")) (either (same (take end l) (bytes "mon")) (either (same (take end l) (bytes "go")) (either (same (take end l) (bytes "stop")) (either (same (take end l) (bytes "gap")) (either (same (take end l) (bytes "reply")) (either (same (take end l) (bytes "bal")) (either (same (take end l) (bytes "amp")) refl))))))))
+      (either (same (take end l) (bytes "rig")) (either (same (take end l) (bytes "mon")) (either (same (take end l) (bytes "go")) (either (same (take end l) (bytes "stop")) (either (same (take end l) (bytes "gap")) (either (same (take end l) (bytes "reply")) (either (same (take end l) (bytes "bal")) (either (same (take end l) (bytes "amp")) (either (same (take end l) (bytes "day")) (either (same (take end l) (bytes "open")) refl))))))))))
     where
       either : (b : Bool) {k : Line} → k ≡ other → pick b other k ≡ other
       either true q = refl
       either false q = q
-
--- a word is no other
-pub other-word : (w u v : List ℕ) → same w u ≡ true → same u v ≡ false → same w v ≡ false
-other-word w u v p q = ap (λ x. same x v) (same-tells w u .yes p) ∙ q
 
 -- what a line lists
 module _ (l : List ℕ) (end : ℕ) (e : end ≡ indexOf l 9) where
@@ -258,8 +250,54 @@ module _ (l : List ℕ) (end : ℕ) (e : end ≡ indexOf l 9) where
   unfolding listedIn
   listed-none p = rw (← e, p)
 
+-- the fields after each word
 module _ (w : List ℕ) (fs : List (List ℕ)) where
+  same-form : (v : String) → same w (bytes v) ≡ true → form (w ∷ fs) ≡ form (bytes v ∷ fs)
+  same-form v p = ap (λ w. form (w ∷ fs)) (same-tells w (bytes v) .yes p)
+
+  pub form-rig : same w (bytes "rig") ≡ true → form (w ∷ fs) ≡ one (λ E. rig E) fs
+  unfolding form same
+  form-rig p = same-form "rig" p
+
+  pub form-mon : same w (bytes "mon") ≡ true → form (w ∷ fs) ≡ oneOrTwo (λ S. begins (mon S 0)) (λ S a. begins (mon S a)) fs
+  unfolding form same
+  form-mon p = same-form "mon" p
+
+  pub form-go : same w (bytes "go") ≡ true → form (w ∷ fs) ≡ three (λ s e t. continues (go s e t)) fs
+  unfolding form same
+  form-go p = same-form "go" p
+
+  pub form-stop : same w (bytes "stop") ≡ true → form (w ∷ fs) ≡ one (λ s. continues (stop s)) fs
+  unfolding form same
+  form-stop p = same-form "stop" p
+
+  pub form-gap : same w (bytes "gap") ≡ true → form (w ∷ fs) ≡ two (λ e n. begins (gap e n)) fs
+  unfolding form same
+  form-gap p = same-form "gap" p
+
+  pub form-reply : same w (bytes "reply") ≡ true → form (w ∷ fs) ≡ four (λ a b lo hi. begins (reply a b lo hi)) fs
+  unfolding form same
+  form-reply p = same-form "reply" p
+
+  pub form-bal : same w (bytes "bal") ≡ true → form (w ∷ fs) ≡ twoSigned (λ lo hi. begins (bal lo hi)) fs
+  unfolding form same
+  form-bal p = same-form "bal" p
+
+  pub form-amp : same w (bytes "amp") ≡ true → form (w ∷ fs) ≡ thenSigned (λ e d. continues (amp e d)) fs
+  unfolding form same
+  form-amp p = same-form "amp" p
+
+  pub form-day : same w (bytes "day") ≡ true → form (w ∷ fs) ≡ one (λ T. begins (day T)) fs
+  unfolding form same
+  form-day p = same-form "day" p
+
+  pub form-open : same w (bytes "open") ≡ true → form (w ∷ fs) ≡ three (λ e a b. continues (opens e a b)) fs
+  unfolding form same
+  form-open p = same-form "open" p
+
+  -- a word that is none of these
   pub form-other : same w (bytes "rig") ≡ false → same w (bytes "mon") ≡ false → same w (bytes "go") ≡ false → same w (bytes "ord") ≡ false → same w (bytes "stop") ≡ false
-      → same w (bytes "gap") ≡ false → same w (bytes "reply") ≡ false → same w (bytes "bal") ≡ false → same w (bytes "amp") ≡ false → form (w ∷ fs) ≡ other
+      → same w (bytes "gap") ≡ false → same w (bytes "reply") ≡ false → same w (bytes "bal") ≡ false → same w (bytes "amp") ≡ false → same w (bytes "day") ≡ false → same w (bytes "open") ≡ false
+      → form (w ∷ fs) ≡ other
   unfolding form
-  form-other p q r o s g y b a = rw (p, q, r, o, s, g, y, b, a)
+  form-other p q r o s g y b a d n = rw (p, q, r, o, s, g, y, b, a, d, n)

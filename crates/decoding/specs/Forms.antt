@@ -23,7 +23,7 @@ use lib.IntN.{ℤ}
 use lib.ListN.{length, take, drop}
 use lib.Dec.{ltb}
 use Rattle.lists.specs.Lists.{pick, indexOf}
-use Rattle.promises.specs.Text.{Line, rig, ord, begins, continues, other, mon, gap, reply, bal, go, stop, amp, number, fields, same, bytes}
+use Rattle.promises.specs.Text.{Line, rig, ord, begins, continues, other, mon, gap, reply, bal, day, go, stop, amp, opens, number, fields, same, bytes}
 use Rattle.promises.specs.Text as text
 use Rattle.decoding.specs.declared.Decimal.{Decimal}
 use Rattle.decoding.specs.declared.Decimal.the-variants.{Value, Wrong}
@@ -34,11 +34,11 @@ use Rattle.decoding.specs.declared.Form.the-variants.{Rig, Ord, Begins, 
 use Rattle.decoding.specs.declared.Integer.{Integer}
 use Rattle.decoding.specs.declared.Integer.the-variants as integers
 use Rattle.decoding.specs.declared.Kind.{Kind}
-use Rattle.decoding.specs.declared.Kind.the-variants.{Mon, Gap, Reply, Bal}
+use Rattle.decoding.specs.declared.Kind.the-variants.{Mon, Gap, Reply, Bal, Day}
 use Rattle.decoding.specs.declared.Pair.{Pair}
 use Rattle.decoding.specs.declared.Pair.the-variants.{Both, Neither}
 use Rattle.decoding.specs.declared.Part.{Part}
-use Rattle.decoding.specs.declared.Part.the-variants.{Go, Stop, Amp}
+use Rattle.decoding.specs.declared.Part.the-variants.{Go, Stop, Amp, Open}
 
 abbrev pub valueOf : Decimal → Option ℕ
 valueOf (Value n) = some n
@@ -53,11 +53,13 @@ kindOf (mon S a) = Mon S a
 kindOf (gap e n) = Gap e n
 kindOf (reply a b lo hi) = Reply a b lo hi
 kindOf (bal lo hi) = Bal lo hi
+kindOf (day T) = Day T
 
 abbrev pub partOf : text.Part → Part
 partOf (go s e t) = Go s e t
 partOf (stop s) = Stop s
 partOf (amp e d) = Amp e d
+partOf (opens e a b) = Open e a b
 
 abbrev pub formOf : Line → Form
 formOf (rig E) = Rig E

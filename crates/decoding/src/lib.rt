@@ -1,10 +1,12 @@
 // A line's bytes as its form: the word, and the numbers of its fields.
 ghost use mathlib.Core.Path.{_≡_};
+ghost use mathlib.Core.Bool.{false};
+ghost use mathlib.Core.List.{_∷_};
 ghost use Prim.Native.Nat.{ℕ, _≤_, min};
 ghost use lib.IntN.{ℤ};
 ghost use lib.ListN.{length};
 ghost use Rattle.lists.specs.Lists.{indexOf};
-ghost use Rattle.promises.specs.Text.{Line, ord, begins, mon, gap, reply, bal, continues, go, stop, amp, one, two, three, four, oneSigned, twoSigned, thenSigned, oneOrTwo, anyNumber, fields};
+ghost use Rattle.promises.specs.Text.{Line, rig, ord, begins, mon, gap, reply, bal, day, continues, go, stop, amp, opens, one, two, three, four, oneSigned, twoSigned, thenSigned, oneOrTwo, anyNumber, bytes, fields};
 ghost use Rattle.promises.specs.Text as text;
 ghost use Rattle.decoding.specs.Forms.{valueOf, signedOf, fieldOf, orOther, signedOr, pairOr, fieldsFrom, leading, listedIn, over, formOf};
 
@@ -20,19 +22,21 @@ enum Integer {
     Wrong,
 }
 
-// A line that begins a monitor, with its numbers: `mon`, S and the start; `gap`, e, n; `reply`, a, b, lo, hi; `bal`, lo, hi.
+// A line that begins a monitor, with its numbers: `mon`, S and the start; `gap`, e, n; `reply`, a, b, lo, hi; `bal`, lo, hi; `day`, T.
 pub enum Kind {
     Mon(usize, usize),
     Gap(usize, usize),
     Reply(usize, usize, usize, usize),
     Bal(i64, i64),
+    Day(usize),
 }
 
-// A line of the latest monitor, with its numbers: `go`, s, e, t; `stop`, s; `amp`, e, d.
+// A line of the latest monitor, with its numbers: `go`, s, e, t; `stop`, s; `amp`, e, d; `open`, e, a, b.
 pub enum Part {
     Go(usize, usize, usize),
     Stop(usize),
     Amp(usize, i64),
+    Open(usize, usize, usize),
 }
 
 // A line's form. `Ord` has how many events are listed; the events themselves are left in a lent list.
@@ -192,6 +196,16 @@ fn only_signed(rest: &[u8]) -> Integer
     signed(rest)
 }
 
+// `rig`, E
+fn rig_form(rest: &[u8]) -> Form
+    ensures { λ r. ⌜ r ≡ formOf (one (λ E. rig E) (fields (now (rest .entry)))) ⌝ }
+{
+    match only_number(rest) {
+        Decimal::Value(e) => Form::Rig(e),
+        Decimal::Wrong => Form::Other,
+    }
+}
+
 // `mon`, S, start; or `mon`, S, which starts in 0
 fn mon_form(rest: &[u8]) -> Form
     ensures { λ r. ⌜ r ≡ formOf (oneOrTwo (λ S. begins (mon S 0)) (λ S a. begins (mon S a)) (fields (now (rest .entry)))) ⌝ }
@@ -305,6 +319,29 @@ fn stop_form(rest: &[u8]) -> Form
     }
 }
 
+// `day`, T
+fn day_form(rest: &[u8]) -> Form
+    ensures { λ r. ⌜ r ≡ formOf (one (λ T. begins (day T)) (fields (now (rest .entry)))) ⌝ }
+{
+    match only_number(rest) {
+        Decimal::Value(t) => Form::Begins(Kind::Day(t)),
+        Decimal::Wrong => Form::Other,
+    }
+}
+
+// `open`, e, a, b
+fn open_form(rest: &[u8]) -> Form
+    ensures { λ r. ⌜ r ≡ formOf (three (λ e a b. continues (opens e a b)) (fields (now (rest .entry)))) ⌝ }
+{
+    let Field::More(e, next) = read_field(rest) else {
+        return Form::Other;
+    };
+    match only_pair(&rest[next..]) {
+        Pair::Both(a, b) => Form::Continues(Part::Open(e, a, b)),
+        Pair::Neither => Form::Other,
+    }
+}
+
 // A number as a byte: 255 where it is larger, which is no event.
 fn as_byte(n: usize) -> u8
     ensures { λ b. ⌜ b ≡ min n 255 ⌝ }
@@ -334,6 +371,44 @@ fn ord_form(line: &[u8], at: usize, order: &mut [u8]) -> Form
     Form::Ord(count)
 }
 
+// The form of a line with fields, by its word, which is not `ord`.
+fn word_form(word: &[u8], rest: &[u8]) -> Form
+    requires { ⌜ text.same (now word) (bytes "ord") ≡ false ⌝ }
+    ensures { λ r. ⌜ r ≡ formOf (text.form (now (word .entry) ∷ fields (now (rest .entry)))) ⌝ }
+{
+    if same(word, b"go") {
+        return go_form(rest);
+    }
+    if same(word, b"stop") {
+        return stop_form(rest);
+    }
+    if same(word, b"amp") {
+        return amp_form(rest);
+    }
+    if same(word, b"open") {
+        return open_form(rest);
+    }
+    if same(word, b"mon") {
+        return mon_form(rest);
+    }
+    if same(word, b"gap") {
+        return gap_form(rest);
+    }
+    if same(word, b"reply") {
+        return reply_form(rest);
+    }
+    if same(word, b"bal") {
+        return bal_form(rest);
+    }
+    if same(word, b"day") {
+        return day_form(rest);
+    }
+    if same(word, b"rig") {
+        return rig_form(rest);
+    }
+    Form::Other
+}
+
 // The form that a line is. The numbers of an `ord` line, up to a field that is none, are written over the front of `order`, as bytes.
 pub fn decode(line: &[u8], order: &mut [u8]) -> Form
     ensures { λ r. ⌜ r ≡ formOf (text.decode (now (line .entry))) ⌝ }
@@ -341,39 +416,12 @@ pub fn decode(line: &[u8], order: &mut [u8]) -> Form
 {
     let end = until(line, 9);
     let word = &line[..end];
-    if end < line.len() {
-        let a = end + 1;
-        let rest = &line[a..];
-        if same(word, b"rig") {
-            return match only_number(rest) {
-                Decimal::Value(e) => Form::Rig(e),
-                Decimal::Wrong => Form::Other,
-            };
-        }
-        if same(word, b"mon") {
-            return mon_form(rest);
-        }
-        if same(word, b"go") {
-            return go_form(rest);
-        }
-        if same(word, b"stop") {
-            return stop_form(rest);
-        }
-        if same(word, b"gap") {
-            return gap_form(rest);
-        }
-        if same(word, b"reply") {
-            return reply_form(rest);
-        }
-        if same(word, b"bal") {
-            return bal_form(rest);
-        }
-        if same(word, b"amp") {
-            return amp_form(rest);
-        }
-    }
     if same(word, b"ord") {
         return ord_form(line, end, order);
     }
-    Form::Other
+    if line.len() <= end {
+        return Form::Other; // no field
+    }
+    let next = end + 1;
+    word_form(word, &line[next..])
 }

@@ -7,23 +7,18 @@ use borrow.Author.Needs.{needs}
 use Rattle.decoding.proofs.gap_form.Statement.{statement}
 use Rattle.decoding.proofs.gap_form.Tie as tie
 
--- src/lib.rt:195:11
 only-pair-requires : tie.Need-only-pair-requires
 only-pair-requires c κs = search needs
 
--- src/lib.rt:196:20
 enum-known-e : tie.Need-enum-known-e
 enum-known-e c = search needs
 
--- src/lib.rt:197:26
 enum-told : tie.Need-enum-told
 enum-told c = search needs
 
--- src/lib.rt:192:1
 returns : tie.Need-returns
 returns c = ap formOf (sym (c .before .before .before .only-pair .ensures (λ e n. begins (gap e n)) ∙ ap (pairOr (λ e n. begins (gap e n))) (c .before .e .given .1)))
 
--- src/lib.rt:192:1
 returns-2 : tie.Need-returns-2
 returns-2 c = ap formOf (sym (c .before .before .only-pair .ensures (λ e n. begins (gap e n)) ∙ ap (pairOr (λ e n. begins (gap e n))) (c .enum-told .given .1)))
 

@@ -10,42 +10,33 @@ use borrow.Author.Needs.{needs}
 use Rattle.decoding.proofs.reply_form.Statement.{statement}
 use Rattle.decoding.proofs.reply_form.Tie as tie
 
--- src/lib.rt:205:29
 abbrev line : ℕ → ℕ → ℕ → ℕ → Line
 line a b lo hi = begins (reply a b lo hi)
 
 read-field-requires : tie.Need-read-field-requires
 read-field-requires c κs = search needs
 
--- src/lib.rt:205:21
 enum-known-a : tie.Need-enum-known-a
 enum-known-a c = search needs
 
--- src/lib.rt:206:9
 returns : tie.Need-returns
 returns c = ap formOf (sym (four-short line (c .before .before .before .args .rest .now) _ (c .before .read-field .ensures) (short (c .before .read-field .result) (c .match .keys2))))
 
--- src/lib.rt:208:18
 sub-second : tie.Need-sub-second
 sub-second c = next-le (c .before .before .before .before .before .args .rest .now) _ _ (sym (c .before .before .before .read-field .ensures) ∙ c .before .a .given .1)
 
--- src/lib.rt:208:18
 part-second-start : tie.Need-part-second-start
 part-second-start c = next-le (c .before .before .before .before .before .args .rest .now) _ _ (sym (c .before .before .before .read-field .ensures) ∙ c .before .a .given .1)
 
--- src/lib.rt:208:18
 part-second-end : tie.Need-part-second-end
 part-second-end c = search needs
 
--- src/lib.rt:209:29
 read-field-requires-2 : tie.Need-read-field-requires-2
 read-field-requires-2 c κs = search needs
 
--- src/lib.rt:209:21
 enum-known-b : tie.Need-enum-known-b
 enum-known-b c = search needs
 
--- src/lib.rt:210:9
 returns-2 : tie.Need-returns-2
 returns-2 c =
     let l = c .before .before .before .before .before .before .before .before .args .rest .now in
@@ -53,37 +44,30 @@ returns-2 c =
     let m = take (length l - x .0 .1 .0) (drop (x .0 .1 .0) l) in
     ap formOf (sym (four-next line l _ _ (sym (x .1) ∙ c .before .before .before .before .before .before .read-field .ensures) ∙ three-short (line (x .0 .0)) m _ (c .before .read-field2 .ensures) (short (c .before .read-field2 .result) (c .match2 .keys2))))
 
--- src/lib.rt:212:21
 sub-only-pair : tie.Need-sub-only-pair
 sub-only-pair c =
     let l = c .before .before .before .before .before .before .before .before .before .before .args .rest .now in
     let n = c .before .before .before .before .before .before .a .given .0 .1 .0 in
     next-le (take (length l - n) (drop n l)) _ _ (sym (c .before .before .before .read-field2 .ensures) ∙ c .before .b .given .1)
 
--- src/lib.rt:212:21
 part-only-pair-start : tie.Need-part-only-pair-start
 part-only-pair-start c =
     let l = c .before .before .before .before .before .before .before .before .before .before .args .rest .now in
     let n = c .before .before .before .before .before .before .a .given .0 .1 .0 in
     next-le (take (length l - n) (drop n l)) _ _ (sym (c .before .before .before .read-field2 .ensures) ∙ c .before .b .given .1)
 
--- src/lib.rt:212:21
 part-only-pair-end : tie.Need-part-only-pair-end
 part-only-pair-end c = search needs
 
--- src/lib.rt:212:11
 only-pair-requires : tie.Need-only-pair-requires
 only-pair-requires c κs = search needs
 
--- src/lib.rt:213:20
 enum-known-lo : tie.Need-enum-known-lo
 enum-known-lo c = search needs
 
--- src/lib.rt:214:26
 enum-told : tie.Need-enum-told
 enum-told c = search needs
 
--- src/lib.rt:202:1
 returns-3 : tie.Need-returns-3
 returns-3 c =
     let l = c .before .before .before .before .before .before .before .before .before .before .before .before .before .before .before .args .rest .now in
@@ -92,7 +76,6 @@ returns-3 c =
     let y = c .before .before .before .before .before .before .b .given in
     ap formOf (sym (four-next line l _ _ (sym (x .1) ∙ c .before .before .before .before .before .before .before .before .before .before .before .before .before .read-field .ensures) ∙ three-next (line (x .0 .0)) m _ _ (sym (y .1) ∙ c .before .before .before .before .before .before .before .before .read-field2 .ensures) ∙ c .before .before .before .only-pair .ensures (line (x .0 .0) (y .0 .0)) ∙ ap (pairOr (line (x .0 .0) (y .0 .0))) (c .before .lo .given .1)))
 
--- src/lib.rt:202:1
 returns-4 : tie.Need-returns-4
 returns-4 c =
     let l = c .before .before .before .before .before .before .before .before .before .before .before .before .before .before .args .rest .now in
