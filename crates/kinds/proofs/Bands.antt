@@ -14,7 +14,7 @@ use Rattle.lists.proofs.Integers.{not-belowℤ, leℤ-trans, mag-add, mag-minus
 use Rattle.promises.specs.Text.{Kind, bal, statesOf}
 use Rattle.promises.specs.Reading.{outsideℤ}
 use Rattle.promises.proofs.Lines.{Ranged, in-range, band, few-states, start-below}
-use Rattle.promises.proofs.Reading.{tells-out, tells-equal, tells-outsideℤ}
+use Rattle.promises.proofs.KindTests.{tells-out, tells-equal, tells-outsideℤ}
 use Rattle.kinds.specs.Kinds.{InRange}
 
 pub ranged : (k : Kind) (r : InRange k) → Ranged (r .0) k

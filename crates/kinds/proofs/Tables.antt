@@ -1,10 +1,10 @@
--- The tables after a line that begins a monitor, and after one that gives a step: the monitor's own part holds its kind's automaton, the other parts are as they
+-- The tables after a line that begins a monitor, and after one that gives a step or hours: the monitor's own part holds its kind's automaton, the other parts are as they
 -- were. Assumes nothing.
 --   Blank mv sp m      == part m of the tables has no move and no mark
 --   OfKind mv sp m E k ps == it has the moves and marks of a monitor of the kind k with the further lines ps
 use mathlib.Core.Path.{_≡_, refl, sym, ap, _∙_}
 use mathlib.Core.Logic.{_≢_, ⊎-elim}
-use mathlib.Core.Bool.{true}
+use mathlib.Core.Bool.{Bool, true}
 use mathlib.Core.List.{List, [], _∷_}
 use mathlib.Core.Option.{orElse}
 use Prim.Native.Nat.{ℕ, zero, suc, _+_, _≤_, _<_}
@@ -12,17 +12,17 @@ use native.Mathlib.Nat.{eq-or-lt-of-le, le-of-suc-le-suc, not-suc-le-zero}
 use native.Mathlib.Numerals.{add-one}
 use native.Mathlib.Omega.{arith}
 use lib.IntN.{ℤ, pos}
-use lib.ListN.{length, getD}
+use lib.ListN.{length, getD, set}
 use borrow.Author.Tests.{le-ltb, eq-eqb}
 use Rattle.lists.specs.Lists.{pick, overwrite, firstOf}
 use Rattle.lists.proofs.Tests.{case, contra}
-use Rattle.lists.proofs.Tables.{length-overwrite, overwrite-at, overwrite-beside}
-use Rattle.promises.specs.Text.{Kind, mon, gap, reply, bal, Part, amp, statesOf}
+use Rattle.lists.proofs.Tables.{length-overwrite, overwrite-at, overwrite-beside, overwrite-more}
+use Rattle.promises.specs.Text.{Kind, mon, gap, reply, bal, day, Part, amp, statesOf}
 use Rattle.promises.specs.Meaning.{stepIn, stepOf}
-use Rattle.promises.specs.Reading.{leadsTo, markedBy, isMon}
+use Rattle.promises.specs.Reading.{leadsTo, opensBy, isMon}
 use Rattle.promises.specs.Rig.{nextOf, markedOf}
 use Rattle.rig.specs.Record.{moveIndex, moveAt, stopIndex, stopAt}
-use Rattle.kinds.specs.Kinds.{entryOf, withRows, kindMoves, kindStops}
+use Rattle.kinds.specs.Kinds.{entryOf, withRows, kindMoves, kindStops, hourOf, withHours}
 
 pub record Blank (mv sp : List ℕ) (m : ℕ) : Type 0 where
   pub no-move : (s u : ℕ) → s < 32 → u < 16 → moveAt mv m s u ≡ 255
@@ -70,11 +70,12 @@ module _ (mv : List ℕ) (m u w : ℕ) (k : Kind) (d : ℤ) (events : u + w ≤ 
 
 -- an event without an `amp` line has step 0
 no-step : (k : Kind) (s u : ℕ) → nextOf k (amp u (pos 0) ∷ []) s u ≡ nextOf k [] s u
-unfolding nextOf firstOf leadsTo stepOf stepIn orElse
+unfolding nextOf firstOf leadsTo stepOf stepIn orElse opensBy
 no-step (mon S a) s u = refl
 no-step (gap e n) s u = refl
 no-step (reply a b lo hi) s u = refl
 no-step (bal lo hi) s u = rw (eq-eqb u u refl)
+no-step (day T) s u = refl
 
 -- ---- the line that begins a monitor
 
@@ -104,10 +105,34 @@ module _ (mv sp : List ℕ) (m E : ℕ) (k : Kind) (hm : m < 4) (fewE : E ≤ 16
   }))
     where
       no-line : (k : Kind) → isMon k ≡ true → Blank mv sp m → statesOf k ≤ 32 → OfKind mv sp m E k []
-      no-line (mon S a) q b few = unfold nextOf markedOf firstOf markedBy statesOf in record {
+      no-line (mon S a) q b few = unfold nextOf markedOf firstOf statesOf in record {
         moves = λ s u hs hu. b .no-move s u (omega arith) (omega arith) ∙ sym (ap (λ t. pick t S 255) (le-ltb S S (omega arith)));
         marks = λ s hs. b .no-mark s (omega arith);
       }
       no-line (gap e n) q b few = contra q refl
       no-line (reply x y lo hi) q b few = contra q refl
       no-line (bal lo hi) q b few = contra q refl
+      no-line (day T) q b few = contra q refl
+
+-- ---- an `open` line
+
+module _ (mv : List ℕ) (m T e a b : ℕ) (first : Bool) where
+  pub length-hours : (n : ℕ) → length (withHours mv m T e a b first n) ≡ length mv
+  unfolding withHours
+  length-hours n = length-overwrite mv (λ s. moveIndex m s e) (λ s. hourOf T a b first s (moveAt mv m s e)) n
+
+  -- one step more
+  pub hours-more : (n x : ℕ) → x ≡ hourOf T a b first n (moveAt mv m n e) → set (withHours mv m T e a b first n) (moveIndex m n e) x ≡ withHours mv m T e a b first (n + 1)
+  unfolding withHours
+  hours-more n x q = overwrite-more mv (λ s. moveIndex m s e) (λ s. hourOf T a b first s (moveAt mv m s e)) n x q
+
+  -- an entry of another monitor, of a later step, or of another event
+  pub hours-beside : (n i x y : ℕ) → n ≤ 32 → e < 16 → x < 32 → y < 16 → (i ≡ m → x < n → y ≡ e → ⊥) → moveAt (withHours mv m T e a b first n) i x y ≡ moveAt mv i x y
+  unfolding withHours
+  hours-beside n i x y h he hx hy o =
+      overwrite-beside mv (λ s. moveIndex m s e) (λ s. hourOf T a b first s (moveAt mv m s e)) n (moveIndex i x y) 0 (λ s l q. o (omega arith) (omega arith) (omega arith))
+
+  pub hours-at : (n s : ℕ) → n ≤ 32 → m < 4 → e < 16 → length mv ≡ 2048 → s < n → moveAt (withHours mv m T e a b first n) m s e ≡ hourOf T a b first s (moveAt mv m s e)
+  unfolding withHours
+  hours-at n s h hm he long l =
+      overwrite-at mv (λ s. moveIndex m s e) (λ s. hourOf T a b first s (moveAt mv m s e)) (λ x y q. omega arith) n s 0 l (λ v b. omega arith)

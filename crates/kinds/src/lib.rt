@@ -1,17 +1,18 @@
 // The kinds of monitor: what a line that begins one says. Each function up to `mark` has a clause for each kind; the others fill the tables of any.
 use decoding::Kind;
 ghost use mathlib.Core.Path.{_≡_};
-ghost use mathlib.Core.Bool.{false};
+ghost use mathlib.Core.Bool.{false, _&&_};
 ghost use mathlib.Core.List.{[], _∷_};
 ghost use Prim.Native.Nat.{_+_, _≤_, _<_};
 ghost use lib.IntN.{pos, negℤ};
 ghost use lib.ListN.{length};
+ghost use lib.Dec.{leb, ltb};
 ghost use Rattle.lists.specs.Lists.{pick, overwrite};
 ghost use Rattle.promises.specs.Text.{bal, amp, statesOf, startOf};
 ghost use Rattle.promises.specs.Reading as promised;
 ghost use Rattle.promises.specs.Rig.{gapNext, replyNext, balNext, nextOf, markedOf};
 ghost use Rattle.rig.specs.Record.{stopIndex};
-ghost use Rattle.kinds.specs.Kinds.{asKind, InRange, monStates, bandOf, entryOf, withRows, kindMoves, kindStops};
+ghost use Rattle.kinds.specs.Kinds.{asKind, InRange, monStates, bandOf, daySteps, entryOf, withRows, kindMoves, kindStops, hourOf, withHours};
 
 // The band of a `bal`, from lo to hi; of any other kind the empty one, from 1 to 0.
 pub struct Band {
@@ -77,6 +78,7 @@ pub fn out_of_range(k: Kind, events: usize) -> bool
             }
             outside_signed(0, 15, hi)
         }
+        Kind::Day(t) => outside(2, 32, t),
     }
 }
 
@@ -89,6 +91,7 @@ pub fn equal(k: Kind) -> bool
         Kind::Gap(_, _) => false,
         Kind::Reply(a, b, _, _) => a == b,
         Kind::Bal(_, _) => false,
+        Kind::Day(_) => false,
     }
 }
 
@@ -110,6 +113,7 @@ pub fn states(k: Kind) -> usize
         Kind::Gap(_, n) => n,
         Kind::Reply(_, _, _, hi) => hi + 1,
         Kind::Bal(lo, hi) => band_states(lo, hi),
+        Kind::Day(t) => t,
     }
 }
 
@@ -123,6 +127,7 @@ pub fn start(k: Kind) -> usize
         Kind::Gap(_, _) => 0,
         Kind::Reply(_, _, _, _) => 0,
         Kind::Bal(lo, _) => (0 - lo) as usize, // the difference 0
+        Kind::Day(_) => 0,
     }
 }
 
@@ -135,6 +140,7 @@ fn is_mon(k: Kind) -> bool
         Kind::Gap(_, _) => false,
         Kind::Reply(_, _, _, _) => false,
         Kind::Bal(_, _) => false,
+        Kind::Day(_) => false,
     }
 }
 
@@ -147,6 +153,7 @@ pub fn mon_states(k: Kind) -> usize
         Kind::Gap(_, _) => 0,
         Kind::Reply(_, _, _, _) => 0,
         Kind::Bal(_, _) => 0,
+        Kind::Day(_) => 0,
     }
 }
 
@@ -159,6 +166,20 @@ pub fn band_of(k: Kind) -> Band
         Kind::Gap(_, _) => Band { lo: 1, hi: 0 },
         Kind::Reply(_, _, _, _) => Band { lo: 1, hi: 0 },
         Kind::Bal(lo, hi) => Band { lo, hi },
+        Kind::Day(_) => Band { lo: 1, hi: 0 },
+    }
+}
+
+// How many steps the hours of an `open` line can be of: those of a `day`.
+pub fn day_steps(k: Kind) -> usize
+    ensures { λ n. ⌜ n ≡ daySteps k ⌝ }
+{
+    match k {
+        Kind::Mon(_, _) => 0,
+        Kind::Gap(_, _) => 0,
+        Kind::Reply(_, _, _, _) => 0,
+        Kind::Bal(_, _) => 0,
+        Kind::Day(t) => t,
     }
 }
 
@@ -223,6 +244,7 @@ fn next(k: Kind, d: i64, s: usize, u: usize) -> usize
         Kind::Gap(e, n) => gap_next(e, n, s, u),
         Kind::Reply(a, b, lo, hi) => reply_next(a, b, lo, hi, s, u),
         Kind::Bal(lo, hi) => bal_next(lo, hi, d, s),
+        Kind::Day(t) => (s + 1) % t, // the day repeats
     }
 }
 
@@ -235,6 +257,7 @@ fn mark(k: Kind, s: usize) -> u8
         Kind::Gap(_, _) => 1,
         Kind::Reply(_, _, _, _) => { if s == 0 { 1 } else { 0 } }
         Kind::Bal(_, _) => 1,
+        Kind::Day(_) => 1,
     }
 }
 
@@ -295,4 +318,39 @@ pub fn fill_tables(moves: &mut [u8], stops: &mut [u8], m: usize, events: usize, 
     }
     fill_moves(moves, m, 0, events, k, 0); // every step is 0
     fill_marks(stops, m, k);
+}
+
+// ---- the hours of an event
+
+// Whether step s is one of the hours from a up to but not including b.
+fn in_hours(a: usize, b: usize, s: usize) -> bool
+    ensures { λ r. ⌜ r ≡ (leb a s && ltb s b) ⌝ }
+{
+    if s < a {
+        return false;
+    }
+    s < b
+}
+
+// The move from step s of a day of t steps, with the hours of one `open` line more: to the next step in them; from another step as before, or none if the line
+// is the first of its event.
+fn hour(t: usize, a: usize, b: usize, first: bool, s: usize, before: u8) -> u8
+    requires { ⌜ (1 ≤ t) × (t ≤ 32) × (s ≤ 31) ⌝ }
+    ensures { λ r. ⌜ r ≡ hourOf t a b first s before ⌝ }
+{
+    if in_hours(a, b, s) {
+        return ((s + 1) % t) as u8;
+    }
+    if first { 255 } else { before }
+}
+
+// The moves of monitor m, a `day` of t steps, on event e with one `open` line more: 'Several lines add up', and the first closes the steps not in its hours.
+pub fn fill_hours(moves: &mut [u8], m: usize, t: usize, e: usize, a: usize, b: usize, first: bool)
+    requires { ⌜ (length (now moves) ≡ 2048) × (m < 4) × (e < 16) × (1 ≤ t) × (t ≤ 32) ⌝ }
+    ensures { λ _. ⌜ now (moves .exit) ≡ withHours (now (moves .entry)) m t e a b first t ⌝ }
+{
+    for s in 0..t {
+        let at = (m * 32 + s) * 16 + e;
+        moves[at] = hour(t, a, b, first, s, moves[at]);
+    }
 }

@@ -1,6 +1,6 @@
 -- The word is what stands before the first byte 9, and the rest of the fields stand after it; without a byte 9 there is no field but the word.
 -- Assumes nothing.
-use mathlib.Core.Path.{_≡_, refl, sym, _∙_}
+use mathlib.Core.Path.{sym, _∙_}
 use lib.Seq.{length-take-le}
 use Rattle.decoding.specs.Forms.{over}
 use Rattle.decoding.proofs.Parts.{indexOf-le}

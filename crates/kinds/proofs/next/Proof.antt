@@ -3,6 +3,7 @@
 use mathlib.Core.Path.{_≡_, refl, subst}
 use mathlib.Core.Option.{orElse}
 use Prim.Native.Nat.{_+_, _≤_}
+use native.Mathlib.Numerals.{add-one}
 use native.Mathlib.Omega.{arith}
 use mir.Syntax.{w64}
 use mir.Val.{toZ, ofZ}
@@ -11,8 +12,8 @@ use borrow.Author.Tests.{eq-eqb}
 use Rattle.lists.specs.Lists.{firstOf}
 use Rattle.promises.specs.Text.{statesOf}
 use Rattle.promises.specs.Meaning.{stepIn, stepOf}
-use Rattle.promises.specs.Reading.{leadsTo}
-use Rattle.promises.specs.Rig.{nextOf}
+use Rattle.promises.specs.Reading.{leadsTo, opensBy}
+use Rattle.promises.specs.Rig.{dayNext, nextOf}
 use Rattle.kinds.specs.Kinds.{asKind, InRange}
 use Rattle.kinds.proofs.Bands.{few, some-state}
 use borrow.Author.Needs.{needs}
@@ -44,6 +45,15 @@ bal-next-requires c κs =
     let hi : toZ w64 (ofZ w64 (k .0 .1 .0)) ≡ k .0 .1 .0 = search needs in
     rw (lo, hi, toZ-ofZ w64 (c .before .before .before .args .d) (c .before .before .before .fits .d)) (subst (λ k. InRange (asKind k)) (k .1) (c .before .before .before .pre .0), c .before .before .before .pre .1, c .before .before .before .pre .2)
 
+enum-known-k-5 : tie.Need-enum-known-k-5
+enum-known-k-5 c = search needs
+
+add-result : tie.Need-add-result
+add-result c = search needs
+
+rem-result : tie.Need-rem-result
+rem-result c = let k = c .before .k5 .given in let h : 1 ≤ k .0 .0 = unfold statesOf in rw (k .1) at (some-state (asKind (c .before .before .before .args .k)) (c .before .before .before .pre .0)) in search needs
+
 returns : tie.Need-returns
 unfolding nextOf firstOf leadsTo orElse
 returns c = rw (c .before .k .given .1)
@@ -65,6 +75,10 @@ returns-4 c =
     let q = c .bal-next .ensures in
     rw (k .1, eq-eqb (c .before .before .before .before .args .u) (c .before .before .before .before .args .u) refl) (rw (lo, hi, toZ-ofZ w64 (c .before .before .before .before .args .d) (c .before .before .before .before .fits .d)) at q)
 
+returns-5 : tie.Need-returns-5
+unfolding nextOf opensBy dayNext
+returns-5 c = rw (c .before .k5 .given .1, add-one)
+
 pub next-spec : {M : Type 1} → statement M
 next-spec =
     tie.close
@@ -76,7 +90,11 @@ next-spec =
     reply-next-requires
     enum-known-k-4
     bal-next-requires
+    enum-known-k-5
+    add-result
+    rem-result
     returns
     returns-2
     returns-3
-    returns-4)
+    returns-4
+    returns-5)

@@ -60,6 +60,12 @@ returns-7 c =
 outside-signed-requires-2 : tie.Need-outside-signed-requires-2
 outside-signed-requires-2 c κs = search needs
 
+enum-known-k-5 : tie.Need-enum-known-k-5
+enum-known-k-5 c = search needs
+
+outside-requires-3 : tie.Need-outside-requires-3
+outside-requires-3 c κs = search needs
+
 returns-8 : tie.Need-returns-8
 returns-8 c = rw (c .before .before .before .k .given .1, sym (c .before .outside .ensures) ∙ c .if1 .left)
 
@@ -76,6 +82,9 @@ returns-11 c =
     let hi : toZ w64 (ofZ w64 (k .0 .1 .0)) ≡ k .0 .1 .0 = search needs in
     let q : outsideℤ (negℤ (pos 15)) (pos 0) (k .0 .0) ≡ false = rw lo at (sym (c .before .before .outside-signed .ensures) ∙ c .before .if7 .left) in
     rw (k .1, q) (rw hi at (c .outside-signed2 .ensures))
+
+returns-12 : tie.Need-returns-12
+returns-12 c = rw (c .before .before .k5 .given .1) (c .outside3 .ensures)
 
 pub out-of-range-spec : {M : Type 1} → statement M
 out-of-range-spec =
@@ -96,7 +105,10 @@ out-of-range-spec =
     outside-signed-requires
     returns-7
     outside-signed-requires-2
+    enum-known-k-5
+    outside-requires-3
     returns-8
     returns-9
     returns-10
-    returns-11)
+    returns-11
+    returns-12)

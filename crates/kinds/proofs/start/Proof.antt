@@ -42,6 +42,9 @@ cast-result c =
     let f = minus-fits (k .0 .0) (k .0 .1 .0) b in
     rw (lo, toZ-ofZ w64 (pos 0 -ℤ k .0 .0) f) (less-nonNeg (k .0 .0) (pos 0) (b .with-zero), record { fits = omega (arith, natAbs-le (pos 0 -ℤ k .0 .0) (f .sfits)) })
 
+enum-told-3 : tie.Need-enum-told-3
+enum-told-3 c = search needs
+
 returns : tie.Need-returns
 unfolding startOf
 returns c = rw (c .before .k .given .1)
@@ -62,6 +65,10 @@ returns-4 c =
     let b = bounds (k .0 .0) (k .0 .1 .0) (subst (λ k. InRange (asKind k)) (k .1) (c .before .before .before .pre)) in
     rw (lo, toZ-ofZ w64 (pos 0 -ℤ k .0 .0) (minus-fits (k .0 .0) (k .0 .1 .0) b), k .1) (minus-abs (k .0 .0))
 
+returns-5 : tie.Need-returns-5
+unfolding startOf
+returns-5 c = rw (c .enum-told3 .given .1)
+
 pub start-spec : {M : Type 1} → statement M
 start-spec =
     tie.close
@@ -72,7 +79,9 @@ start-spec =
     enum-known-k-2
     sub-result
     cast-result
+    enum-told-3
     returns
     returns-2
     returns-3
-    returns-4)
+    returns-4
+    returns-5)

@@ -34,6 +34,9 @@ band-states-requires c κs =
     let hi : toZ w64 (ofZ w64 (k .0 .1 .0)) ≡ k .0 .1 .0 = search needs in
     rw (lo, hi) (subst (λ k. InRange (asKind k)) (k .1) (c .before .before .before .pre))
 
+enum-known-k-5 : tie.Need-enum-known-k-5
+enum-known-k-5 c = search needs
+
 returns : tie.Need-returns
 unfolding statesOf
 returns c = rw (c .before .k .given .1)
@@ -54,6 +57,10 @@ returns-4 c =
     let q = c .band-states .ensures in
     rw (k .1) (rw (lo, hi) at q)
 
+returns-5 : tie.Need-returns-5
+unfolding statesOf
+returns-5 c = rw (c .before .k5 .given .1)
+
 pub states-spec : {M : Type 1} → statement M
 states-spec =
     tie.close
@@ -64,7 +71,9 @@ states-spec =
     add-result
     enum-known-k-4
     band-states-requires
+    enum-known-k-5
     returns
     returns-2
     returns-3
-    returns-4)
+    returns-4
+    returns-5)
