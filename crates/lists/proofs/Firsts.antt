@@ -1,9 +1,10 @@
 -- What is found first in a list. Assumes nothing.
 use mathlib.Core.Path.{_≡_, refl, sym, _∙_}
 use mathlib.Core.Logic.{_↔_}
+use mathlib.Core.Bool.{_||_}
 use mathlib.Core.List.{List, [], _∷_, _++_, List·Memᴰ as In, List·Memᴰ·head as here, List·Memᴰ·tail as there}
 use mathlib.Core.Option.{Option, none, some, orElse, Option·none-ne-some}
-use Rattle.lists.specs.Lists.{firstOf, isSome}
+use Rattle.lists.specs.Lists.{any, firstOf, isSome}
 use Rattle.lists.proofs.Tests.{contra}
 use Rattle.lists.proofs.Tells.{Tells}
 
@@ -20,6 +21,16 @@ module _ {A B : Type 0} (f : A → Option B) where
   first-snoc (y ∷ l) x = step (f y) (first-snoc l x)
     where
       step : (o : Option B) → firstOf f (l ++ (x ∷ [])) ≡ orElse (firstOf f l) (f x) → orElse o (firstOf f (l ++ (x ∷ []))) ≡ orElse (orElse o (firstOf f l)) (f x)
+      step none ih = ih
+      step (some u) ih = refl
+
+  -- something is found where some element has something
+  pub first-any : (l : List A) → isSome (firstOf f l) ≡ any (λ x. isSome (f x)) l
+  unfolding firstOf orElse
+  first-any [] = refl
+  first-any (x ∷ l) = step (f x) (first-any l)
+    where
+      step : (o : Option B) → isSome (firstOf f l) ≡ any (λ x. isSome (f x)) l → isSome (orElse o (firstOf f l)) ≡ (isSome o || any (λ x. isSome (f x)) l)
       step none ih = ih
       step (some u) ih = refl
 

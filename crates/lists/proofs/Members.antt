@@ -1,5 +1,5 @@
 -- Membership in lists that are mapped, joined and tested. Assumes nothing.
-use mathlib.Core.Path.{_≡_, refl, sym, ap, _∙_}
+use mathlib.Core.Path.{_≡_, refl, sym, ap, ap₂, _∙_}
 use mathlib.Core.Logic.{_⊎_, inl, inr, _↔_}
 use mathlib.Core.Bool.{Bool, true, _||_, or-false, or-assoc}
 use mathlib.Core.List.{List, [], _∷_, _++_, map}
@@ -26,6 +26,11 @@ any-in f (there {x = x} h) p = or-right (f x) (any-in f h p)
 pub any-snoc : {A : Type 0} (f : A → Bool) (l : List A) (x : A) → any f (l ++ (x ∷ [])) ≡ (any f l || f x)
 any-snoc f [] x = or-false (f x)
 any-snoc f (y ∷ l) x = ap (λ b. f y || b) (any-snoc f l x) ∙ sym (or-assoc (f y) (any f l) (f x))
+
+-- tests that say the same of every element
+pub any-alike : {A : Type 0} (f g : A → Bool) (l : List A) → ((x : A) → In x l → f x ≡ g x) → any f l ≡ any g l
+any-alike f g [] same = refl
+any-alike f g (x ∷ l) same = ap₂ _||_ (same x (here refl)) (any-alike f g l (λ y i. same y (there i)))
 
 -- lists with the same members pass the same tests
 pub any-same : (f : ℕ → Bool) (l m : List ℕ) → ((e : ℕ) → In e l ↔ In e m) → any f l ≡ any f m

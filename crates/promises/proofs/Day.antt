@@ -27,7 +27,7 @@ module _ (ps : List Part) where
       let t = tells-opens (λ a b. true) ps e in
       record { yes = λ q. let (a, b, i, h) = t .yes q in (a, b, i); no = λ q (a, b, i). t .no q (a, b, i, refl) }
 
-  tells-in : (e s : ℕ) → Tells (inHours ps e s) (InHours ps e s)
+  pub tells-in : (e s : ℕ) → Tells (inHours ps e s) (InHours ps e s)
   unfolding InHours
   tells-in e s =
       let t = tells-opens (λ a b. leb a s && ltb s b) ps e in

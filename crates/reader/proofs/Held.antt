@@ -1,12 +1,13 @@
 -- What the reader's state says of the lines that it has read, none of them bad: every test that the reader makes is the paper's, and a line more keeps it so.
 --   Tabled ms E mv sp ct st == the tables are those of the monitors ms over E events; past the last they are blank
---   Given ms gv        == the list gv has which events the `amp` lines of the monitors ms give a step
+--   names e p          == the line p gives event e a step, or hours
+--   Given ms gv        == the list gv has which events the lines of the monitors ms name so
 --   Holds r ls z mv sp gv ct st os == the sizes z, the tables mv, sp, gv, ct and st and the list os are those of the lines ls, read into the record r
 -- Assumes nothing.
 use mathlib.Core.Path.{_≡_, refl, sym, ap, ap₂, _∙_, subst}
 use mathlib.Core.Logic.{_≢_, ⊎-elim}
-use mathlib.Core.Bool.{Bool, true, false, not, _&&_, _||_}
-use mathlib.Core.List.{List, [], _∷_, _++_, List·Memᴰ as In}
+use mathlib.Core.Bool.{Bool, true, false, not, _&&_, _||_, or-false, and-true}
+use mathlib.Core.List.{List, [], _∷_, _++_, append-nil, append-assoc, List·Memᴰ as In}
 use mathlib.Core.Option.{Option, none, some, orElse}
 use Prim.Native.Nat.{ℕ, suc, _+_, _-_, _*_, _≤_, _<_}
 use native.Mathlib.Nat.{eq-or-lt-of-le}
@@ -15,33 +16,33 @@ use lib.IntN.{ℤ, pos, negℤ, natAbs, _+ℤ_, _-ℤ_, -ℤ-+ℤ-cancel}
 use lib.Signed.{clashℤ, pos-natAbs}
 use lib.ListN.{length, getD, take, drop, set, length-set, length-append}
 use lib.Seq.{getD-set-same, getD-set-other, take-at}
-use lib.Dec.{eqb, leb}
+use lib.Dec.{eqb, leb, ltb}
 use borrow.Author.Tests.{eq-eqb, ne-eqb, eqb-true, eqb-false, leb-false, not-false}
 use Rattle.lists.specs.Lists.{pick, any, firstOf, isSome}
 use Rattle.lists.proofs.Tables.{length-range, take-range}
-use Rattle.lists.proofs.Tests.{contra, case, and-left, and-right, or-left, or-rest}
+use Rattle.lists.proofs.Tests.{contra, case, and-left, and-right, or-left, or-right, or-rest}
 use Rattle.lists.proofs.Tells.{tells-false}
-use Rattle.lists.proofs.Firsts.{or-none, first-snoc}
+use Rattle.lists.proofs.Firsts.{first-any}
 use Rattle.lists.proofs.Integers.{tells-ltℤ, less-nonNeg, minus-back}
-use Rattle.lists.proofs.Members.{getD-in}
-use Rattle.promises.specs.Text.{Kind, mon, gap, reply, bal, Part, go, stop, amp, Line, rig, ord, begins, continues, other, Monitor, addPart, extended, monitorsFrom, monitors, statesOf, startOf, latest, product, eventsOf, reordered, orderFrom, orderOf, OutOfRange, beginning, cases, Case5}
+use Rattle.lists.proofs.Members.{any-snoc, any-alike, getD-in}
+use Rattle.promises.specs.Text.{Kind, mon, gap, reply, bal, day, Part, go, stop, amp, opens, Line, rig, ord, begins, continues, other, Monitor, addPart, extended, monitorsFrom, monitors, statesOf, startOf, latest, product, eventsOf, reordered, orderFrom, orderOf, OutOfRange, beginning, IsMon, IsBal, IsDay, cases, Case5}
 use Rattle.promises.specs.Meaning.{stepIn, stepBy}
-use Rattle.promises.specs.Reading.{empty, moveBy, markedBy, outsideℤ, isMon, isBal, testBeginning, ofLatest, testContinuing, tests, lineCase}
+use Rattle.promises.specs.Reading.{empty, moveBy, markedBy, opensBy, hasHours, outsideℤ, isMon, isBal, isDay, testBeginning, ofLatest, testContinuing, tests, lineCase}
 use Rattle.promises.proofs.Lines.{monitors-more, order-more, length-addPart, product-addPart, product-append, Ranged, PartRanged, Kept, Headed, Formed, band, few-states, begun, sound-formed, nothing-formed}
-use Rattle.promises.proofs.Reading.{moved, tells-out, case-sound}
+use Rattle.promises.proofs.KindTests.{tells-out}
+use Rattle.promises.proofs.Reading.{moved, case-sound}
 use Rattle.rig.specs.declared.Rig.{Rig}
 use Rattle.rig.specs.Record.{moveIndex, moveAt, stopIndex, stopAt, lowerFirst}
 use Rattle.decoding.specs.Forms.{over, kindOf, formOf}
 use Rattle.decoding.proofs.Listed.{length-over, Leaves}
-use Rattle.kinds.specs.Kinds.{asKind, InRange, monStates, emptyBand, bandOf, withStep, kindMoves, kindStops}
-use Rattle.kinds.proofs.Tables.{Blank, OfKind, length-rows, length-moves, length-stops, moves-beside, stops-beside, fills}
+use Rattle.kinds.specs.Kinds.{asKind, InRange, monStates, emptyBand, bandOf, daySteps, withStep, kindMoves, kindStops}
+use Rattle.kinds.proofs.Tables.{Blank, OfKind, length-rows, length-hours, length-moves, length-stops, moves-beside, stops-beside, fills}
 use Rattle.reader.specs.declared.Sizes.{Sizes}
-use Rattle.reader.specs.Reading.{withPart, withLine, recordFrom}
-use Rattle.reader.specs.Record.{nobody}
-use Rattle.reader.specs.Taking.{Allowed, rigCase, rigSizes, ordCase, kindCase, goCase, goMoves, stopCase, stopStops, noBand, givenIndex, givenAt, ampCase, ampMoves, ampGiven, caseOf, sizesAfter, movesAfter, stopsAfter, givenAfter, countsAfter, startsAfter}
+use Rattle.reader.specs.Reading.{nobody, withPart, withLine, recordFrom}
+use Rattle.reader.specs.Taking.{Allowed, rigCase, rigSizes, ordCase, kindCase, goCase, goMoves, stopCase, stopStops, noBand, givenIndex, givenAt, withGiven, ampCase, ampMoves, openCase, openMoves, caseOf, sizesAfter, movesAfter, stopsAfter, givenAfter, countsAfter, startsAfter}
 use Rattle.reader.proofs.Monitors.{monitorAt, events-snoc, empty-nil, empty-snoc, empty-length, addPart-at, addPart-beside, latest-at, new-before, new-at, new-parts}
 use Rattle.reader.proofs.Listed.{over-events, front-any, ord-case}
-use Rattle.reader.proofs.Tables.{Same, same-blank, same-kind, go-beside, stop-beside, amp-beside, seen, seen-mark, with-go, with-stop, with-amp}
+use Rattle.reader.proofs.Tables.{Same, same-blank, same-kind, go-beside, stop-beside, amp-beside, open-beside, seen, seen-mark, with-go, with-stop, with-amp, with-open}
 
 pub record Tabled (ms : List Monitor) (E : ℕ) (mv sp ct st : List ℕ) : Type 0 where
   pub tables : (k : ℕ) → k < length ms → OfKind mv sp k E (monitorAt ms k .kind) (monitorAt ms k .parts)
@@ -49,8 +50,14 @@ pub record Tabled (ms : List Monitor) (E : ℕ) (mv sp ct st : List ℕ) : Type 
   pub counts : (k : ℕ) → k < length ms → getD ct k 0 ≡ statesOf (monitorAt ms k .kind)
   pub starts : (k : ℕ) → k < length ms → getD st k 0 ≡ startOf (monitorAt ms k .kind)
 
+abbrev names : ℕ → Part → Bool
+names e (go a b c) = false
+names e (stop a) = false
+names e (amp f d) = eqb f e
+names e (opens f a b) = eqb f e
+
 unfoldable pub Given : List Monitor → List ℕ → Type 0
-Given ms gv = (k e : ℕ) → k < 4 → e < 16 → givenAt gv k e ≡ pick (isSome (stepBy (monitorAt ms k .parts) e)) 1 0
+Given ms gv = (k e : ℕ) → k < 4 → e < 16 → givenAt gv k e ≡ pick (any (names e) (monitorAt ms k .parts)) 1 0
 
 pub record Holds (r : Rig) (ls : List Line) (z : Sizes) (mv sp gv ct st os : List ℕ) : Type 0 where
   pub formed : Formed ls
@@ -59,11 +66,12 @@ pub record Holds (r : Rig) (ls : List Line) (z : Sizes) (mv sp gv ct st os : Lis
   pub joint-is : product (monitors ls) ≡ z .joint
   pub latest-is : monStates (kindOf (monitorAt (monitors ls) (z .monitors - 1) .kind)) ≡ z .latest
   pub band-is : bandOf (kindOf (monitorAt (monitors ls) (z .monitors - 1) .kind)) ≡ z .band
+  pub day-is : daySteps (kindOf (monitorAt (monitors ls) (z .monitors - 1) .kind)) ≡ z .day
   pub tabled : Tabled (monitors ls) (z .events) mv sp ct st
   pub given-are : Given (monitors ls) gv
   pub ordered : take (z .events) os ≡ orderOf ls
   pub unordered : z .events ≡ 0 → os ≡ lowerFirst
-  pub recorded : recordFrom r ls ≡ record { moves = mv; stops = sp; counts = ct; starts = st; order = os; monitors = z .monitors; events = z .events }
+  pub recorded : recordFrom r [] ls ≡ record { moves = mv; stops = sp; counts = ct; starts = st; order = os; monitors = z .monitors; events = z .events }
   pub long : length mv ≡ 2048
   pub wide-stops : length sp ≡ 128
   pub wide-given : length gv ≡ 64
@@ -71,17 +79,18 @@ pub record Holds (r : Rig) (ls : List Line) (z : Sizes) (mv sp gv ct st os : Lis
   pub wide-starts : length st ≡ 4
   pub wide-order : length os ≡ 16
 
-recordFrom-snoc : (r : Rig) (ls : List Line) (l : Line) → recordFrom r (ls ++ (l ∷ [])) ≡ withLine (recordFrom r ls) l
+recordFrom-snoc : (r : Rig) (front ls : List Line) (l : Line) → recordFrom r front (ls ++ (l ∷ [])) ≡ withLine (recordFrom r front ls) (front ++ ls) l
 unfolding recordFrom
-recordFrom-snoc r [] l = refl
-recordFrom-snoc r (k ∷ ls) l = recordFrom-snoc (withLine r k) ls l
+recordFrom-snoc r front [] l = ap (λ f. withLine r f l) (sym (append-nil front))
+recordFrom-snoc r front (k ∷ ls) l =
+    recordFrom-snoc (withLine r front k) (front ++ (k ∷ [])) ls l ∙ ap (λ f. withLine (recordFrom (withLine r front k) (front ++ (k ∷ [])) ls) f l) (append-assoc front (k ∷ []) ls)
 
 -- ---- no line yet
 
 pub holds-none : (mv sp gv ct st : List ℕ) → ((i : ℕ) → i < 2048 → getD mv i 0 ≡ 255) → ((i : ℕ) → i < 128 → getD sp i 0 ≡ 0) → ((i : ℕ) → i < 64 → getD gv i 0 ≡ 0)
     → length mv ≡ 2048 → length sp ≡ 128 → length gv ≡ 64 → length ct ≡ 4 → length st ≡ 4
-    → Holds (record { moves = mv; stops = sp; counts = ct; starts = st; order = lowerFirst; monitors = 0; events = 0 }) [] (record { events = 0; monitors = 0; latest = 0; band = emptyBand; joint = 1 }) mv sp gv ct st lowerFirst
-unfolding eventsOf orderOf orderFrom monitors monitorsFrom product recordFrom Given firstOf
+    → Holds (record { moves = mv; stops = sp; counts = ct; starts = st; order = lowerFirst; monitors = 0; events = 0 }) [] (record { events = 0; monitors = 0; latest = 0; band = emptyBand; day = 0; joint = 1 }) mv sp gv ct st lowerFirst
+unfolding eventsOf orderOf orderFrom monitors monitorsFrom product recordFrom Given
 holds-none mv sp gv ct st blank unmarked none-given long wide-stops wide-given wide wide-starts = record {
   formed = nothing-formed;
   events-are = refl;
@@ -89,6 +98,7 @@ holds-none mv sp gv ct st blank unmarked none-given long wide-stops wide-given w
   joint-is = refl;
   latest-is = refl;
   band-is = refl;
+  day-is = refl;
   given-are = λ k e hk he. none-given (givenIndex k e) (omega arith);
   tabled = record {
     tables = λ k h. absurd (omega arith);
@@ -109,11 +119,11 @@ holds-none mv sp gv ct st blank unmarked none-given long wide-stops wide-given w
 
 -- ---- tests
 
-same-picks : (a a′ b b′ c c′ : Bool) → a ≡ a′ → (a′ ≡ false → b ≡ b′) → (a′ ≡ false → b′ ≡ false → c ≡ c′)
-    → _≡_ {A = ℕ} (pick a 5 (pick b 3 (pick c 4 0))) (pick a′ 5 (pick b′ 3 (pick c′ 4 0)))
-same-picks a true b b′ c c′ p q r = rw p
-same-picks a false b true c c′ p q r = rw (p, q refl)
-same-picks a false b false c c′ p q r = rw (p, q refl, r refl refl)
+same-picks : (n : ℕ) (a a′ b b′ c c′ : Bool) → a ≡ a′ → (a′ ≡ false → b ≡ b′) → (a′ ≡ false → b′ ≡ false → c ≡ c′)
+    → pick a 5 (pick b 3 (pick c n 0)) ≡ pick a′ 5 (pick b′ 3 (pick c′ n 0))
+same-picks n a true b b′ c c′ p q r = rw p
+same-picks n a false b true c c′ p q r = rw (p, q refl)
+same-picks n a false b false c c′ p q r = rw (p, q refl, r refl refl)
 
 -- a case that does not hold
 pick-zero : (b : Bool) (n m : ℕ) → 0 < n → pick b n m ≡ 0 → (b ≡ false) × (m ≡ 0)
@@ -144,6 +154,7 @@ as-kind (mon S a) = refl
 as-kind (gap e n) = refl
 as-kind (reply a b lo hi) = refl
 as-kind (bal lo hi) = refl
+as-kind (day T) = refl
 
 -- in range, a kind that a `go` or `stop` line can be of has states to name, and no other has
 mon-named : (E : ℕ) (k : Kind) → Ranged E k → not (isMon k) ≡ eqb (monStates (kindOf k)) 0
@@ -152,6 +163,7 @@ mon-named E (mon S a) r = sym (ne-eqb S 0 (λ q. omega arith))
 mon-named E (gap e n) r = refl
 mon-named E (reply a b lo hi) r = refl
 mon-named E (bal lo hi) r = refl
+mon-named E (day T) r = refl
 
 few-named : (E : ℕ) (k : Kind) → Ranged E k → monStates (kindOf k) ≤ 32
 unfolding Ranged
@@ -159,12 +171,14 @@ few-named E (mon S a) r = omega arith
 few-named E (gap e n) r = omega arith
 few-named E (reply a b lo hi) r = omega arith
 few-named E (bal lo hi) r = omega arith
+few-named E (day T) r = omega arith
 
 is-mon : (k : Kind) → eqb (monStates (kindOf k)) 0 ≡ false → (S : ℕ) × (a : ℕ) × (k ≡ mon S a) × (monStates (kindOf k) ≡ S)
 is-mon (mon S a) p = (S, a, refl, refl)
 is-mon (gap e n) p = contra refl p
 is-mon (reply a b lo hi) p = contra refl p
 is-mon (bal lo hi) p = contra refl p
+is-mon (day T) p = contra refl p
 
 -- in range, a kind that an `amp` line can be of has a band, and the band of any other is empty
 bal-banded : (E : ℕ) (k : Kind) → Ranged E k → not (isBal k) ≡ noBand (bandOf (kindOf k))
@@ -172,6 +186,7 @@ unfolding Ranged
 bal-banded E (mon S a) r = refl
 bal-banded E (gap e n) r = refl
 bal-banded E (reply a b lo hi) r = refl
+bal-banded E (day T) r = refl
 bal-banded E (bal lo hi) (l, low, high, h) = sym (tells-false (tells-ltℤ hi lo) (λ q. clashℤ q (band lo hi low high)))
 
 is-bal : (k : Kind) → noBand (bandOf (kindOf k)) ≡ false → k ≡ bal (bandOf (kindOf k) .lo) (bandOf (kindOf k) .hi)
@@ -179,20 +194,58 @@ is-bal (mon S a) q = contra refl q
 is-bal (gap e n) q = contra refl q
 is-bal (reply a b l h) q = contra refl q
 is-bal (bal l h) q = refl
+is-bal (day T) q = contra refl q
 
--- a band is in its range, and its ends are told by the start and the number of states
-module _ (E : ℕ) (lo hi : ℤ) (r : Ranged E (bal lo hi)) where
-  bal-in-range : InRange (bal lo hi)
-  unfolding Ranged OutOfRange
-  bal-in-range = let (l, low, high, h) = r in (E, tells-false (tells-out E (bal lo hi)) (λ o. ⊎-elim (⊎-elim (λ x. clashℤ x l) (λ x. clashℤ x low)) (⊎-elim (λ x. clashℤ x high) (λ x. clashℤ x h)) o), refl)
+-- a band is in its range
+bal-in-range : (E : ℕ) (lo hi : ℤ) → Ranged E (bal lo hi) → InRange (bal lo hi)
+unfolding Ranged OutOfRange
+bal-in-range E lo hi r = let (l, low, high, h) = r in (E, tells-false (tells-out E (bal lo hi)) (λ o. ⊎-elim (⊎-elim (λ x. clashℤ x l) (λ x. clashℤ x low)) (⊎-elim (λ x. clashℤ x high) (λ x. clashℤ x h)) o), refl)
 
-  bal-back : bal (negℤ (pos (startOf (bal lo hi)))) (pos (statesOf (bal lo hi) - 1) -ℤ pos (startOf (bal lo hi))) ≡ bal lo hi
-  unfolding Ranged startOf statesOf
-  bal-back =
-      let (l, low, high, h) = r in
-      let start : negℤ (pos (natAbs lo)) ≡ lo = minus-back lo low in
-      let width : pos (natAbs (hi -ℤ lo) + 1 - 1) ≡ hi -ℤ lo = ap pos (let q : natAbs (hi -ℤ lo) + 1 - 1 ≡ natAbs (hi -ℤ lo) = omega arith in q) ∙ pos-natAbs (hi -ℤ lo) (less-nonNeg lo hi (band lo hi low high)) in
-      ap₂ bal start (ap₂ _+ℤ_ width start ∙ -ℤ-+ℤ-cancel hi lo)
+-- in range, a kind that an `open` line can be of has steps, and no other has
+day-stepped : (E : ℕ) (k : Kind) → Ranged E k → not (isDay k) ≡ eqb (daySteps (kindOf k)) 0
+unfolding Ranged
+day-stepped E (mon S a) r = refl
+day-stepped E (gap e n) r = refl
+day-stepped E (reply a b lo hi) r = refl
+day-stepped E (bal lo hi) r = refl
+day-stepped E (day T) r = sym (ne-eqb T 0 (λ q. omega arith))
+
+few-steps : (E : ℕ) (k : Kind) → Ranged E k → daySteps (kindOf k) ≤ 32
+unfolding Ranged
+few-steps E (mon S a) r = omega arith
+few-steps E (gap e n) r = omega arith
+few-steps E (reply a b lo hi) r = omega arith
+few-steps E (bal lo hi) r = omega arith
+few-steps E (day T) r = omega arith
+
+is-day : (k : Kind) → eqb (daySteps (kindOf k)) 0 ≡ false → k ≡ day (daySteps (kindOf k))
+is-day (mon S a) q = contra refl q
+is-day (gap e n) q = contra refl q
+is-day (reply a b lo hi) q = contra refl q
+is-day (bal lo hi) q = contra refl q
+is-day (day T) q = refl
+
+-- the lines of a `bal` name an event where they give it a step, those of a `day` where they give it hours
+bal-names : (E : ℕ) (lo hi : ℤ) (e : ℕ) (p : Part) → PartRanged E (bal lo hi) p → isSome (stepIn e p) ≡ names e p
+unfolding PartRanged IsMon IsDay stepIn
+bal-names E lo hi e (go a b c) r = let (S, x, q) = r .0 in let z : _≡_ {A = ℕ} 0 1 = cc in absurd (omega arith)
+bal-names E lo hi e (stop a) r = let (S, x, q) = r .0 in let z : _≡_ {A = ℕ} 0 1 = cc in absurd (omega arith)
+bal-names E lo hi e (amp f d) r = case (eqb f e) (λ q. rw q) (λ q. rw q)
+bal-names E lo hi e (opens f a b) r = let (T, q) = r .0 in let z : _≡_ {A = ℕ} 0 1 = cc in absurd (omega arith)
+
+day-names : (E T e : ℕ) (p : Part) → PartRanged E (day T) p → opensBy (λ a b. true) e p ≡ names e p
+unfolding PartRanged IsMon IsBal opensBy
+day-names E T e (go a b c) r = let (S, x, q) = r .0 in let z : _≡_ {A = ℕ} 0 1 = cc in absurd (omega arith)
+day-names E T e (stop a) r = let (S, x, q) = r .0 in let z : _≡_ {A = ℕ} 0 1 = cc in absurd (omega arith)
+day-names E T e (amp f d) r = let (lo, hi, q) = r .0 in let z : _≡_ {A = ℕ} 0 1 = cc in absurd (omega arith)
+day-names E T e (opens f a b) r = and-true (eqb f e)
+
+module _ (E : ℕ) (m : Monitor) (K : Kept E m) (e : ℕ) where
+  steps-named : (lo hi : ℤ) → m .kind ≡ bal lo hi → isSome (stepBy (m .parts) e) ≡ any (names e) (m .parts)
+  steps-named lo hi q = first-any (stepIn e) (m .parts) ∙ any-alike (λ p. isSome (stepIn e p)) (names e) (m .parts) (λ p i. bal-names E lo hi e p (subst (λ k. PartRanged E k p) q (K .parts-ranged p i)))
+
+  hours-named : (T : ℕ) → m .kind ≡ day T → hasHours (m .parts) e ≡ any (names e) (m .parts)
+  hours-named T q = any-alike (opensBy (λ a b. true) e) (names e) (m .parts) (λ p i. day-names E T e p (subst (λ k. PartRanged E k p) q (K .parts-ranged p i)))
 
 -- ---- the tables with one line more
 
@@ -253,47 +306,40 @@ module _ (p : Part) (ms : List Monitor) (E m : ℕ) (mv sp mv′ sp′ ct st : L
       there : (k : ℕ) → k < length ms → (k ≡ m → ⊥) → OfKind mv′ sp′ k E (monitorAt (addPart p ms) k .kind) (monitorAt (addPart p ms) k .parts)
       there k h ne = rw (addPart-beside p ms k (λ q. ne (omega arith))) (same-kind mv sp mv′ sp′ k (beside k ne) E (monitorAt ms k .kind) (monitorAt ms k .parts) fewE (ranged (monitorAt ms k) (getD-in ms k nobody h)) (T .tables k h))
 
--- ---- the steps given with one line more
+-- ---- what is given with one line more
 
-given-kept : (p : Part) (ms : List Monitor) (gv : List ℕ) → ((e : ℕ) → stepIn e p ≡ none) → Given ms gv → Given (addPart p ms) gv
+-- a line that names no event
+given-kept : (p : Part) (ms : List Monitor) (gv : List ℕ) → ((e : ℕ) → names e p ≡ false) → Given ms gv → Given (addPart p ms) gv
 unfolding Given
-given-kept p ms gv no-step G k e hk he = G k e hk he ∙ ap (λ o. pick (isSome o) 1 0) (sym same)
+given-kept p ms gv none-named G k e hk he = G k e hk he ∙ ap (λ b. pick b 1 0) (sym same)
   where
-    same : stepBy (monitorAt (addPart p ms) k .parts) e ≡ stepBy (monitorAt ms k .parts) e
+    same : any (names e) (monitorAt (addPart p ms) k .parts) ≡ any (names e) (monitorAt ms k .parts)
     same = case (eqb (suc k) (length ms))
-        (λ q. rw (addPart-at p ms k (eqb-true (suc k) (length ms) q)) (first-snoc (stepIn e) (monitorAt ms k .parts) p ∙ ap (orElse (stepBy (monitorAt ms k .parts) e)) (no-step e) ∙ or-none (stepBy (monitorAt ms k .parts) e)))
+        (λ q. rw (addPart-at p ms k (eqb-true (suc k) (length ms) q), any-snoc (names e) (monitorAt ms k .parts) p, none-named e) (or-false (any (names e) (monitorAt ms k .parts))))
         (λ q. rw (addPart-beside p ms k (eqb-false (suc k) (length ms) q)))
 
--- an `amp` line gives no other event a step
-other-event : (e u : ℕ) (d : ℤ) → eqb e u ≡ false → stepIn u (amp e d) ≡ none
-unfolding stepIn
-other-event e u d q = rw q
-
-given-amp : (e : ℕ) (d : ℤ) (ms : List Monitor) (m : ℕ) (gv : List ℕ) → suc m ≡ length ms → m < 4 → e < 16 → length gv ≡ 64 → Given ms gv → Given (addPart (amp e d) ms) (set gv (givenIndex m e) 1)
+-- a line that names the event e
+given-more : (p : Part) (e : ℕ) (ms : List Monitor) (m : ℕ) (gv : List ℕ) → ((u : ℕ) → names u p ≡ eqb e u) → suc m ≡ length ms → m < 4 → e < 16 → length gv ≡ 64 → Given ms gv
+    → Given (addPart p ms) (set gv (givenIndex m e) 1)
 unfolding Given
-given-amp e d ms m gv last hm he wide G k u hk hu = case (eqb k m && eqb e u) (λ q. here (eqb-true k m (and-left (eqb k m) (eqb e u) q)) (eqb-true e u (and-right (eqb k m) (eqb e u) q))) (λ q. elsewhere q)
+given-more p e ms m gv named last hm he wide G k u hk hu = case (eqb k m && eqb e u) (λ q. here (eqb-true k m (and-left (eqb k m) (eqb e u) q)) (eqb-true e u (and-right (eqb k m) (eqb e u) q))) (λ q. elsewhere q)
   where
-    found : isSome (stepBy (monitorAt (addPart (amp e d) ms) m .parts) e) ≡ true
-    found = rw (addPart-at (amp e d) ms m last, first-snoc (stepIn e) (monitorAt ms m .parts) (amp e d)) (some-or (stepBy (monitorAt ms m .parts) e))
-      where
-        some-or : (o : Option ℤ) → isSome (orElse o (stepIn e (amp e d))) ≡ true
-        some-or none = unfold stepIn orElse in rw (eq-eqb e e refl)
-        some-or (some c) = unfold orElse in refl
+    found : any (names e) (monitorAt (addPart p ms) m .parts) ≡ true
+    found = rw (addPart-at p ms m last, any-snoc (names e) (monitorAt ms m .parts) p, named e, eq-eqb e e refl) (or-right (any (names e) (monitorAt ms m .parts)) refl)
 
-    here : k ≡ m → e ≡ u → givenAt (set gv (givenIndex m e) 1) k u ≡ pick (isSome (stepBy (monitorAt (addPart (amp e d) ms) k .parts) u)) 1 0
-    here p q = rw (p, ← q, found) (getD-set-same gv (givenIndex m e) 1 0 (omega arith))
+    here : k ≡ m → e ≡ u → givenAt (set gv (givenIndex m e) 1) k u ≡ pick (any (names u) (monitorAt (addPart p ms) k .parts)) 1 0
+    here r q = rw (r, ← q, found) (getD-set-same gv (givenIndex m e) 1 0 (omega arith))
 
-    elsewhere : (eqb k m && eqb e u) ≡ false → givenAt (set gv (givenIndex m e) 1) k u ≡ pick (isSome (stepBy (monitorAt (addPart (amp e d) ms) k .parts) u)) 1 0
+    elsewhere : (eqb k m && eqb e u) ≡ false → givenAt (set gv (givenIndex m e) 1) k u ≡ pick (any (names u) (monitorAt (addPart p ms) k .parts)) 1 0
     elsewhere q =
-        getD-set-other gv (givenIndex m e) (givenIndex k u) 1 0 (λ p. contra (ap₂ _&&_ (eq-eqb k m (omega arith)) (eq-eqb e u (omega arith))) q)
-        ∙ G k u hk hu ∙ ap (λ o. pick (isSome o) 1 0) (sym (same (eqb k m) refl))
+        getD-set-other gv (givenIndex m e) (givenIndex k u) 1 0 (λ r. contra (ap₂ _&&_ (eq-eqb k m (omega arith)) (eq-eqb e u (omega arith))) q)
+        ∙ G k u hk hu ∙ ap (λ b. pick b 1 0) (sym (same (eqb k m) refl))
       where
-        same : (b : Bool) → eqb k m ≡ b → stepBy (monitorAt (addPart (amp e d) ms) k .parts) u ≡ stepBy (monitorAt ms k .parts) u
-        same false p = rw (addPart-beside (amp e d) ms k (λ w. eqb-false k m p (omega arith)))
-        same true p =
-            let other : eqb e u ≡ false = ap (λ b. b && eqb e u) (sym p) ∙ q in
-            rw (addPart-at (amp e d) ms k (omega (arith, eqb-true k m p)))
-            (first-snoc (stepIn u) (monitorAt ms k .parts) (amp e d) ∙ ap (orElse (stepBy (monitorAt ms k .parts) u)) (other-event e u d other) ∙ or-none (stepBy (monitorAt ms k .parts) u))
+        same : (b : Bool) → eqb k m ≡ b → any (names u) (monitorAt (addPart p ms) k .parts) ≡ any (names u) (monitorAt ms k .parts)
+        same false r = rw (addPart-beside p ms k (λ w. eqb-false k m r (omega arith)))
+        same true r =
+            let other : eqb e u ≡ false = ap (λ b. b && eqb e u) (sym r) ∙ q in
+            rw (addPart-at p ms k (omega (arith, eqb-true k m r)), any-snoc (names u) (monitorAt ms k .parts) p, named u, other) (or-false (any (names u) (monitorAt ms k .parts)))
 
 module _ (r : Rig) (ls : List Line) (z : Sizes) (mv sp gv ct st os : List ℕ) (H : Holds r ls z mv sp gv ct st os) where
   kept : (m : Monitor) → In m (monitors ls) → Kept (eventsOf ls) m
@@ -315,19 +361,22 @@ module _ (r : Rig) (ls : List Line) (z : Sizes) (mv sp gv ct st os : List ℕ) (
   last-kept : 1 ≤ z .monitors → Kept (eventsOf ls) last
   last-kept h = kept last (getD-in (monitors ls) (z .monitors - 1) nobody (omega (arith, H .monitors-are)))
 
-  none-named : z .monitors ≡ 0 → z .latest ≡ 0
-  none-named q = rw (← H .latest-is, q) (nothing (monitors ls) (H .monitors-are ∙ q))
+  -- where there is none, what a kind has is what that of nobody has
+  of-none : {A : Type 0} (f : Kind → A) → z .monitors ≡ 0 → f (last .kind) ≡ f (nobody .kind)
+  of-none f q = rw q (nothing (monitors ls) (H .monitors-are ∙ q))
     where
-      nothing : (ms : List Monitor) → length ms ≡ 0 → monStates (kindOf (monitorAt ms (0 - 1) .kind)) ≡ 0
+      nothing : (ms : List Monitor) → length ms ≡ 0 → f (monitorAt ms (0 - 1) .kind) ≡ f (nobody .kind)
       nothing [] e = refl
       nothing (m ∷ ms) e = absurd (omega arith)
 
+  none-named : z .monitors ≡ 0 → z .latest ≡ 0
+  none-named q = sym (H .latest-is) ∙ of-none (λ k. monStates (kindOf k)) q
+
   none-banded : z .monitors ≡ 0 → emptyBand ≡ z .band
-  none-banded q = rw (← H .band-is, q) (nothing (monitors ls) (H .monitors-are ∙ q))
-    where
-      nothing : (ms : List Monitor) → length ms ≡ 0 → emptyBand ≡ bandOf (kindOf (monitorAt ms (0 - 1) .kind))
-      nothing [] e = refl
-      nothing (m ∷ ms) e = absurd (omega arith)
+  none-banded q = sym (of-none (λ k. bandOf (kindOf k)) q) ∙ H .band-is
+
+  none-stepped : z .monitors ≡ 0 → z .day ≡ 0
+  none-stepped q = sym (H .day-is) ∙ of-none (λ k. daySteps (kindOf k)) q
 
   -- where the band is not empty, the latest monitor is a `bal`
   module _ (b : noBand (z .band) ≡ false) where
@@ -349,6 +398,9 @@ module _ (r : Rig) (ls : List Line) (z : Sizes) (mv sp gv ct st os : List ℕ) (
     none-latest = none-named;
     some-band = some-banded;
     in-band = λ b. bal-in-range (eventsOf ls) (z .band .lo) (z .band .hi) (last-band b);
+    few-day = case (eqb (z .monitors) 0) (λ q. omega (arith, none-stepped (eqb-true _ 0 q)))
+        (λ q. rw (← H .day-is) (few-steps (eventsOf ls) (last .kind) (last-kept (omega (arith, eqb-false (z .monitors) 0 q)) .ranged)));
+    none-day = none-stepped;
     few-joint = rw (← H .joint-is) (H .formed .monitored .small);
   }
 
@@ -362,16 +414,6 @@ module _ (r : Rig) (ls : List Line) (z : Sizes) (mv sp gv ct st os : List ℕ) (
   unfolding kindCase lineCase tests testBeginning
   kind-case k = rw (as-kind k, begun-z, H .events-are, H .monitors-are, H .joint-is)
 
-  misplaced : not (ofLatest (λ m. isMon (m .kind)) (latest (monitors ls))) ≡ eqb (z .latest) 0
-  unfolding ofLatest
-  misplaced = case (eqb (z .monitors) 0)
-      (λ q. rw (none-named (eqb-true (z .monitors) 0 q)) (nothing (monitors ls) (H .monitors-are ∙ eqb-true (z .monitors) 0 q)))
-      (λ q. let h = eqb-false (z .monitors) 0 q in rw (latest-at (monitors ls) (z .monitors - 1) (omega (arith, H .monitors-are)), ← H .latest-is) (mon-named (eventsOf ls) (last .kind) (last-kept (omega arith) .ranged)))
-    where
-      nothing : (ms : List Monitor) → length ms ≡ 0 → not (ofLatest (λ m. isMon (m .kind)) (latest ms)) ≡ true
-      nothing [] e = unfold latest ofLatest in refl
-      nothing (m ∷ ms) e = absurd (omega arith)
-
   -- the latest monitor, where there is one
   module _ (there : 1 ≤ z .monitors) where
     last-at : suc (z .monitors - 1) ≡ length (monitors ls)
@@ -382,6 +424,21 @@ module _ (r : Rig) (ls : List Line) (z : Sizes) (mv sp gv ct st os : List ℕ) (
 
     last-table : OfKind mv sp (z .monitors - 1) (z .events) (last .kind) (last .parts)
     last-table = H .tabled .tables (z .monitors - 1) (omega (arith, last-at))
+
+  -- a line of a monitor of the right kind, by a test b that tells whether the latest is one
+  right-kind : (right : Kind → Bool) (b : Bool) → (z .monitors ≡ 0 → b ≡ true) → (Ranged (eventsOf ls) (last .kind) → not (right (last .kind)) ≡ b)
+      → not (ofLatest (λ m. right (m .kind)) (latest (monitors ls))) ≡ b
+  unfolding ofLatest
+  right-kind right b without with = case (eqb (z .monitors) 0)
+      (λ q. let n = eqb-true (z .monitors) 0 q in rw (without n) (nothing (monitors ls) (H .monitors-are ∙ n)))
+      (λ q. let h = eqb-false (z .monitors) 0 q in rw (latest-is-last (omega arith)) (with (last-kept (omega arith) .ranged)))
+    where
+      nothing : (ms : List Monitor) → length ms ≡ 0 → not (ofLatest (λ m. right (m .kind)) (latest ms)) ≡ true
+      nothing [] e = unfold latest ofLatest in refl
+      nothing (m ∷ ms) e = absurd (omega arith)
+
+  misplaced : not (ofLatest (λ m. isMon (m .kind)) (latest (monitors ls))) ≡ eqb (z .latest) 0
+  misplaced = right-kind isMon (eqb (z .latest) 0) (λ n. rw (none-named n)) (λ r. mon-named (eventsOf ls) (last .kind) r ∙ ap (λ n. eqb n 0) (H .latest-is))
 
   -- which is a `mon`
   module _ (placed : eqb (z .latest) 0 ≡ false) where
@@ -398,7 +455,7 @@ module _ (r : Rig) (ls : List Line) (z : Sizes) (mv sp gv ct st os : List ℕ) (
     -- its lines move to its states
     moves-within : (s e u : ℕ) → moveBy (last .parts) s e ≡ some u → u < z .latest
     unfolding PartRanged
-    moves-within s e u q = rw (← last-states) (last-kept some-monitor .parts-ranged (go s e u) (moved (last .parts) s e u q) .2)
+    moves-within s e u q = rw (← last-states) (last-kept some-monitor .parts-ranged (go s e u) (moved (last .parts) s e u q) .3)
 
     out-of-range : (s e t : ℕ)
         → ofLatest (λ m. leb (statesOf (m .kind)) s || (leb (eventsOf ls) e || leb (statesOf (m .kind)) t)) (latest (monitors ls))
@@ -429,21 +486,19 @@ module _ (r : Rig) (ls : List Line) (z : Sizes) (mv sp gv ct st os : List ℕ) (
 
   go-case : (s e t : ℕ) → goCase mv z s e t ≡ lineCase ls (continues (go s e t))
   unfolding goCase lineCase tests testContinuing
-  go-case s e t = sym (same-picks _ _ _ _ _ _ misplaced (λ p. out-of-range p s e t) (λ p. again p s e t))
+  go-case s e t = sym (same-picks 4 _ _ _ _ _ _ misplaced (λ p. out-of-range p s e t) (λ p. again p s e t))
 
   stop-case : (s : ℕ) → stopCase sp z s ≡ lineCase ls (continues (stop s))
   unfolding stopCase lineCase tests testContinuing
-  stop-case s = sym (same-picks _ _ _ _ _ _ misplaced (λ p. state-out-of-range p s) (λ p. marked-again p s))
+  stop-case s = sym (same-picks 4 _ _ _ _ _ _ misplaced (λ p. state-out-of-range p s) (λ p. marked-again p s))
+
+  -- what has been given is seen in the list
+  told : (b : Bool) → b ≡ not (eqb (pick b 1 0) 0)
+  told true = refl
+  told false = refl
 
   amp-misplaced : not (ofLatest (λ m. isBal (m .kind)) (latest (monitors ls))) ≡ noBand (z .band)
-  unfolding ofLatest
-  amp-misplaced = case (eqb (z .monitors) 0)
-      (λ q. rw (← none-banded (eqb-true (z .monitors) 0 q)) (nothing (monitors ls) (H .monitors-are ∙ eqb-true (z .monitors) 0 q)))
-      (λ q. let h = eqb-false (z .monitors) 0 q in rw (latest-is-last (omega arith), ← H .band-is) (bal-banded (eventsOf ls) (last .kind) (last-kept (omega arith) .ranged)))
-    where
-      nothing : (ms : List Monitor) → length ms ≡ 0 → not (ofLatest (λ m. isBal (m .kind)) (latest ms)) ≡ true
-      nothing [] e = unfold latest ofLatest in refl
-      nothing (m ∷ ms) e = absurd (omega arith)
+  amp-misplaced = right-kind isBal (noBand (z .band)) (λ n. rw (← none-banded n)) (λ r. bal-banded (eventsOf ls) (last .kind) r ∙ ap noBand (H .band-is))
 
   module _ (placed : noBand (z .band) ≡ false) (e : ℕ) (d : ℤ) where
     amp-there : 1 ≤ z .monitors
@@ -458,15 +513,50 @@ module _ (r : Rig) (ls : List Line) (z : Sizes) (mv sp gv ct st os : List ℕ) (
     unfolding ofLatest Given
     given-again p =
         let he = leb-false (z .events) e (or-left (leb (z .events) e) _ p) in
-        rw (latest-is-last amp-there, H .given-are (z .monitors - 1) e (omega (arith, room .few-monitors, amp-there)) (omega (arith, few-z))) (told (isSome (stepBy (last .parts) e)))
-      where
-        told : (b : Bool) → b ≡ not (eqb (pick b 1 0) 0)
-        told true = refl
-        told false = refl
+        rw (latest-is-last amp-there, H .given-are (z .monitors - 1) e (omega (arith, room .few-monitors, amp-there)) (omega (arith, few-z)), steps-named (eventsOf ls) last (last-kept amp-there) e (z .band .lo) (z .band .hi) (last-bal placed))
+        (told (any (names e) (last .parts)))
 
   amp-case : (e : ℕ) (d : ℤ) → ampCase gv z e d ≡ lineCase ls (continues (amp e d))
   unfolding ampCase lineCase tests testContinuing
-  amp-case e d = sym (same-picks _ _ _ _ _ _ amp-misplaced (λ p. amp-out p e d) (λ p. given-again p e d))
+  amp-case e d = sym (same-picks 4 _ _ _ _ _ _ amp-misplaced (λ p. amp-out p e d) (λ p. given-again p e d))
+
+  open-misplaced : not (ofLatest (λ m. isDay (m .kind)) (latest (monitors ls))) ≡ eqb (z .day) 0
+  open-misplaced = right-kind isDay (eqb (z .day) 0) (λ n. rw (none-stepped n)) (λ r. day-stepped (eventsOf ls) (last .kind) r ∙ ap (λ n. eqb n 0) (H .day-is))
+
+  -- the latest monitor is a `day`
+  module _ (placed : eqb (z .day) 0 ≡ false) where
+    open-there : 1 ≤ z .monitors
+    open-there = case (eqb (z .monitors) 0) (λ q. absurd (eqb-false (z .day) 0 placed (none-stepped (eqb-true _ 0 q)))) (λ q. omega (arith, eqb-false (z .monitors) 0 q))
+
+    last-day : last .kind ≡ day (z .day)
+    last-day = is-day (last .kind) (rw (H .day-is) placed) ∙ ap day (H .day-is)
+
+    last-steps : statesOf (last .kind) ≡ z .day
+    unfolding statesOf
+    last-steps = ap statesOf last-day
+
+    open-out : (e b : ℕ) → ofLatest (λ m. leb (eventsOf ls) e || ltb (statesOf (m .kind)) b) (latest (monitors ls)) ≡ (leb (z .events) e || ltb (z .day) b)
+    unfolding ofLatest
+    open-out e b = rw (latest-is-last open-there, last-steps, H .events-are)
+
+    -- the first `open` line of an event is seen in the list
+    first-hours : (e : ℕ) → e < z .events → eqb (givenAt gv (z .monitors - 1) e) 0 ≡ not (hasHours (last .parts) e)
+    unfolding Given
+    first-hours e he =
+        rw (H .given-are (z .monitors - 1) e (omega (arith, room .few-monitors, open-there)) (omega (arith, few-z)), hours-named (eventsOf ls) last (last-kept open-there) e (z .day) last-day)
+        (seen-none (any (names e) (last .parts)))
+      where
+        seen-none : (b : Bool) → eqb (pick b 1 0) 0 ≡ not b
+        seen-none true = refl
+        seen-none false = refl
+
+  open-case : (e a b : ℕ) → openCase z e a b ≡ lineCase ls (continues (opens e a b))
+  unfolding openCase lineCase tests testContinuing
+  open-case e a b = rw (never-again (latest (monitors ls))) (sym (same-picks 18 _ _ _ _ (leb b a) (leb b a) open-misplaced (λ p. open-out p e b) (λ p o. refl)))
+    where
+      never-again : (o : Option Monitor) → ofLatest (λ m. false) o ≡ false
+      never-again none = unfold ofLatest in refl
+      never-again (some m) = unfold ofLatest in refl
 
   -- `left` is what decoding the line leaves of the list os
   pub case-is : (l : Line) (line : ℕ) (left : List ℕ) → suc (length ls) ≡ line → Leaves l os left → caseOf mv sp gv left z line (formOf l) ≡ lineCase ls l
@@ -477,12 +567,13 @@ module _ (r : Rig) (ls : List Line) (z : Sizes) (mv sp gv ct st os : List ℕ) (
   case-is (continues (go s e t)) line left n q = go-case s e t
   case-is (continues (stop s)) line left n q = stop-case s
   case-is (continues (amp e d)) line left n q = amp-case e d
+  case-is (continues (opens e a b)) line left n q = open-case e a b
   case-is other line left n q = refl
 
   -- ---- one line more
 
-  recorded-more : (l : Line) → recordFrom r (ls ++ (l ∷ [])) ≡ withLine (record { moves = mv; stops = sp; counts = ct; starts = st; order = os; monitors = z .monitors; events = z .events }) l
-  recorded-more l = recordFrom-snoc r ls l ∙ ap (λ q. withLine q l) (H .recorded)
+  recorded-more : (l : Line) → recordFrom r [] (ls ++ (l ∷ [])) ≡ withLine (record { moves = mv; stops = sp; counts = ct; starts = st; order = os; monitors = z .monitors; events = z .events }) ls l
+  recorded-more l = recordFrom-snoc r [] ls l ∙ ap (λ q. withLine q ls l) (H .recorded)
 
   formed-more : (l : Line) → lineCase ls l ≡ 0 → Formed (ls ++ (l ∷ []))
   formed-more l q = sound-formed ls l (H .formed) (case-sound ls l q)
@@ -503,6 +594,7 @@ module _ (r : Rig) (ls : List Line) (z : Sizes) (mv sp gv ct st os : List ℕ) (
         joint-is = rw ms (H .joint-is);
         latest-is = rw ms (H .latest-is);
         band-is = rw ms (H .band-is);
+        day-is = rw ms (H .day-is);
         given-are = rw ms (H .given-are);
         tabled = rw ms (more-events (monitors ls) (z .events) e mv sp ct st (no-monitor ls (begun-z ∙ first)) (H .tabled));
         ordered = ap (take e) (H .unordered (eqb-true (z .events) 0 first)) ∙ take-range e 16 (rw (← events) (few-events _ formed)) ∙ sym (order-more ls (rig e));
@@ -518,11 +610,11 @@ module _ (r : Rig) (ls : List Line) (z : Sizes) (mv sp gv ct st os : List ℕ) (
 
   given-fresh : (k : Kind) → Given (monitors ls ++ (fresh k ∷ [])) gv
   unfolding Given
-  given-fresh k i e hi he = H .given-are i e hi he ∙ ap (λ ps. pick (isSome (stepBy ps e)) 1 0) (sym (new-parts (monitors ls) (fresh k) refl i))
+  given-fresh k i e hi he = H .given-are i e hi he ∙ ap (λ ps. pick (any (names e) ps) 1 0) (sym (new-parts (monitors ls) (fresh k) refl i))
 
   -- a line that begins a monitor of the kind k
   holds-begins : (k : Kind) → kindCase z (kindOf k) ≡ 0
-      → Holds r (ls ++ (begins k ∷ [])) (record { events = z .events; monitors = z .monitors + 1; latest = monStates (kindOf k); band = bandOf (kindOf k); joint = z .joint * statesOf k })
+      → Holds r (ls ++ (begins k ∷ [])) (record { events = z .events; monitors = z .monitors + 1; latest = monStates (kindOf k); band = bandOf (kindOf k); day = daySteps (kindOf k); joint = z .joint * statesOf k })
       (kindMoves mv (z .monitors) (z .events) k) (kindStops sp (z .monitors) k) gv (set ct (z .monitors) (statesOf k)) (set st (z .monitors) (startOf k)) os
   unfolding withLine extended reordered
   holds-begins k q =
@@ -539,6 +631,7 @@ module _ (r : Rig) (ls : List Line) (z : Sizes) (mv sp gv ct st os : List ℕ) (
         joint-is = rw (ms, product-append, H .joint-is);
         latest-is = rw ms (ap (λ m. monStates (kindOf (m .kind))) (new-at (monitors ls) (fresh k) (z .monitors + 1 - 1) (omega (arith, H .monitors-are))));
         band-is = rw ms (ap (λ m. bandOf (kindOf (m .kind))) (new-at (monitors ls) (fresh k) (z .monitors + 1 - 1) (omega (arith, H .monitors-are))));
+        day-is = rw ms (ap (λ m. daySteps (kindOf (m .kind))) (new-at (monitors ls) (fresh k) (z .monitors + 1 - 1) (omega (arith, H .monitors-are))));
         given-are = rw ms (given-fresh k);
         tabled = rw (ms, ← H .monitors-are) (one-more (monitors ls) (z .events) k mv sp (kindMoves mv (length (monitors ls)) (z .events) k) (kindStops sp (length (monitors ls)) k) ct st (H .wide) (H .wide-starts) few-z few ranged
             (λ i ne. record {
@@ -559,7 +652,7 @@ module _ (r : Rig) (ls : List Line) (z : Sizes) (mv sp gv ct st os : List ℕ) (
 
   -- a line p of the latest monitor, with what it makes of the tables
   holds-continues : (p : Part) (mv′ sp′ gv′ : List ℕ) → 1 ≤ z .monitors → lineCase ls (continues p) ≡ 0 → length mv′ ≡ 2048 → length sp′ ≡ 128 → length gv′ ≡ 64
-      → withPart (record { moves = mv; stops = sp; counts = ct; starts = st; order = os; monitors = z .monitors; events = z .events }) p
+      → withPart (record { moves = mv; stops = sp; counts = ct; starts = st; order = os; monitors = z .monitors; events = z .events }) last p
       ≡ record { moves = mv′; stops = sp′; counts = ct; starts = st; order = os; monitors = z .monitors; events = z .events }
       → Tabled (addPart p (monitors ls)) (z .events) mv′ sp′ ct st → Given (addPart p (monitors ls)) gv′
       → Holds r (ls ++ (continues p ∷ [])) z mv′ sp′ gv′ ct st os
@@ -573,6 +666,7 @@ module _ (r : Rig) (ls : List Line) (z : Sizes) (mv sp gv ct st os : List ℕ) (
         joint-is = rw (ms, product-addPart) (H .joint-is);
         latest-is = rw ms (ap (λ k. monStates (kindOf k)) (kind-addPart p (monitors ls) (z .monitors - 1)) ∙ H .latest-is);
         band-is = rw ms (ap (λ k. bandOf (kindOf k)) (kind-addPart p (monitors ls) (z .monitors - 1)) ∙ H .band-is);
+        day-is = rw ms (ap (λ k. daySteps (kindOf k)) (kind-addPart p (monitors ls) (z .monitors - 1)) ∙ H .day-is);
         given-are = rw ms given;
         tabled = rw ms tabled;
         ordered = H .ordered ∙ sym (order-more ls (continues p));
@@ -609,7 +703,7 @@ module _ (r : Rig) (ls : List Line) (z : Sizes) (mv sp gv ct st os : List ℕ) (
       (λ s e u m. rw (← n) (moves-within p s e u m)) (eqb-true _ 255 (not-false _ f))))
       (λ i ne. go-beside mv sp i (z .monitors - 1) s e t ne (omega arith) (omega (arith, few-z)))
       (H .tabled))
-      (given-kept (go s e t) (monitors ls) gv (λ e. unfold stepIn in refl) (H .given-are))
+      (given-kept (go s e t) (monitors ls) gv (λ e. refl) (H .given-are))
 
   holds-stop : (s : ℕ) → stopCase sp z s ≡ 0 → Holds r (ls ++ (continues (stop s) ∷ [])) z mv (stopStops sp z s) gv ct st os
   unfolding stopCase withPart
@@ -626,9 +720,9 @@ module _ (r : Rig) (ls : List Line) (z : Sizes) (mv sp gv ct st os : List ℕ) (
       (with-stop mv sp (z .monitors - 1) (z .events) S a (last .parts) (subst (λ k. OfKind mv sp (z .monitors - 1) (z .events) k (last .parts)) k T) (rw (← n) few) s hm (H .wide-stops) (rw (← n) hs)))
       (λ i ne. stop-beside mv sp i (z .monitors - 1) s ne (omega arith))
       (H .tabled))
-      (given-kept (stop s) (monitors ls) gv (λ e. unfold stepIn in refl) (H .given-are))
+      (given-kept (stop s) (monitors ls) gv (λ e. refl) (H .given-are))
 
-  holds-amp : (e : ℕ) (d : ℤ) → ampCase gv z e d ≡ 0 → Holds r (ls ++ (continues (amp e d) ∷ [])) z (ampMoves mv z e d) sp (ampGiven gv z e) ct st os
+  holds-amp : (e : ℕ) (d : ℤ) → ampCase gv z e d ≡ 0 → Holds r (ls ++ (continues (amp e d) ∷ [])) z (ampMoves mv z e d) sp (withGiven gv z e) ct st os
   unfolding ampCase withPart ofLatest
   holds-amp e d q =
       let (p, q₁) = pick-zero (noBand (z .band)) 5 _ (omega arith) q in
@@ -641,22 +735,41 @@ module _ (r : Rig) (ls : List Line) (z : Sizes) (mv sp gv ct st os : List ℕ) (
       let hi = z .band .hi in
       let k = last-bal p in
       let few : statesOf (bal lo hi) ≤ 32 = few-states (eventsOf ls) (bal lo hi) (last-band p) in
-      let start : getD st (z .monitors - 1) 0 ≡ startOf (bal lo hi) = H .tabled .starts (z .monitors - 1) (omega (arith, last-at there)) ∙ ap startOf k in
-      let count : getD ct (z .monitors - 1) 0 ≡ statesOf (bal lo hi) = H .tabled .counts (z .monitors - 1) (omega (arith, last-at there)) ∙ ap statesOf k in
       let new : stepBy (last .parts) e ≡ none = not-some (stepBy (last .parts) e) (rw (latest-is-last there) at (given-again p e d o ∙ f)) in
-      holds-continues (amp e d) (ampMoves mv z e d) sp (ampGiven gv z e) there (sym (amp-case e d) ∙ q) (length-rows mv (z .monitors - 1) e 1 (bal lo hi) d (omega (arith, few-z)) (statesOf (bal lo hi)) ∙ H .long) (H .wide-stops)
+      holds-continues (amp e d) (ampMoves mv z e d) sp (withGiven gv z e) there (sym (amp-case e d) ∙ q) (length-rows mv (z .monitors - 1) e 1 (bal lo hi) d (omega (arith, few-z)) (statesOf (bal lo hi)) ∙ H .long) (H .wide-stops)
       (length-set gv (givenIndex (z .monitors - 1) e) 1 ∙ H .wide-given)
-      (rw (start, count, bal-back (eventsOf ls) lo hi (last-band p)))
+      (rw k)
       (one-part (amp e d) (monitors ls) (z .events) (z .monitors - 1) mv sp (withStep mv (z .monitors - 1) (bal lo hi) e d) sp ct st (last-at there) few-z ranged
       (λ T. subst (λ k. OfKind (withStep mv (z .monitors - 1) (bal lo hi) e d) sp (z .monitors - 1) (z .events) k (last .parts ++ (amp e d ∷ []))) (sym k)
       (with-amp mv sp (z .monitors - 1) (z .events) lo hi (last .parts) (subst (λ k. OfKind mv sp (z .monitors - 1) (z .events) k (last .parts)) k T) few e d hm (H .long) few-z he new))
       (λ i ne. amp-beside mv sp i (z .monitors - 1) e (bal lo hi) d ne few (omega (arith, few-z)))
       (H .tabled))
-      (given-amp e d (monitors ls) (z .monitors - 1) gv (last-at there) hm (omega (arith, few-z)) (H .wide-given) (H .given-are))
+      (given-more (amp e d) e (monitors ls) (z .monitors - 1) gv (λ u. refl) (last-at there) hm (omega (arith, few-z)) (H .wide-given) (H .given-are))
     where
       not-some : (o : Option ℤ) → isSome o ≡ false → o ≡ none
       not-some none q = refl
       not-some (some c) q = contra refl q
+
+  holds-open : (e a b : ℕ) → openCase z e a b ≡ 0 → Holds r (ls ++ (continues (opens e a b) ∷ [])) z (openMoves mv gv z e a b) sp (withGiven gv z e) ct st os
+  unfolding openCase withPart
+  holds-open e a b q =
+      let (p, q₁) = pick-zero (eqb (z .day) 0) 5 _ (omega arith) q in
+      let (o, q₂) = pick-zero (leb (z .events) e || ltb (z .day) b) 3 _ (omega arith) q₁ in
+      let he : e < z .events = leb-false (z .events) e (or-left (leb (z .events) e) _ o) in
+      let there : 1 ≤ z .monitors = open-there p in
+      let hm : z .monitors - 1 < 4 = omega (arith, room .few-monitors) in
+      let first = first-hours p e he in
+      let k = last-day p in
+      holds-continues (opens e a b) (openMoves mv gv z e a b) sp (withGiven gv z e) there (sym (open-case e a b) ∙ q)
+      (length-hours mv (z .monitors - 1) (z .day) e a b (eqb (givenAt gv (z .monitors - 1) e) 0) (z .day) ∙ H .long) (H .wide-stops)
+      (length-set gv (givenIndex (z .monitors - 1) e) 1 ∙ H .wide-given)
+      (rw (last-steps p, first))
+      (one-part (opens e a b) (monitors ls) (z .events) (z .monitors - 1) mv sp (openMoves mv gv z e a b) sp ct st (last-at there) few-z ranged
+      (λ T. subst (λ k. OfKind (openMoves mv gv z e a b) sp (z .monitors - 1) (z .events) k (last .parts ++ (opens e a b ∷ []))) (sym k)
+      (rw first (with-open mv sp (z .monitors - 1) (z .events) (z .day) (last .parts) (subst (λ k. OfKind mv sp (z .monitors - 1) (z .events) k (last .parts)) k T) e a b hm (H .long) few-z (room .few-day) he)))
+      (λ i ne. open-beside mv sp i (z .monitors - 1) (z .day) e a b (eqb (givenAt gv (z .monitors - 1) e) 0) ne (room .few-day) (omega (arith, few-z)))
+      (H .tabled))
+      (given-more (opens e a b) e (monitors ls) (z .monitors - 1) gv (λ u. refl) (last-at there) hm (omega (arith, few-z)) (H .wide-given) (H .given-are))
 
   holds-ord : (es : List ℕ) (line : ℕ) → suc (length ls) ≡ line → ordCase (over es os) z line (length es) ≡ 0 → Holds r (ls ++ (ord es ∷ [])) z mv sp gv ct st (over es os)
   unfolding ordCase withLine extended reordered
@@ -676,6 +789,7 @@ module _ (r : Rig) (ls : List Line) (z : Sizes) (mv sp gv ct st os : List ℕ) (
         joint-is = rw ms (H .joint-is);
         latest-is = rw ms (H .latest-is);
         band-is = rw ms (H .band-is);
+        day-is = rw ms (H .day-is);
         given-are = rw ms (H .given-are);
         tabled = rw ms (H .tabled);
         ordered = ap₂ take (sym full) left ∙ take-at es (drop (length es) os) (length es) refl ∙ sym (order-more ls (ord es));
@@ -690,11 +804,12 @@ module _ (r : Rig) (ls : List Line) (z : Sizes) (mv sp gv ct st os : List ℕ) (
       }
 
   pub holds-more : (l : Line) (line : ℕ) (left : List ℕ) → suc (length ls) ≡ line → Leaves l os left → caseOf mv sp gv left z line (formOf l) ≡ 0
-      → Holds r (ls ++ (l ∷ [])) (sizesAfter z (formOf l)) (movesAfter mv z (formOf l)) (stopsAfter sp z (formOf l)) (givenAfter gv z (formOf l)) (countsAfter ct z (formOf l)) (startsAfter st z (formOf l)) left
+      → Holds r (ls ++ (l ∷ [])) (sizesAfter z (formOf l)) (movesAfter mv gv z (formOf l)) (stopsAfter sp z (formOf l)) (givenAfter gv z (formOf l)) (countsAfter ct z (formOf l)) (startsAfter st z (formOf l)) left
   holds-more (rig e) line left n k q = rw k (holds-rig e q)
   holds-more (ord es) line left n k q = rw k (holds-ord es line n (rw k at q))
   holds-more (begins kind) line left n k q = rw (k, as-kind kind) (holds-begins kind q)
   holds-more (continues (go s e t)) line left n k q = rw k (holds-go s e t q)
   holds-more (continues (stop s)) line left n k q = rw k (holds-stop s q)
   holds-more (continues (amp e d)) line left n k q = rw k (holds-amp e d q)
+  holds-more (continues (opens e a b)) line left n k q = rw k (holds-open e a b q)
   holds-more other line left n k q = absurd (omega arith)

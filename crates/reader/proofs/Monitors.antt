@@ -1,7 +1,7 @@
 -- The monitors of some lines with one line more. Assumes nothing.
 use mathlib.Core.Path.{_≡_, refl, sym, ap, _∙_}
 use mathlib.Core.Logic.{_⊎_, inl, inr}
-use mathlib.Core.Bool.{true, false, _||_, or-false, or-assoc}
+use mathlib.Core.Bool.{true, false}
 use mathlib.Core.List.{List, [], _∷_, _++_}
 use mathlib.Core.Option.{some}
 use Prim.Native.Nat.{ℕ, zero, suc, _+_, _<_}
@@ -12,9 +12,9 @@ use lib.Dec.{eqb}
 use borrow.Author.Tests.{ne-eqb}
 use Rattle.lists.proofs.Tests.{contra, ℕ-trichotomy}
 use Rattle.promises.specs.Text.{Part, Line, Monitor, addPart, latest, eventsOf}
-use Rattle.promises.specs.Reading.{empty, marks, markedBy}
+use Rattle.promises.specs.Reading.{empty}
 use Rattle.promises.proofs.Lines.{eventsOf-more}
-use Rattle.reader.specs.Record.{nobody}
+use Rattle.reader.specs.Reading.{nobody}
 
 abbrev pub monitorAt : List Monitor → ℕ → Monitor
 monitorAt ms k = getD ms k nobody
@@ -85,10 +85,3 @@ module _ (ms : List Monitor) (m : Monitor) where
       go (inl h) = ap (λ m. m .parts) (new-before k h)
       go (inr (inl q)) = ap (λ m. m .parts) (new-at k q) ∙ none ∙ sym (ap (λ m. m .parts) (List·getD-eq-default ms nobody {n = k} (omega arith)))
       go (inr (inr h)) = ap (λ m. m .parts) (new-after k h)
-
--- ---- the marks of a monitor's lines
-
-pub markedBy-snoc : (ps : List Part) (p : Part) (s : ℕ) → markedBy (ps ++ (p ∷ [])) s ≡ (markedBy ps s || marks s p)
-unfolding markedBy
-markedBy-snoc [] p s = or-false (marks s p)
-markedBy-snoc (q ∷ ps) p s = ap (λ b. marks s q || b) (markedBy-snoc ps p s) ∙ sym (or-assoc (marks s q) (markedBy ps s) (marks s p))

@@ -48,7 +48,7 @@ pub record Passed (r : Rig) (t : List ℕ) (z : Sizes) (line at : ℕ) (mv sp gv
 
 pub passed-none : (t mv sp gv ct st : List ℕ) → ((i : ℕ) → i < 2048 → getD mv i 0 ≡ 255) → ((i : ℕ) → i < 128 → getD sp i 0 ≡ 0) → ((i : ℕ) → i < 64 → getD gv i 0 ≡ 0)
     → length mv ≡ 2048 → length sp ≡ 128 → length gv ≡ 64 → length ct ≡ 4 → length st ≡ 4
-    → Passed (record { moves = mv; stops = sp; counts = ct; starts = st; order = lowerFirst; monitors = 0; events = 0 }) t (record { events = 0; monitors = 0; latest = 0; band = emptyBand; joint = 1 }) 1 0 mv sp gv ct st lowerFirst
+    → Passed (record { moves = mv; stops = sp; counts = ct; starts = st; order = lowerFirst; monitors = 0; events = 0 }) t (record { events = 0; monitors = 0; latest = 0; band = emptyBand; day = 0; joint = 1 }) 1 0 mv sp gv ct st lowerFirst
 passed-none t mv sp gv ct st blank unmarked none-given long wide-stops wide-given wide wide-starts = record { front = []; holds = holds-none mv sp gv ct st blank unmarked none-given long wide-stops wide-given wide wide-starts; counted = refl; inside = omega arith; early = omega arith; left = refl; split = refl }
 
 -- ---- what a line comes to
@@ -136,10 +136,10 @@ module _ (r : Rig) (t : List ℕ) (z : Sizes) (line at : ℕ) (mv sp gv ct st os
       reads-on c = rw (lines-left, unended-left, c)
 
       -- no case holds of it
-      pub goes-on : (y : Sizes) (nv np ng nt ns : List ℕ) → caseOf mv sp gv left z line f ≡ 0 → y ≡ sizesAfter z f → nv ≡ onlyIf (caseOf mv sp gv left z line f) (movesAfter mv z f) mv
+      pub goes-on : (y : Sizes) (nv np ng nt ns : List ℕ) → caseOf mv sp gv left z line f ≡ 0 → y ≡ sizesAfter z f → nv ≡ onlyIf (caseOf mv sp gv left z line f) (movesAfter mv gv z f) mv
           → np ≡ onlyIf (caseOf mv sp gv left z line f) (stopsAfter sp z f) sp → ng ≡ onlyIf (caseOf mv sp gv left z line f) (givenAfter gv z f) gv → nt ≡ onlyIf (caseOf mv sp gv left z line f) (countsAfter ct z f) ct → ns ≡ onlyIf (caseOf mv sp gv left z line f) (startsAfter st z f) st → Passed r t y (line + 1) (at + (end + 1)) nv np ng nt ns left
       goes-on y nv np ng nt ns p s mq pq gq cq sq =
-          let m′ : nv ≡ movesAfter mv z (formOf next) = rw (p, d) at mq in
+          let m′ : nv ≡ movesAfter mv gv z (formOf next) = rw (p, d) at mq in
           let p′ : np ≡ stopsAfter sp z (formOf next) = rw (p, d) at pq in
           let g′ : ng ≡ givenAfter gv z (formOf next) = rw (p, d) at gq in
           let c′ : nt ≡ countsAfter ct z (formOf next) = rw (p, d) at cq in
@@ -172,8 +172,8 @@ module _ (r : Rig) (t : List ℕ) (z : Sizes) (line at : ℕ) (mv sp gv ct st os
     unfolding readingFrom
     ends-served q = P .left ∙ rw (no-lines, no-tail, empty-length (monitors (P .front)), P .holds .monitors-are, ne-eqb (z .monitors) 0 q)
 
-    pub ends-record : recordFrom r (decoded t) ≡ record { moves = mv; stops = sp; counts = ct; starts = st; order = os; monitors = z .monitors; events = z .events }
-    ends-record = ap (recordFrom r) (P .split ∙ ap (λ l. P .front ++ l) no-lines ∙ append-nil (P .front)) ∙ P .holds .recorded
+    pub ends-record : recordFrom r [] (decoded t) ≡ record { moves = mv; stops = sp; counts = ct; starts = st; order = os; monitors = z .monitors; events = z .events }
+    ends-record = ap (recordFrom r []) (P .split ∙ ap (λ l. P .front ++ l) no-lines ∙ append-nil (P .front)) ∙ P .holds .recorded
 
 -- ---- the answer
 
@@ -189,8 +189,8 @@ module _ (t : List ℕ) where
   -- a refusal has the empty record beside it
   pub answers-refusal : (x : Reading) (n p : ℕ) → x ≡ refusal n p → reading t ≡ refused n p → (answerOf (x .verdict) ≡ reading t) × (x .rig ≡ recordOf t)
   unfolding recordOf
-  answers-refusal x n p q a = (ap (λ y. answerOf (y .verdict)) q ∙ sym a, ap (λ y. y .rig) q ∙ sym (ap (λ b. whereServed b (recordFrom emptyRig (decoded t)) emptyRig) a))
+  answers-refusal x n p q a = (ap (λ y. answerOf (y .verdict)) q ∙ sym a, ap (λ y. y .rig) q ∙ sym (ap (λ b. whereServed b (recordFrom emptyRig [] (decoded t)) emptyRig) a))
 
-  pub answers-record : (x : Rig) → reading t ≡ served [] → recordFrom emptyRig (decoded t) ≡ x → (served [] ≡ reading t) × (x ≡ recordOf t)
+  pub answers-record : (x : Rig) → reading t ≡ served [] → recordFrom emptyRig [] (decoded t) ≡ x → (served [] ≡ reading t) × (x ≡ recordOf t)
   unfolding recordOf
-  answers-record x a q = (sym a, sym q ∙ sym (ap (λ b. whereServed b (recordFrom emptyRig (decoded t)) emptyRig) a))
+  answers-record x a q = (sym a, sym q ∙ sym (ap (λ b. whereServed b (recordFrom emptyRig [] (decoded t)) emptyRig) a))

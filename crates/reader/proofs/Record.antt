@@ -34,8 +34,8 @@ use Rattle.decoding.proofs.Listed.{Leaves}
 use Rattle.kinds.specs.Kinds.{emptyBand, entryOf}
 use Rattle.kinds.proofs.Tables.{OfKind}
 use Rattle.reader.specs.declared.Sizes.{Sizes}
-use Rattle.reader.specs.Reading.{recordFrom, whereServed, recordOf}
-use Rattle.reader.specs.Record.{nobody, monitorIn, ReadFrom}
+use Rattle.reader.specs.Reading.{nobody, recordFrom, whereServed, recordOf}
+use Rattle.reader.specs.Record.{monitorIn, ReadFrom}
 use Rattle.reader.specs.Taking.{caseOf, sizesAfter, movesAfter, stopsAfter, givenAfter, countsAfter, startsAfter}
 use Rattle.reader.proofs.Monitors.{empty-nil}
 use Rattle.reader.proofs.Held.{Tabled, Holds, few-events, begun-z, holds-none, case-is, holds-more}
@@ -74,7 +74,7 @@ held-more r ls l H q =
     let c : caseOf mv sp gv left z (suc (length ls)) (formOf l) ≡ 0 = case-is r ls z mv sp gv ct st os (H .holds) l (suc (length ls)) left refl k ∙ q in
     record {
       sizes-are = sizesAfter z (formOf l);
-      moves-are = movesAfter mv z (formOf l);
+      moves-are = movesAfter mv gv z (formOf l);
       marks-are = stopsAfter sp z (formOf l);
       given-are = givenAfter gv z (formOf l);
       counts-are = countsAfter ct z (formOf l);
@@ -91,7 +91,7 @@ held-all r front (l ∷ back) H s =
 
 held-none : Held emptyRig []
 held-none = record {
-  sizes-are = record { events = 0; monitors = 0; latest = 0; band = emptyBand; joint = 1 };
+  sizes-are = record { events = 0; monitors = 0; latest = 0; band = emptyBand; day = 0; joint = 1 };
   moves-are = replicate 2048 255;
   marks-are = replicate 128 0;
   given-are = replicate 64 0;
@@ -209,7 +209,7 @@ module _ (t : List ℕ) (R : Readable t) where
 
   recordOf-is : recordOf t ≡ record { moves = held .moves-are; stops = held .marks-are; counts = held .counts-are; starts = held .starts-are; order = held .order-is; monitors = held .sizes-are .monitors; events = held .sizes-are .events }
   unfolding recordOf
-  recordOf-is = ap (λ a. whereServed a (recordFrom emptyRig (decoded t)) emptyRig) (readable-said t R) ∙ held .holds .recorded
+  recordOf-is = ap (λ a. whereServed a (recordFrom emptyRig [] (decoded t)) emptyRig) (readable-said t R) ∙ held .holds .recorded
 
   recorded : Recorded (decoded t) (recordOf t)
   recorded = rw recordOf-is (record {

@@ -1,27 +1,30 @@
 -- The part of the tables that is one monitor's, with one line more of this monitor or of another. Assumes nothing.
 --   Same mv sp mv′ sp′ k == part k of the tables mv′ and sp′ is that of mv and sp
 use mathlib.Core.Path.{_≡_, refl, sym, ap, ap₂, _∙_, subst}
-use mathlib.Core.Bool.{Bool, true, false, not, _&&_, or-false}
+use mathlib.Core.Bool.{Bool, true, false, not, _&&_, _||_, or-false}
 use mathlib.Core.List.{List, [], _∷_, _++_}
 use mathlib.Core.Option.{Option, none, some, orElse, Option·getD}
-use Prim.Native.Nat.{ℕ, _+_, _≤_, _<_}
+use Prim.Native.Nat.{ℕ, suc, _+_, _%_, _≤_, _<_}
+use native.Mathlib.Nat.{mod-lt}
 use native.Mathlib.Omega.{arith}
 use lib.IntN.{ℤ, pos}
 use lib.ListN.{length, set}
 use lib.Seq.{getD-set-same, getD-set-other}
-use lib.Dec.{eqb}
+use lib.Dec.{eqb, leb, ltb}
 use borrow.Author.Tests.{eq-eqb, ne-eqb, eqb-true, eqb-false, lt-ltb, le-ltb}
 use Rattle.lists.specs.Lists.{pick, firstOf, isSome}
 use Rattle.lists.proofs.Firsts.{or-none, first-snoc}
+use Rattle.lists.proofs.Members.{any-snoc}
 use Rattle.lists.proofs.Tests.{contra, case, and-left, and-right, or-right}
-use Rattle.promises.specs.Text.{Kind, mon, bal, Part, go, stop, amp, statesOf}
-use Rattle.promises.specs.Meaning.{stepIn, stepBy, stepOf}
-use Rattle.promises.specs.Reading.{leadsTo, moveBy, marks, markedBy}
-use Rattle.promises.specs.Rig.{balNext, nextOf, markedOf}
+use Rattle.lists.proofs.Tells.{tells-false}
+use Rattle.promises.specs.Text.{Kind, mon, bal, day, Part, go, stop, amp, opens, statesOf}
+use Rattle.promises.specs.Meaning.{stepIn, stepBy, stepOf, HasHours, InHours}
+use Rattle.promises.specs.Reading.{leadsTo, moveBy, marks, markedBy, opensBy, hasHours, inHours}
+use Rattle.promises.specs.Rig.{balNext, dayNext, admittedAt, nextOf, markedOf}
+use Rattle.promises.proofs.Day.{tells-has, tells-in}
 use Rattle.rig.specs.Record.{moveIndex, moveAt, stopIndex, stopAt}
-use Rattle.kinds.specs.Kinds.{entryOf, withStep}
-use Rattle.kinds.proofs.Tables.{Blank, OfKind, rows-beside, rows-at}
-use Rattle.reader.proofs.Monitors.{markedBy-snoc}
+use Rattle.kinds.specs.Kinds.{entryOf, withStep, hourOf, withHours}
+use Rattle.kinds.proofs.Tables.{Blank, OfKind, rows-beside, rows-at, hours-beside, hours-at}
 
 -- ---- the other monitors
 
@@ -39,7 +42,7 @@ module _ (mv sp mv′ sp′ : List ℕ) (k : ℕ) (same : Same mv sp mv′ sp′
     marks = λ x hx. same .stops x (omega arith) ∙ T .marks x hx;
   }
 
--- a `go`, a `stop` and an `amp` line of another monitor
+-- a `go`, a `stop`, an `amp` and an `open` line of another monitor
 pub go-beside : (mv sp : List ℕ) (k m s e t : ℕ) → (k ≡ m → ⊥) → s < 32 → e < 16 → Same mv sp (set mv (moveIndex m s e) t) sp k
 go-beside mv sp k m s e t ne hs he = record { moves = λ x y hx hy. getD-set-other mv (moveIndex m s e) (moveIndex k x y) t 0 (λ q. ne (omega arith)); stops = λ x hx. refl }
 
@@ -48,6 +51,9 @@ stop-beside mv sp k m s ne hs = record { moves = λ x y hx hy. refl; stops = λ 
 
 pub amp-beside : (mv sp : List ℕ) (i m e : ℕ) (k : Kind) (d : ℤ) → (i ≡ m → ⊥) → statesOf k ≤ 32 → e < 16 → Same mv sp (withStep mv m k e d) sp i
 amp-beside mv sp i m e k d ne few he = record { moves = λ x y hx hy. rows-beside mv m e 1 k d (omega arith) (statesOf k) i x y few hx hy (λ q. absurd (ne q)); stops = λ x hx. refl }
+
+pub open-beside : (mv sp : List ℕ) (i m T e a b : ℕ) (first : Bool) → (i ≡ m → ⊥) → T ≤ 32 → e < 16 → Same mv sp (withHours mv m T e a b first T) sp i
+open-beside mv sp i m T e a b first ne few he = record { moves = λ x y hx hy. hours-beside mv m T e a b first T i x y few he hx hy (λ q. absurd (ne q)); stops = λ x hx. refl }
 
 -- ---- a `mon`
 
@@ -101,7 +107,7 @@ module _ (mv sp : List ℕ) (k E S a : ℕ) (ps : List Part) (T : OfKind mv sp k
 
     marks-same : (x : ℕ) → markedBy (ps ++ (go s e t ∷ [])) x ≡ markedBy ps x
     unfolding marks
-    marks-same x = markedBy-snoc ps (go s e t) x ∙ or-false (markedBy ps x)
+    marks-same x = any-snoc (marks x) ps (go s e t) ∙ or-false (markedBy ps x)
 
     pub with-go : OfKind (set mv (moveIndex k s e) t) sp k E (mon S a) (ps ++ (go s e t ∷ []))
     unfolding nextOf markedOf statesOf
@@ -122,11 +128,11 @@ module _ (mv sp : List ℕ) (k E S a : ℕ) (ps : List Part) (T : OfKind mv sp k
 
     marked-here : markedBy (ps ++ (stop s ∷ [])) s ≡ true
     unfolding marks
-    marked-here = rw (markedBy-snoc ps (stop s) s, eq-eqb s s refl) (or-right (markedBy ps s) refl)
+    marked-here = rw (any-snoc (marks s) ps (stop s), eq-eqb s s refl) (or-right (markedBy ps s) refl)
 
     marked-elsewhere : (x : ℕ) → eqb s x ≡ false → markedBy (ps ++ (stop s ∷ [])) x ≡ markedBy ps x
     unfolding marks
-    marked-elsewhere x q = rw (markedBy-snoc ps (stop s) x, q) (or-false (markedBy ps x))
+    marked-elsewhere x q = rw (any-snoc (marks x) ps (stop s), q) (or-false (markedBy ps x))
 
     pub with-stop : OfKind mv (set sp (stopIndex k s) 1) k E (mon S a) (ps ++ (stop s ∷ []))
     unfolding nextOf markedOf statesOf
@@ -170,3 +176,59 @@ module _ (mv sp : List ℕ) (k E : ℕ) (lo hi : ℤ) (ps : List Part) (T : OfKi
       elsewhere x y hx hy q =
           rows-beside mv k e 1 (bal lo hi) d (omega arith) (statesOf (bal lo hi)) k x y few (omega arith) (omega arith) (λ p l a b. eqb-false e y q (omega arith))
           ∙ (unfold nextOf in T .moves x y hx hy) ∙ ap (entry x) (sym (step-elsewhere y q))
+
+-- ---- a `day`
+
+-- a new `open` line: on its event the steps of its hours lead to the next, where it is the first the others lead nowhere; on other events nothing changes
+module _ (mv sp : List ℕ) (k E T : ℕ) (ps : List Part) (D : OfKind mv sp k E (day T) ps) (e a b : ℕ) (hk : k < 4) (long : length mv ≡ 2048) (fewE : E ≤ 16) (few : T ≤ 32) (he : e < E) where
+  abbrev more : List Part
+  more = ps ++ (opens e a b ∷ [])
+
+  abbrev table : List ℕ
+  table = withHours mv k T e a b (not (hasHours ps e)) T
+
+  -- the entry of a step from which the event is admitted or not
+  entry-of : (x : ℕ) (admitted : Bool) → x < T → entryOf T (dayNext T admitted x) ≡ pick admitted (suc x % T) 255
+  unfolding dayNext
+  entry-of x true h = rw (lt-ltb (suc x % T) T (mod-lt (suc x) (omega arith)))
+  entry-of x false h = rw (le-ltb T T (omega arith))
+
+  table-is : (x y : ℕ) → x < T → y < E → moveAt mv k x y ≡ pick (admittedAt ps y x) (suc x % T) 255
+  unfolding nextOf statesOf
+  table-is x y hx hy = D .moves x y hx hy ∙ entry-of x (admittedAt ps y x) hx
+
+  -- of the event, by whether it has hours already
+  admitted-here : (x : ℕ) → admittedAt more e x ≡ (inHours ps e x || (leb a x && ltb x b))
+  unfolding opensBy
+  admitted-here x = rw (any-snoc (opensBy (λ a b. true) e) ps (opens e a b), any-snoc (opensBy (λ a b. leb a x && ltb x b) e) ps (opens e a b), eq-eqb e e refl, or-right (hasHours ps e) refl)
+
+  entry-here : (x : ℕ) → x < T → hourOf T a b (not (hasHours ps e)) x (moveAt mv k x e) ≡ pick (admittedAt more e x) (suc x % T) 255
+  entry-here x hx = rw (admitted-here x, table-is x e hx he) (by (hasHours ps e) refl)
+    where
+      by : (has : Bool) → hasHours ps e ≡ has → pick (leb a x && ltb x b) (suc x % T) (pick (not has) 255 (pick (not has || inHours ps e x) (suc x % T) 255)) ≡ pick (inHours ps e x || (leb a x && ltb x b)) (suc x % T) 255
+      by true q = add (inHours ps e x) (leb a x && ltb x b)
+        where
+          add : (before now : Bool) → _≡_ {A = ℕ} (pick now (suc x % T) (pick before (suc x % T) 255)) (pick (before || now) (suc x % T) 255)
+          add true true = refl
+          add true false = refl
+          add false now = refl
+      by false q = rw (tells-false (tells-in ps e x) (no-hours q))
+        where
+          no-hours : hasHours ps e ≡ false → InHours ps e x → ⊥
+          no-hours q h = tells-has ps e .no q (unfold InHours HasHours in let (c, d, i, l, r) = h in (c, d, i))
+
+  admitted-elsewhere : (x y : ℕ) → eqb e y ≡ false → admittedAt more y x ≡ admittedAt ps y x
+  unfolding opensBy
+  admitted-elsewhere x y q = rw (any-snoc (opensBy (λ a b. true) y) ps (opens e a b), any-snoc (opensBy (λ a b. leb a x && ltb x b) y) ps (opens e a b), q, or-false (hasHours ps y), or-false (inHours ps y x))
+
+  pub with-open : OfKind table sp k E (day T) more
+  unfolding nextOf markedOf statesOf
+  with-open = record { moves = λ x y hx hy. case (eqb e y) (λ q. at x y hx (eqb-true e y q)) (λ q. beside x y hx hy q) ∙ sym (entry-of x (admittedAt more y x) hx); marks = D .marks }
+    where
+      at : (x y : ℕ) → x < T → e ≡ y → moveAt table k x y ≡ pick (admittedAt more y x) (suc x % T) 255
+      at x y hx q = rw (← q) (hours-at mv k T e a b (not (hasHours ps e)) T x few hk (omega arith) long hx ∙ entry-here x hx)
+
+      beside : (x y : ℕ) → x < T → y < E → eqb e y ≡ false → moveAt table k x y ≡ pick (admittedAt more y x) (suc x % T) 255
+      beside x y hx hy q =
+          hours-beside mv k T e a b (not (hasHours ps e)) T k x y few (omega arith) (omega arith) (omega arith) (λ p l r. eqb-false e y q (sym r))
+          ∙ table-is x y hx hy ∙ ap (λ c. pick c (suc x % T) 255) (sym (admitted-elsewhere x y q))

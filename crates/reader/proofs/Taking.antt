@@ -11,9 +11,15 @@ use Rattle.lists.proofs.Tests.{case}
 use Rattle.reader.specs.declared.Sizes.{Sizes}
 use Rattle.reader.specs.Taking.{Allowed, onlyIf}
 
--- where a `go` or `stop` line can name a state, there is a monitor
+-- there is a monitor where a `go` or `stop` line can name a state, and where an `open` line can have hours
+there : (n k : ℕ) → (n ≡ 0 → k ≡ 0) → (k ≡ 0 → ⊥) → 1 ≤ n
+there n k none h = case (eqb n 0) (λ q. absurd (h (none (eqb-true n 0 q)))) (λ q. omega (arith, eqb-false n 0 q))
+
 pub some-monitor : (z : Sizes) → Allowed z → (z .latest ≡ 0 → ⊥) → 1 ≤ z .monitors
-some-monitor z a h = case (eqb (z .monitors) 0) (λ q. absurd (h (a .none-latest (eqb-true (z .monitors) 0 q)))) (λ q. omega (arith, eqb-false (z .monitors) 0 q))
+some-monitor z a h = there (z .monitors) (z .latest) (a .none-latest) h
+
+pub some-day : (z : Sizes) → Allowed z → (z .day ≡ 0 → ⊥) → 1 ≤ z .monitors
+some-day z a h = there (z .monitors) (z .day) (a .none-day) h
 
 -- a table that a line leaves as it is
 pub kept : (n : ℕ) (l : List ℕ) → l ≡ onlyIf n l l

@@ -1,25 +1,22 @@
 -- What the record of a readable text is. Paper 01, 'Rig text'.
---   nobody             == what stands past the last monitor
 --   monitorIn t m      == monitor m of the text t, as its lines
 --   ReadFrom t r       == r is the record of the text t: the same monitors, tables, order of events and joint automaton
 -- Assumes nothing.
 use mathlib.Core.Path.{_≡_}
 use mathlib.Core.Logic.{_↔_}
 use mathlib.Core.Bool.{true}
-use mathlib.Core.List.{List, []}
+use mathlib.Core.List.{List}
 use Prim.Native.Nat.{ℕ, _<_}
 use lib.ListN.{length, getD}
 use Rattle.automaton.specs.Automaton as automaton
 use Rattle.automaton.specs.Automaton.{walk}
 use Rattle.automaton.specs.Joint.{sizes}
-use Rattle.promises.specs.Text.{mon, Monitor, monitors, decoded, statesOf, startOf, eventsOf, orderOf, jointStates}
+use Rattle.promises.specs.Text.{Monitor, monitors, decoded, statesOf, startOf, eventsOf, orderOf, jointStates}
 use Rattle.promises.specs.Meaning.{Admits, MayStop, BelowE}
 use Rattle.promises.specs.Rig.{monitorOf, rigAutomaton, start}
 use Rattle.rig.specs.declared.Rig.{Rig}
 use Rattle.rig.specs.Record.{countOf, startAt, orderIn, monitorAt, standing, recordAutomaton, recordStart, WellFormed}
-
-abbrev pub nobody : Monitor
-nobody = record { kind = mon 0 0; parts = [] }
+use Rattle.reader.specs.Reading.{nobody}
 
 abbrev pub monitorIn : List ℕ → ℕ → Monitor
 monitorIn t m = getD (monitors (decoded t)) m nobody

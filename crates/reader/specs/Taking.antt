@@ -5,9 +5,10 @@
 --   taken n o          == the outcome o where the number n is 0, else Bad n
 --   sizesOf z t        == the sizes after such a line, z being those before it
 --   refusal n p        == the answer to a text that is refused
---   givenAt gv m e     == 1 where an `amp` line of monitor m has given event e a step, else 0
---   rigCase, ordCase, kindCase, goCase, stopCase, ampCase == the number of the first case that holds of such a line, 0 where none does
---   rigSizes, kindSizes, kindCounts, kindStarts, goMoves, stopStops, ampMoves, ampGiven == what such a line changes, where no case holds of it
+--   givenAt gv m e     == 1 where an `amp` line of monitor m has given event e a step, or an `open` line hours, else 0
+--   withGiven gv z e   == the list gv with event e given in the latest monitor
+--   rigCase, ordCase, kindCase, goCase, stopCase, ampCase, openCase == the number of the first case that holds of such a line, 0 where none does
+--   rigSizes, kindSizes, kindCounts, kindStarts, goMoves, stopStops, ampMoves, openMoves == what such a line changes, where no case holds of it
 --   partCase, partMoves, partStops, partGiven == the same for any line of the latest monitor
 --   outcome z f        == what a line of the form f comes to where no case holds of it
 --   caseOf, sizesAfter, movesAfter, stopsAfter, givenAfter, countsAfter, startsAfter == the same for any line; os is the list that its decoding leaves, l its number
@@ -28,9 +29,9 @@ use Rattle.decoding.specs.declared.Form.{Form}
 use Rattle.decoding.specs.declared.Form.the-variants.{Rig, Ord, Begins, Continues, Other}
 use Rattle.decoding.specs.declared.Kind.{Kind}
 use Rattle.decoding.specs.declared.Part.{Part}
-use Rattle.decoding.specs.declared.Part.the-variants.{Go, Stop, Amp}
+use Rattle.decoding.specs.declared.Part.the-variants.{Go, Stop, Amp, Open}
 use Rattle.kinds.specs.declared.Band.{Band}
-use Rattle.kinds.specs.Kinds.{asKind, InRange, monStates, bandOf, withStep, kindMoves, kindStops}
+use Rattle.kinds.specs.Kinds.{asKind, InRange, monStates, bandOf, daySteps, withStep, kindMoves, kindStops, withHours}
 use Rattle.reader.specs.declared.Reading.{Reading}
 use Rattle.reader.specs.declared.Sizes.{Sizes}
 use Rattle.reader.specs.declared.Taken.{Taken}
@@ -48,6 +49,8 @@ pub record Allowed (z : Sizes) : Type 0 where
   pub none-latest : z .monitors ≡ 0 → z .latest ≡ 0
   pub some-band : noBand (z .band) ≡ false → 1 ≤ z .monitors
   pub in-band : noBand (z .band) ≡ false → InRange (bal (z .band .lo) (z .band .hi))
+  pub few-day : z .day ≤ 32
+  pub none-day : z .monitors ≡ 0 → z .day ≡ 0
   pub few-joint : z .joint ≤ 1024
 
 abbrev pub onlyIf : {A : Type 0} → ℕ → A → A → A
@@ -70,7 +73,7 @@ unfoldable pub rigCase : Sizes → ℕ → ℕ
 rigCase z e = pick (not (eqb (z .events) 0)) 5 (pick (outside 1 16 e) 3 0)
 
 abbrev pub rigSizes : Sizes → ℕ → Sizes
-rigSizes z e = record { events = e; monitors = z .monitors; latest = z .latest; band = z .band; joint = z .joint }
+rigSizes z e = record { events = e; monitors = z .monitors; latest = z .latest; band = z .band; day = z .day; joint = z .joint }
 
 -- ---- `ord`, whose n events stand first in os, on line number l
 
@@ -93,7 +96,7 @@ kindCase z k =
     0)))
 
 abbrev pub kindSizes : Sizes → Kind → Sizes
-kindSizes z k = record { events = z .events; monitors = z .monitors + 1; latest = monStates k; band = bandOf k; joint = z .joint * statesOf (asKind k) }
+kindSizes z k = record { events = z .events; monitors = z .monitors + 1; latest = monStates k; band = bandOf k; day = daySteps k; joint = z .joint * statesOf (asKind k) }
 
 abbrev pub kindCounts : List ℕ → Sizes → Kind → List ℕ
 kindCounts ct z k = set ct (z .monitors) (statesOf (asKind k))
@@ -121,13 +124,18 @@ stopCase sp z s = pick (eqb (z .latest) 0) 5 (pick (leb (z .latest) s) 3 (pick (
 abbrev pub stopStops : List ℕ → Sizes → ℕ → List ℕ
 stopStops sp z s = set sp (stopIndex (z .monitors - 1) s) 1
 
--- ---- `amp`, e, d
+-- ---- what an event has been given
 
 abbrev pub givenIndex : ℕ → ℕ → ℕ
 givenIndex m e = m * 16 + e
 
 abbrev pub givenAt : List ℕ → ℕ → ℕ → ℕ
 givenAt gv m e = getD gv (givenIndex m e) 0
+
+abbrev pub withGiven : List ℕ → Sizes → ℕ → List ℕ
+withGiven gv z e = set gv (givenIndex (z .monitors - 1) e) 1
+
+-- ---- `amp`, e, d
 
 unfoldable pub ampCase : List ℕ → Sizes → ℕ → ℤ → ℕ
 ampCase gv z e d =
@@ -139,8 +147,13 @@ ampCase gv z e d =
 abbrev pub ampMoves : List ℕ → Sizes → ℕ → ℤ → List ℕ
 ampMoves mv z e d = withStep mv (z .monitors - 1) (bal (z .band .lo) (z .band .hi)) e d
 
-abbrev pub ampGiven : List ℕ → Sizes → ℕ → List ℕ
-ampGiven gv z e = set gv (givenIndex (z .monitors - 1) e) 1
+-- ---- `open`, e, a, b
+
+unfoldable pub openCase : Sizes → ℕ → ℕ → ℕ → ℕ
+openCase z e a b = pick (eqb (z .day) 0) 5 (pick (leb (z .events) e || ltb (z .day) b) 3 (pick (leb b a) 18 0))
+
+abbrev pub openMoves : List ℕ → List ℕ → Sizes → ℕ → ℕ → ℕ → List ℕ
+openMoves mv gv z e a b = withHours mv (z .monitors - 1) (z .day) e a b (eqb (givenAt gv (z .monitors - 1) e) 0) (z .day)
 
 -- ---- any line
 
@@ -148,21 +161,25 @@ abbrev pub partCase : List ℕ → List ℕ → List ℕ → Sizes → Part → 
 partCase mv sp gv z (Go s e t) = goCase mv z s e t
 partCase mv sp gv z (Stop s) = stopCase sp z s
 partCase mv sp gv z (Amp e d) = ampCase gv z e d
+partCase mv sp gv z (Open e a b) = openCase z e a b
 
-abbrev pub partMoves : List ℕ → Sizes → Part → List ℕ
-partMoves mv z (Go s e t) = goMoves mv z s e t
-partMoves mv z (Stop s) = mv
-partMoves mv z (Amp e d) = ampMoves mv z e d
+abbrev pub partMoves : List ℕ → List ℕ → Sizes → Part → List ℕ
+partMoves mv gv z (Go s e t) = goMoves mv z s e t
+partMoves mv gv z (Stop s) = mv
+partMoves mv gv z (Amp e d) = ampMoves mv z e d
+partMoves mv gv z (Open e a b) = openMoves mv gv z e a b
 
 abbrev pub partStops : List ℕ → Sizes → Part → List ℕ
 partStops sp z (Go s e t) = sp
 partStops sp z (Stop s) = stopStops sp z s
 partStops sp z (Amp e d) = sp
+partStops sp z (Open e a b) = sp
 
 abbrev pub partGiven : List ℕ → Sizes → Part → List ℕ
 partGiven gv z (Go s e t) = gv
 partGiven gv z (Stop s) = gv
-partGiven gv z (Amp e d) = ampGiven gv z e
+partGiven gv z (Amp e d) = withGiven gv z e
+partGiven gv z (Open e a b) = withGiven gv z e
 
 abbrev pub caseOf : List ℕ → List ℕ → List ℕ → List ℕ → Sizes → ℕ → Form → ℕ
 caseOf mv sp gv os z l (Rig e) = rigCase z e
@@ -181,12 +198,12 @@ outcome z Other = Same
 abbrev pub sizesAfter : Sizes → Form → Sizes
 sizesAfter z f = sizesOf z (outcome z f)
 
-abbrev pub movesAfter : List ℕ → Sizes → Form → List ℕ
-movesAfter mv z (Rig e) = mv
-movesAfter mv z (Ord n) = mv
-movesAfter mv z (Begins k) = kindMoves mv (z .monitors) (z .events) (asKind k)
-movesAfter mv z (Continues p) = partMoves mv z p
-movesAfter mv z Other = mv
+abbrev pub movesAfter : List ℕ → List ℕ → Sizes → Form → List ℕ
+movesAfter mv gv z (Rig e) = mv
+movesAfter mv gv z (Ord n) = mv
+movesAfter mv gv z (Begins k) = kindMoves mv (z .monitors) (z .events) (asKind k)
+movesAfter mv gv z (Continues p) = partMoves mv gv z p
+movesAfter mv gv z Other = mv
 
 abbrev pub stopsAfter : List ℕ → Sizes → Form → List ℕ
 stopsAfter sp z (Rig e) = sp

@@ -1,4 +1,4 @@
-// Reading a rig's text: its record, or the first of the refusals 1 to 6, 16 and 17. One pass over the text, line by line; the tables are filled in place.
+// Reading a rig's text: its record, or the first of the refusals 1 to 6 and 16 to 18. One pass over the text, line by line; the tables are filled in place.
 use decoding::Form;
 use decoding::Kind;
 use decoding::Part;
@@ -10,7 +10,7 @@ ghost use lib.ListN.{length};
 ghost use Rattle.promises.specs.Reading as promised;
 ghost use Rattle.kinds.specs.Kinds.{asKind, kindMoves, kindStops};
 ghost use Rattle.reader.specs.Reading.{answerOf, recordOf};
-ghost use Rattle.reader.specs.Taking.{Allowed, taken, rigCase, rigSizes, ordCase, kindCase, kindSizes, kindCounts, kindStarts, goCase, goMoves, stopCase, stopStops, ampCase, ampMoves, ampGiven, caseOf, outcome, movesAfter, stopsAfter, givenAfter, countsAfter, startsAfter, onlyIf};
+ghost use Rattle.reader.specs.Taking.{Allowed, taken, rigCase, rigSizes, ordCase, kindCase, kindSizes, kindCounts, kindStarts, goCase, goMoves, stopCase, stopStops, ampCase, ampMoves, openCase, openMoves, withGiven, caseOf, outcome, movesAfter, stopsAfter, givenAfter, countsAfter, startsAfter, onlyIf};
 ghost use Rattle.reader.specs.Taking as taking;
 ghost use Rattle.reader.specs.declared.Taken.the-variants.{Next, Same};
 
@@ -27,12 +27,14 @@ pub struct Reading {
 }
 
 // What the lines so far say: E, how many monitors there are, how many states a `go` or `stop` line can name, which are those of the latest monitor if it is a
-// `mon`, the band in which an `amp` line moves, which is that of the latest monitor if it is a `bal` and else empty, and P.
+// `mon`, the band in which an `amp` line moves, which is that of the latest monitor if it is a `bal` and else empty, how many steps the hours of an `open` line
+// can be of, which are those of the latest monitor if it is a `day`, and P.
 struct Sizes {
     events: usize,
     monitors: usize,
     latest: usize,
     band: Band,
+    day: usize,
     joint: usize,
 }
 
@@ -72,6 +74,7 @@ fn take_rig(z: Sizes, e: usize) -> Taken
         monitors: z.monitors,
         latest: z.latest,
         band,
+        day: z.day,
         joint: z.joint,
     })
 }
@@ -152,6 +155,7 @@ fn take_kind(
         monitors: m + 1,
         latest: kinds::mon_states(k),
         band: kinds::band_of(k),
+        day: kinds::day_steps(k),
         joint,
     })
 }
@@ -208,7 +212,7 @@ fn take_amp(moves: &mut [u8], given: &mut [u8], z: Sizes, e: usize, d: i64) -> T
     requires { ⌜ (length (now moves) ≡ 2048) × (length (now given) ≡ 64) × Allowed z ⌝ }
     ensures { λ r. ⌜ r ≡ taken (ampCase (now (given .entry)) z e d) Same ⌝ }
     ensures { λ _. ⌜ now (moves .exit) ≡ onlyIf (ampCase (now (given .entry)) z e d) (ampMoves (now (moves .entry)) z e d) (now (moves .entry)) ⌝ }
-    ensures { λ _. ⌜ now (given .exit) ≡ onlyIf (ampCase (now (given .entry)) z e d) (ampGiven (now (given .entry)) z e) (now (given .entry)) ⌝ }
+    ensures { λ _. ⌜ now (given .exit) ≡ onlyIf (ampCase (now (given .entry)) z e d) (withGiven (now (given .entry)) z e) (now (given .entry)) ⌝ }
 {
     let band = z.band;
     if band.hi < band.lo {
@@ -230,6 +234,33 @@ fn take_amp(moves: &mut [u8], given: &mut [u8], z: Sizes, e: usize, d: i64) -> T
     Taken::Same
 }
 
+// `open`, e, a, b: admits e 'at steps a up to but not including b' of the latest monitor. The first line of an event, which closes its other steps, is seen in the
+// list.
+fn take_open(moves: &mut [u8], given: &mut [u8], z: Sizes, e: usize, a: usize, b: usize) -> Taken
+    requires { ⌜ (length (now moves) ≡ 2048) × (length (now given) ≡ 64) × Allowed z ⌝ }
+    ensures { λ r. ⌜ r ≡ taken (openCase z e a b) Same ⌝ }
+    ensures { λ _. ⌜ now (moves .exit) ≡ onlyIf (openCase z e a b) (openMoves (now (moves .entry)) (now (given .entry)) z e a b) (now (moves .entry)) ⌝ }
+    ensures { λ _. ⌜ now (given .exit) ≡ onlyIf (openCase z e a b) (withGiven (now (given .entry)) z e) (now (given .entry)) ⌝ }
+{
+    if z.day == 0 {
+        return Taken::Bad(5); // the latest monitor is no `day`, or there is none
+    }
+    if z.events <= e {
+        return Taken::Bad(3); // e is no event
+    }
+    if z.day < b {
+        return Taken::Bad(3); // b is over T
+    }
+    if b <= a {
+        return Taken::Bad(18); // a not below b
+    }
+    let m = z.monitors - 1;
+    let at = m * 16 + e;
+    kinds::fill_hours(moves, m, z.day, e, a, b, given[at] == 0);
+    given[at] = 1;
+    Taken::Same
+}
+
 // One line more, of this number.
 fn take_line(
     moves: &mut [u8],
@@ -244,7 +275,7 @@ fn take_line(
 ) -> Taken
     requires { ⌜ (length (now moves) ≡ 2048) × (length (now stops) ≡ 128) × (length (now given) ≡ 64) × (length (now counts) ≡ 4) × (length (now starts) ≡ 4) × (length (now order) ≡ 16) × Allowed z ⌝ }
     ensures { λ r. ⌜ r ≡ taken (caseOf (now (moves .entry)) (now (stops .entry)) (now (given .entry)) (now (order .entry)) z line form) (outcome z form) ⌝ }
-    ensures { λ _. ⌜ now (moves .exit) ≡ onlyIf (caseOf (now (moves .entry)) (now (stops .entry)) (now (given .entry)) (now (order .entry)) z line form) (movesAfter (now (moves .entry)) z form) (now (moves .entry)) ⌝ }
+    ensures { λ _. ⌜ now (moves .exit) ≡ onlyIf (caseOf (now (moves .entry)) (now (stops .entry)) (now (given .entry)) (now (order .entry)) z line form) (movesAfter (now (moves .entry)) (now (given .entry)) z form) (now (moves .entry)) ⌝ }
     ensures { λ _. ⌜ now (stops .exit) ≡ onlyIf (caseOf (now (moves .entry)) (now (stops .entry)) (now (given .entry)) (now (order .entry)) z line form) (stopsAfter (now (stops .entry)) z form) (now (stops .entry)) ⌝ }
     ensures { λ _. ⌜ now (given .exit) ≡ onlyIf (caseOf (now (moves .entry)) (now (stops .entry)) (now (given .entry)) (now (order .entry)) z line form) (givenAfter (now (given .entry)) z form) (now (given .entry)) ⌝ }
     ensures { λ _. ⌜ now (counts .exit) ≡ onlyIf (caseOf (now (moves .entry)) (now (stops .entry)) (now (given .entry)) (now (order .entry)) z line form) (countsAfter (now (counts .entry)) z form) (now (counts .entry)) ⌝ }
@@ -258,6 +289,7 @@ fn take_line(
             Part::Go(s, e, t) => take_go(moves, z, s, e, t),
             Part::Stop(s) => take_stop(stops, z, s),
             Part::Amp(e, d) => take_amp(moves, given, z, e, d),
+            Part::Open(e, a, b) => take_open(moves, given, z, e, a, b),
         },
         Form::Other => Taken::Bad(2),
     }
@@ -282,6 +314,7 @@ pub fn read(text: &[u8]) -> Reading
         monitors: 0,
         latest: 0,
         band: Band { lo: 1, hi: 0 },
+        day: 0,
         joint: 1,
     };
     let mut line = 1;

@@ -91,6 +91,9 @@ mon-states-requires c κs = search needs
 band-of-requires : tie.Need-band-of-requires
 band-of-requires c κs = search needs
 
+day-steps-requires : tie.Need-day-steps-requires
+day-steps-requires c κs = search needs
+
 same-length : tie.Need-same-length
 same-length c = search needs
 
@@ -106,11 +109,11 @@ same-length-4 c = search needs
 returns-6 : tie.Need-returns-6
 unfolding kindCase
 returns-6 c =
-    let st = c .before .before .before .before .before .before .before .before .before .before .before .before .before .before .before .before .before .before .before .before .before .before .before .before .before .args in
-    let n = c .before .before .before .before .before .before .before .before .before .before .before .before .states .ensures in
-    let f = c .before .before .before .before .before .before .before .fill-tables .ensures in
-    let q : kindCase (st .z) (st .k) ≡ 0 = rw (← n, ne-eqb _ _ (c .before .before .before .before .before .before .before .before .before .before .before .before .before .before .before .before .before .before .before .if1 .left), sym (c .before .before .before .before .before .before .before .before .before .before .before .before .before .before .before .before .before .before .out-of-range .ensures) ∙ c .before .before .before .before .before .before .before .before .before .before .before .before .before .before .before .before .before .if2 .left, lt-leb _ _ (c .before .before .before .before .before .before .before .before .before .before .before .before .before .before .before .if3 .left), sym (c .before .before .before .before .before .before .before .before .before .before .before .before .before .before .equal .ensures) ∙ c .before .before .before .before .before .before .before .before .before .before .before .before .before .if4 .left, le-ltb _ _ (c .before .before .before .before .before .before .before .before .before .before .if5 .left)) in
-    (rw (q, ← n, ← c .before .mon-states .ensures, ← c .band-of .ensures), (rw q (f .0), (rw q (f .1), (rw (q, ← n), rw (q, ← c .before .before .start .ensures)))))
+    let st = c .before .before .before .before .before .before .before .before .before .before .before .before .before .before .before .before .before .before .before .before .before .before .before .before .before .before .args in
+    let n = c .before .before .before .before .before .before .before .before .before .before .before .before .before .states .ensures in
+    let f = c .before .before .before .before .before .before .before .before .fill-tables .ensures in
+    let q : kindCase (st .z) (st .k) ≡ 0 = rw (← n, ne-eqb _ _ (c .before .before .before .before .before .before .before .before .before .before .before .before .before .before .before .before .before .before .before .before .if1 .left), sym (c .before .before .before .before .before .before .before .before .before .before .before .before .before .before .before .before .before .before .before .out-of-range .ensures) ∙ c .before .before .before .before .before .before .before .before .before .before .before .before .before .before .before .before .before .before .if2 .left, lt-leb _ _ (c .before .before .before .before .before .before .before .before .before .before .before .before .before .before .before .before .if3 .left), sym (c .before .before .before .before .before .before .before .before .before .before .before .before .before .before .before .equal .ensures) ∙ c .before .before .before .before .before .before .before .before .before .before .before .before .before .before .if4 .left, le-ltb _ _ (c .before .before .before .before .before .before .before .before .before .before .before .if5 .left)) in
+    (rw (q, ← n, ← c .before .before .mon-states .ensures, ← c .before .band-of .ensures, ← c .day-steps .ensures), (rw q (f .0), (rw q (f .1), (rw (q, ← n), rw (q, ← c .before .before .before .start .ensures)))))
 
 pub take-kind-spec : {M : Type 1} → statement M
 take-kind-spec =
@@ -134,6 +137,7 @@ take-kind-spec =
     add-t20
     mon-states-requires
     band-of-requires
+    day-steps-requires
     same-length
     same-length-2
     same-length-3

@@ -4,7 +4,7 @@ use mathlib.Core.Path.{_≡_, ap, _∙_}
 use mir.Syntax.{w64}
 use mir.Val.{toZ, ofZ}
 use Rattle.decoding.specs.declared.Form.the-variants.{Continues}
-use Rattle.reader.specs.Taking.{rigCase, ordCase, kindCase, goCase, stopCase, ampCase}
+use Rattle.reader.specs.Taking.{rigCase, ordCase, kindCase, goCase, stopCase, ampCase, openCase}
 use Rattle.reader.proofs.Taking.{kept}
 use borrow.Author.Needs.{needs}
 use Rattle.reader.proofs.take_line.Statement.{statement}
@@ -48,6 +48,12 @@ enum-known-p-3 c = search needs
 
 take-amp-requires : tie.Need-take-amp-requires
 take-amp-requires c κs = search needs
+
+enum-known-p-4 : tie.Need-enum-known-p-4
+enum-known-p-4 c = search needs
+
+take-open-requires : tie.Need-take-open-requires
+take-open-requires c κs = search needs
 
 enum-told : tie.Need-enum-told
 enum-told c = search needs
@@ -129,8 +135,23 @@ returns-6 c =
     let n = ampCase (st .given .now) (st .z) (p .0 .0) (p .0 .1 .0) in
     (rw q (t .0), (rw q (t .1 .0), (rw q (kept n (st .stops .now)), (rw q (t .1 .1), (rw q (kept n (st .counts .now)), rw q (kept n (st .starts .now)))))))
 
+same-length-9 : tie.Need-same-length-9
+same-length-9 c = search needs
+
+same-length-10 : tie.Need-same-length-10
+same-length-10 c = search needs
+
 returns-7 : tie.Need-returns-7
-returns-7 c = let q = c .enum-told .given .1 in (rw q, (rw q, (rw q, (rw q, (rw q, rw q)))))
+returns-7 c =
+    let st = c .before .before .before .before .before .before .before .before .before .before .before .before .before .before .before .before .before .before .before .args in
+    let p = c .before .before .before .before .before .before .before .before .p4 .given in
+    let q = c .before .before .before .before .before .before .before .before .before .before .before .form4 .given .1 ∙ ap Continues (p .1) in
+    let t = c .before .before .before .before .take-open .ensures in
+    let n = openCase (st .z) (p .0 .0) (p .0 .1 .0) (p .0 .1 .1 .0) in
+    (rw q (t .0), (rw q (t .1 .0), (rw q (kept n (st .stops .now)), (rw q (t .1 .1), (rw q (kept n (st .counts .now)), rw q (kept n (st .starts .now)))))))
+
+returns-8 : tie.Need-returns-8
+returns-8 c = let q = c .enum-told .given .1 in (rw q, (rw q, (rw q, (rw q, (rw q, rw q)))))
 
 pub take-line-spec : {M : Type 1} → statement M
 take-line-spec =
@@ -149,6 +170,8 @@ take-line-spec =
     take-stop-requires
     enum-known-p-3
     take-amp-requires
+    enum-known-p-4
+    take-open-requires
     enum-told
     returns
     returns-2
@@ -164,4 +187,7 @@ take-line-spec =
     same-length-7
     same-length-8
     returns-6
-    returns-7)
+    same-length-9
+    same-length-10
+    returns-7
+    returns-8)
