@@ -1,9 +1,9 @@
--- What rows 1 to 8, 16 and 17 come to, for a call on a text.
+-- What rows 1 to 8 and 16 to 18 come to, for a call on a text.
 --   checkedOr c a             == the refusal that c tells, or a where it tells none
 --   Fits r states x h room    == the record r has so many joint states and starts in x, and h and the room for cells are as sized
 --   Ready t h room r states x == the record r stands for the readable text t, and fits
 --   ChecksSizes r h room o    == o tells rows 7 and 8 of the record r
---   Loads t h room o          == o tells rows 1 to 8, 16 and 17
+--   Loads t h room o          == o tells rows 1 to 8 and 16 to 18
 -- Nothing is left free: the record is that of the text, and beside a refusal the states and the start are told as 0. None of these refusals is one
 -- after which the cells are filled. Assumes nothing.
 use mathlib.Core.Path.{_≡_}

@@ -1,4 +1,4 @@
-// Rows 1 to 8, 16 and 17 of the table of refusals: the text, the horizon and the room for the cells, checked before anything is written.
+// Rows 1 to 8 and 16 to 18 of the table of refusals: the text, the horizon and the room for the cells, checked before anything is written.
 use reader::Verdict;
 use rig::Rig;
 ghost use Rattle.rig.specs.Record.{WellFormed};
@@ -18,7 +18,7 @@ pub struct Loaded {
     pub start: usize,
 }
 
-// Rows 1 to 8, 16 and 17: the text, the horizon, and the room for the cells.
+// Rows 1 to 8 and 16 to 18: the text, the horizon, and the room for the cells.
 pub fn load(text: &[u8], h: u64, room: usize) -> Loaded
     ensures { λ o. ⌜ Loads (now (text .entry)) h room o ⌝ }
 {

@@ -81,7 +81,7 @@ module _ (A : Automaton) (p x h : ℕ) (f : Filled) (cells left table : List ℕ
 pub cell-room : (h p x n : ℕ) → x < p → (h + 1) * p ≤ n → h * p + x < n
 cell-room h p x n lt le = omega (arith, suc-mul h p, ap (λ (i : ℕ). i * p) (add-one h))
 
--- ---- rows 1 to 8, 16 and 17, as the whole call sees them
+-- ---- rows 1 to 8 and 16 to 18, as the whole call sees them
 
 module _ (t : List ℕ) (h room : ℕ) (o : Loaded) (op : Loads t h room o) (cells : List ℕ) (l : length cells ≡ room) where
   -- one of them applied: its refusal is the answer, and the cells are as before

@@ -83,8 +83,3 @@ pub minus-abs : (a : ℤ) → natAbs (pos 0 -ℤ a) ≡ natAbs a
 minus-abs (pos zero) = refl
 minus-abs (pos (suc n)) = ap natAbs (+ℤ-idl (negsuc n))
 minus-abs (negsuc n) = omega arith
-
-pub minus-back : (a : ℤ) → a ≤ℤ pos 0 → negℤ (pos (natAbs a)) ≡ a
-minus-back (pos zero) h = refl
-minus-back (pos (suc n)) h = absurd (omega (arith, leb→le (suc n) 0 (h .le)))
-minus-back (negsuc n) h = refl

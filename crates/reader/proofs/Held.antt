@@ -8,22 +8,22 @@ use mathlib.Core.Path.{_≡_, refl, sym, ap, ap₂, _∙_, subst}
 use mathlib.Core.Logic.{_≢_, ⊎-elim}
 use mathlib.Core.Bool.{Bool, true, false, not, _&&_, _||_, or-false, and-true}
 use mathlib.Core.List.{List, [], _∷_, _++_, append-nil, append-assoc, List·Memᴰ as In}
-use mathlib.Core.Option.{Option, none, some, orElse}
+use mathlib.Core.Option.{Option, none, some}
 use Prim.Native.Nat.{ℕ, suc, _+_, _-_, _*_, _≤_, _<_}
 use native.Mathlib.Nat.{eq-or-lt-of-le}
 use native.Mathlib.Omega.{arith}
-use lib.IntN.{ℤ, pos, negℤ, natAbs, _+ℤ_, _-ℤ_, -ℤ-+ℤ-cancel}
-use lib.Signed.{clashℤ, pos-natAbs}
+use lib.IntN.{ℤ, pos, negℤ}
+use lib.Signed.{clashℤ}
 use lib.ListN.{length, getD, take, drop, set, length-set, length-append}
 use lib.Seq.{getD-set-same, getD-set-other, take-at}
 use lib.Dec.{eqb, leb, ltb}
 use borrow.Author.Tests.{eq-eqb, ne-eqb, eqb-true, eqb-false, leb-false, not-false}
-use Rattle.lists.specs.Lists.{pick, any, firstOf, isSome}
+use Rattle.lists.specs.Lists.{pick, any, isSome}
 use Rattle.lists.proofs.Tables.{length-range, take-range}
 use Rattle.lists.proofs.Tests.{contra, case, and-left, and-right, or-left, or-right, or-rest}
 use Rattle.lists.proofs.Tells.{tells-false}
 use Rattle.lists.proofs.Firsts.{first-any}
-use Rattle.lists.proofs.Integers.{tells-ltℤ, less-nonNeg, minus-back}
+use Rattle.lists.proofs.Integers.{tells-ltℤ}
 use Rattle.lists.proofs.Members.{any-snoc, any-alike, getD-in}
 use Rattle.promises.specs.Text.{Kind, mon, gap, reply, bal, day, Part, go, stop, amp, opens, Line, rig, ord, begins, continues, other, Monitor, addPart, extended, monitorsFrom, monitors, statesOf, startOf, latest, product, eventsOf, reordered, orderFrom, orderOf, OutOfRange, beginning, IsMon, IsBal, IsDay, cases, Case5}
 use Rattle.promises.specs.Meaning.{stepIn, stepBy}
