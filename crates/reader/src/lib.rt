@@ -242,13 +242,14 @@ fn take_open(moves: &mut [u8], given: &mut [u8], z: Sizes, e: usize, a: usize, b
     ensures { λ _. ⌜ now (moves .exit) ≡ onlyIf (openCase z e a b) (openMoves (now (moves .entry)) (now (given .entry)) z e a b) (now (moves .entry)) ⌝ }
     ensures { λ _. ⌜ now (given .exit) ≡ onlyIf (openCase z e a b) (withGiven (now (given .entry)) z e) (now (given .entry)) ⌝ }
 {
-    if z.day == 0 {
+    let t = z.day;
+    if t == 0 {
         return Taken::Bad(5); // the latest monitor is no `day`, or there is none
     }
     if z.events <= e {
         return Taken::Bad(3); // e is no event
     }
-    if z.day < b {
+    if t < b {
         return Taken::Bad(3); // b is over T
     }
     if b <= a {
@@ -256,7 +257,7 @@ fn take_open(moves: &mut [u8], given: &mut [u8], z: Sizes, e: usize, a: usize, b
     }
     let m = z.monitors - 1;
     let at = m * 16 + e;
-    kinds::fill_hours(moves, m, z.day, e, a, b, given[at] == 0);
+    kinds::fill_hours(moves, m, t, e, a, b, given[at] == 0);
     given[at] = 1;
     Taken::Same
 }

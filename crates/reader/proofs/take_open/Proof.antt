@@ -24,22 +24,22 @@ returns-2 c =
 returns-3 : tie.Need-returns-3
 unfolding openCase
 returns-3 c =
-    let d = ne-eqb _ _ (c .before .before .before .before .if1 .left) in
-    let x = lt-leb _ _ (c .before .before .if2 .left) in
+    let d = ne-eqb _ _ (c .before .before .before .if1 .left) in
+    let x = lt-leb _ _ (c .before .if2 .left) in
     let y = lt-ltb _ _ (c .if3 .taken) in
     (rw (d, x, y), (rw (d, x, y), rw (d, x, y)))
 
 returns-4 : tie.Need-returns-4
 unfolding openCase
 returns-4 c =
-    let d = ne-eqb _ _ (c .before .before .before .before .before .if1 .left) in
-    let x = lt-leb _ _ (c .before .before .before .if2 .left) in
+    let d = ne-eqb _ _ (c .before .before .before .before .if1 .left) in
+    let x = lt-leb _ _ (c .before .before .if2 .left) in
     let y = le-ltb _ _ (c .before .if3 .left) in
     let z = le-leb _ _ (c .if4 .taken) in
     (rw (d, x, y, z), (rw (d, x, y, z), rw (d, x, y, z)))
 
 sub-m : tie.Need-sub-m
-sub-m c = some-day (c .before .before .before .before .before .before .before .before .before .before .args .z) (c .before .before .before .before .before .before .before .before .before .before .pre .2) (c .before .before .before .before .before .before .if1 .left)
+sub-m c = some-day (c .before .before .before .before .before .before .before .before .args .z) (c .before .before .before .before .before .before .before .before .pre .2) (c .before .before .before .before .before .if1 .left)
 
 mul-at : tie.Need-mul-at
 mul-at c = search needs
@@ -52,9 +52,9 @@ slice-read-fill-hours c = search needs
 
 fill-hours-requires : tie.Need-fill-hours-requires
 fill-hours-requires c κs =
-    let st = c .before .before .before .before .before .before .before .before .before .before .before .before in
-    let m = some-day (st .args .z) (st .pre .2) (c .before .before .before .before .before .before .before .before .if1 .left) in
-    (st .pre .0, omega (arith, st .pre .2 .few-monitors), omega (arith, st .pre .2 .few-events, c .before .before .before .before .before .before .if2 .left), omega (arith, c .before .before .before .before .before .before .before .before .if1 .left), st .pre .2 .few-day)
+    let st = c .before .before .before .before .before .before .before .before .before .before in
+    let m = some-day (st .args .z) (st .pre .2) (c .before .before .before .before .before .before .before .if1 .left) in
+    (st .pre .0, omega (arith, st .pre .2 .few-monitors), omega (arith, st .pre .2 .few-events, c .before .before .before .before .before .if2 .left), omega (arith, c .before .before .before .before .before .before .before .if1 .left), st .pre .2 .few-day)
 
 slice-write-given : tie.Need-slice-write-given
 slice-write-given c = search needs
@@ -68,8 +68,8 @@ same-length-2 c = search needs
 returns-5 : tie.Need-returns-5
 unfolding openCase
 returns-5 c =
-    let d = ne-eqb _ _ (c .before .before .before .before .before .before .before .before .before .before .before .if1 .left) in
-    let x = lt-leb _ _ (c .before .before .before .before .before .before .before .before .before .if2 .left) in
+    let d = ne-eqb _ _ (c .before .before .before .before .before .before .before .before .before .before .if1 .left) in
+    let x = lt-leb _ _ (c .before .before .before .before .before .before .before .before .if2 .left) in
     let y = le-ltb _ _ (c .before .before .before .before .before .before .before .if3 .left) in
     let z = lt-leb _ _ (c .before .before .before .before .before .before .if4 .left) in
     (rw (d, x, y, z), (rw (d, x, y, z) (c .before .before .fill-hours .ensures), rw (d, x, y, z)))
