@@ -728,6 +728,7 @@ fn cause(t: &[u8], number: u64, place: u64) -> Option<&'static str> {
     }
     let before = || before(t, place);
     let kinds = || before().filter(|(w, _)| KINDS.contains(w));
+    let events = t.split(|b| b"\t\n".contains(b)).nth(1).and_then(model::number)? as i64;
     match (w, number, &numbers(&fields)?[..]) {
         ("bal", 3, [lo, hi]) => match ((-15..=0).contains(lo), (0..=15).contains(hi)) {
             (false, true) => Some("lo"),
@@ -736,7 +737,7 @@ fn cause(t: &[u8], number: u64, place: u64) -> Option<&'static str> {
             _ => None,
         },
         ("amp", 3, [_, -15..=15]) => Some("e"),
-        ("amp", 3, [0, _]) => Some("d"),
+        ("amp", 3, [e, _]) => (*e < events).then_some("d"),
         ("amp", 4, [e, d]) => match before().find(|(w, given)| *w == "amp" && given[0] == *e)?.1[..] {
             _ if *d == 0 => Some("again, 0"),
             [_, given] if given == *d => Some("again, the same"),
@@ -744,11 +745,12 @@ fn cause(t: &[u8], number: u64, place: u64) -> Option<&'static str> {
         },
         ("day", 3, [2..=32]) => Some("fifth"),
         ("day", 3, _) if kinds().count() < 4 => Some("T"),
-        ("open", 3, [e, a, b]) => match (*b <= kinds().next()?.1[0], a < b) {
-            (true, true) => Some("e"),
-            (true, false) => Some("e, a not below b"),
-            (false, true) => (*e == 0).then_some("b"),
-            (false, false) => (*e == 0).then_some("b, a not below b"),
+        ("open", 3, [e, a, b]) => match (*e < events, *b <= kinds().next()?.1[0], a < b) {
+            (false, true, true) => Some("e"),
+            (false, true, false) => Some("e, a not below b"),
+            (true, false, true) => Some("b"),
+            (true, false, false) => Some("b, a not below b"),
+            _ => None,
         },
         ("open", 18, [_, a, b]) => match kinds().next()?.1[0] {
             _ if a == b => Some("a equals b"),
@@ -1058,7 +1060,7 @@ fn sentences(tally: &mut Tally, rng: &mut Random) {
         }
     };
     random(tally, Rule::random, 1_000);
-    random(tally, Rule::random_kind, 4_000);
+    random(tally, Rule::random_kind, 12_000);
     let dropped = tally.dropped;
     random(tally, Rule::random_bal, 1_000);
     random(tally, Rule::random_day, 1_000);
@@ -1543,10 +1545,10 @@ fn main() {
         let times: u64 = beside.map(|(_, times)| times).sum();
         assert!(times > 300, "few rigs with {kinds:?} are compared with the sentences: {times}");
     }
-    let four = tally.mixed.keys().filter(|kinds| kinds.len() == 4).count();
-    assert_eq!(four, 5, "the sets of four kinds that are compared with the sentences: {:?}", tally.mixed);
+    let four = tally.mixed.iter().filter(|(kinds, times)| kinds.len() == 4 && **times > 10).count();
+    assert_eq!(four, 5, "the sets of four kinds of which more than a few rigs are compared with the sentences: {:?}", tally.mixed);
     for (kind, times) in &tally.kinds {
-        assert!(*times > 1_000, "few rigs have {kind}: {times}");
+        assert!(*times > 100, "few rigs have {kind}: {times}");
     }
     assert!(tally.dropped > 1_000, "few sequences are admitted by the sentences and can't be carried on: {}", tally.dropped);
     assert!(tally.admitted > 2_000, "few long sequences are judged by the sentences");

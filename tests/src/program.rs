@@ -2,7 +2,9 @@
 //! The last line is the number of inputs and of differences; the exit status is 0 only without any.
 use outside::listing::{listing, Outcome};
 use outside::random::Random;
-use outside::texts::{damage, endless, monitors, other_bal, other_day, other_marks, other_order, other_rules, other_start, text, wrong_signs};
+use outside::texts::{
+    damage, endless, monitors, other_bal, other_day, other_marks, other_order, other_rules, other_start, text, wrong_signs,
+};
 use outside::texts::{Shape, A, A_FROM_1, A_GAP, A_ORDERED, B, B_STOPS, CLASH, DAY, F, LAST, ONE, REPLY, SWING};
 use std::collections::{BTreeMap, BTreeSet};
 use std::io::Write;

@@ -201,7 +201,7 @@ fn with_lines(t: &[u8], more: String, rng: &mut Random) -> Vec<u8> {
 fn field(inside: &[i64], outside: &[i64], rng: &mut Random) -> String {
     match rng.below(32) {
         0 => rng.pick(&SIGNS.concat()).to_string(),
-        1 | 2 => rng.pick(outside).to_string(),
+        1..=3 => rng.pick(outside).to_string(),
         _ => rng.pick(inside).to_string(),
     }
 }
@@ -211,7 +211,7 @@ fn event(events: i64, rng: &mut Random) -> String {
     field(&(0..events.max(1)).collect::<Vec<_>>(), &[events, events + 1, 16, 256, 65_536, 99_999], rng)
 }
 
-/// Lines that mustn't follow a `bal` or `day`, or only the one of them, and some of no form; or none.
+/// Lines that mustn't follow a `bal` or a `day`, or only one of the two, and lines of no form; or none.
 const NEXT: &[&str] = &[
     "",
     "",
@@ -262,13 +262,10 @@ pub fn other_day(t: &[u8], rng: &mut Random) -> Vec<u8> {
     }
     for _ in 0..*rng.pick(&[0, 1, 1, 2, 2, 3, 5]) {
         let b = field(&[1, 1, 2, steps - 1, steps, steps], &[steps + 1, 33, 0, 256, 257, 65_537, 99_999], rng);
-        let near = b.parse().unwrap_or(1);
-        let a = field(
-            &[0, 0, 0, 0, near - 1, near - 1, near - 2].map(|a: i64| a.max(0)),
-            &[near, near, near + 1, 33, 256, 65_536, 99_999],
-            rng,
-        );
-        more += &format!("open\t{}\t{a}\t{b}\n", event(events, rng));
+        let end: i64 = b.parse().unwrap_or(1);
+        let (below, not_below) = ([0, 0, end.max(1) - 1, end.max(2) - 2], [end, end, end + 1, 33, 256, 65_536, 99_999]);
+        let from = if rng.chance(1, 4) { &not_below[..] } else { &below };
+        more += &format!("open\t{}\t{}\t{b}\n", event(events, rng), field(from, from, rng));
     }
     with_lines(t, more + *rng.pick(NEXT), rng)
 }
