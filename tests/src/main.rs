@@ -10,6 +10,7 @@ use outside::rules::{self, admitted, all_marked, in_hours, intervals, steps, wit
 use outside::texts::{self, damage, endless, from_state_0, lower_first, other_bal, other_day, other_marks, other_order, other_rules};
 use outside::texts::{other_start, ruled, text, written_out, wrong_signs, Shape};
 use std::collections::{BTreeMap, BTreeSet, HashSet};
+use std::slice::from_ref;
 
 #[derive(Default)]
 struct Tally {
@@ -1040,11 +1041,11 @@ fn as_moves(tally: &mut Tally, rng: &mut Random, t: &[u8], h: u64) {
 fn sentences(tally: &mut Tally, rng: &mut Random) {
     for events in 1..=3 {
         for rule in Rule::every(events, 5) {
-            (0..=7).for_each(|h| by_sentences(tally, rng, &[rule.clone()], &(0..events as usize).collect::<Vec<_>>(), h));
+            (0..=7).for_each(|h| by_sentences(tally, rng, from_ref(&rule), &(0..events as usize).collect::<Vec<_>>(), h));
         }
     }
     for rule in Rule::every_bal(2) {
-        (0..=7).for_each(|h| by_sentences(tally, rng, &[rule.clone()], &[0, 1], h));
+        (0..=7).for_each(|h| by_sentences(tally, rng, from_ref(&rule), &[0, 1], h));
     }
     assert_eq!(tally.dropped, 0, "what one line admits can be carried on");
     let small = Rule::every(2, 4);
@@ -1076,8 +1077,8 @@ fn bands(tally: &mut Tally, rng: &mut Random) {
     for (lo, hi) in rules::bands(15) {
         for d in -15..=15 {
             let rule = Rule::Bal { lo, hi, steps: steps(&[Some(d), Some(1), Some(-1)]) };
-            (0..=2).for_each(|h| by_sentences(tally, rng, &[rule.clone()], &[0, 1, 2, 3], h));
-            let want = count(tally, rng, &ruled(&[rule.clone()], &[0, 1, 2, 3]), 31, 32 * rule.states());
+            (0..=2).for_each(|h| by_sentences(tally, rng, from_ref(&rule), &[0, 1, 2, 3], h));
+            let want = count(tally, rng, &ruled(from_ref(&rule), &[0, 1, 2, 3]), 31, 32 * rule.states());
             let kept = within(lo, hi, &[d, 1, -1, 0], 31);
             assert_eq!((want.number, want.words), (0, [kept, 1]), "the independent count of sums from {lo} to {hi}, with a step of {d}");
         }
@@ -1086,38 +1087,40 @@ fn bands(tally: &mut Tally, rng: &mut Random) {
         for half in all.chunks(16) {
             let rule = Rule::Bal { lo, hi, steps: steps(half) };
             let order: Vec<usize> = (0..16).collect();
-            (0..=2).for_each(|h| by_sentences(tally, rng, &[rule.clone()], &order, h));
-            as_moves(tally, rng, &ruled(&[rule.clone()], &order), 15);
+            (0..=2).for_each(|h| by_sentences(tally, rng, from_ref(&rule), &order, h));
+            as_moves(tally, rng, &ruled(from_ref(&rule), &order), 15);
         }
     }
 }
 
-/// Every T from 2 to 7 and every a and b, for one event beside one without: every sequence up to one that goes round the day and on. And every two lines, of
-/// one event and of two, at one horizon that goes round the day. Every T and every a and b at a horizon that goes round the day twice, by how many
+/// Every T from 2 to 7 and every a and b, for one event alone and beside one without: every sequence up to one that goes round the day and on. And every two
+/// lines, of one event and of two, at one horizon that goes round the day. Every T and every a and b at a horizon that goes round the day twice, by how many
 /// sequences there are, and by one of them; and random days with several lines for several events.
 fn hours(tally: &mut Tally, rng: &mut Random) {
     for t in 2..=7 {
-        for rule in Rule::every_day(t, &[1]) {
-            (0..=t + 2).for_each(|h| by_sentences(tally, rng, &[rule.clone()], &[0, 1], h));
+        for rule in Rule::every_day(t, &[0]) {
+            for order in [&[0][..], &[0, 1], &[1, 0]] {
+                (0..=t + 2).for_each(|h| by_sentences(tally, rng, from_ref(&rule), order, h));
+            }
         }
         for rule in [&[0, 0], &[0, 1]].into_iter().flat_map(|events| Rule::every_day(t, events)) {
             by_sentences(tally, rng, &[rule], &[1, 0], t + 1);
         }
     }
     for (t, a, b) in (2..=32).flat_map(|t| intervals(t).map(move |(a, b)| (t, a, b))) {
-        counted_in_hours(tally, rng, Rule::Day { t, hours: vec![(1, a, b)] }, 2, 2 * t);
+        counted_in_hours(tally, rng, &Rule::Day { t, hours: vec![(1, a, b)] }, 2, 2 * t);
     }
     for _ in 0..4_000 {
         let (t, events) = (rng.from_to(2, 32), rng.from_to(1, 4));
         let h = rng.below(2 * t + 2) as usize;
         let day = Rule::random_day(t, events, rng);
-        counted_in_hours(tally, rng, day, events as usize, h);
+        counted_in_hours(tally, rng, &day, events as usize, h);
     }
 }
 
 /// A `day` alone: so many sequences are counted as there are by their places, and one of them is judged.
-fn counted_in_hours(tally: &mut Tally, rng: &mut Random, day: Rule, events: usize, h: usize) {
-    let Rule::Day { t, hours } = &day else { unreachable!("a `day`") };
+fn counted_in_hours(tally: &mut Tally, rng: &mut Random, day: &Rule, events: usize, h: usize) {
+    let Rule::Day { t, hours } = day else { unreachable!("a `day`") };
     let kept = in_hours(*t, hours, events, h);
     let expected = match kept {
         0 => (9, [0, 0]),
@@ -1125,10 +1128,10 @@ fn counted_in_hours(tally: &mut Tally, rng: &mut Random, day: Rule, events: usiz
         _ => (0, [kept, 1]),
     };
     let order: Vec<usize> = (0..events).collect();
-    let want = count(tally, rng, &ruled(&[day.clone()], &order), h as u64, (h + 1) * t);
+    let want = count(tally, rng, &ruled(from_ref(day), &order), h as u64, (h + 1) * t);
     assert_eq!((want.number, want.words), expected, "the independent count inside the hours of {day:?}");
     if want.number == 0 {
-        judged(tally, rng, &[day], events as u64, h);
+        judged(tally, rng, from_ref(day), events as u64, h);
     }
 }
 
@@ -1326,12 +1329,16 @@ fn large(tally: &mut Tally, rng: &mut Random) {
     ];
     let mut rigs =
         shapes.map(|(monitors, density, marks, rules)| text(&Shape { events: 16, monitors, density, marks, rules }, rng)).to_vec();
-    for (sizes, chosen) in [[16, 16, 4], [31, 11, 3], [1, 31, 31]]
-        .map(|sizes| (sizes.to_vec(), Rule::random_bal as Chosen))
-        .into_iter()
-        .chain([vec![32, 32], vec![16, 16, 4], vec![2, 32, 4, 4]].map(|sizes| (sizes, Rule::random_day as Chosen)))
-    {
-        let rules: Vec<Rule> = sizes.into_iter().map(|s| chosen(s, 16, rng)).collect();
+    let marked: [(&[u64], Chosen); 6] = [
+        (&[16, 16, 4], Rule::random_bal),
+        (&[31, 11, 3], Rule::random_bal),
+        (&[1, 31, 31], Rule::random_bal),
+        (&[32, 32], Rule::random_day),
+        (&[16, 16, 4], Rule::random_day),
+        (&[2, 32, 4, 4], Rule::random_day),
+    ];
+    for (sizes, chosen) in marked {
+        let rules: Vec<Rule> = sizes.iter().map(|&s| chosen(s, 16, rng)).collect();
         rigs.push(ruled(&rules, &(0..16).collect::<Vec<_>>()));
     }
     for t in rigs {

@@ -138,8 +138,14 @@ fn worked(tally: &mut Tally) {
         assert!(tally.compare(&ask(h, shift)).starts_with(first.as_bytes()), "the independent listing of the last bus");
         assert_eq!(tally.compare(&ask(h, &endless(shift))), b"no\t9\t0\n", "the independent listing of the last bus without marks");
     }
-    let (follows, first) = (include_bytes!("../../examples/load_follows.ask"), include_bytes!("../../examples/load_follows.first"));
-    assert!(tally.compare(follows).starts_with(first), "the independent listing of the load that follows");
+    let examples: [(&[u8], &[u8]); 3] = [
+        (include_bytes!("../../examples/load_follows.ask"), include_bytes!("../../examples/load_follows.first")),
+        (include_bytes!("../../examples/service_day.ask"), include_bytes!("../../examples/service_day.first")),
+        (include_bytes!("../../examples/service_day_gap.ask"), include_bytes!("../../examples/service_day_gap.first")),
+    ];
+    for (input, first) in examples {
+        assert!(tally.compare(input).starts_with(first), "the independent listing of an example: {}", shown(input));
+    }
     let long = "\n".repeat(65_535);
     let (two, four) = ("rig\t1\nmon\t32\nmon\t32\n", "rig\t1\nmon\t1\nmon\t1\nmon\t1\nmon\t1\n");
     let refused = [
@@ -415,7 +421,7 @@ fn random(tally: &mut Tally, rng: &mut Random) {
         }
         tally.compare(&ask(horizon(rng), &t));
     }
-    for _ in 0..600 {
+    for _ in 0..1_500 {
         let t = text(&Shape { rules: 100, ..Shape::small(rng, 4, 40) }, rng);
         tally.compare(&ask(horizon(rng), &t));
     }
