@@ -1004,8 +1004,8 @@ fn unmarked(tally: &mut Tally, t: &[u8], h: u64) {
     tally.note(name, 0, wrong.then(|| format!("{ours:?} and {theirs:?}")), input);
 }
 
-/// A readable rig with `gap`, `reply`, `bal` or `day` lines, and the same one with these as `mon`, `go` and `stop` lines: the library tells the same, fills the same
-/// cells and writes the same bytes.
+/// A readable rig with `gap`, `reply`, `bal` or `day` lines, and the same one with these as `mon`, `go` and `stop` lines: the library tells the same, fills
+/// the same cells and writes the same bytes.
 fn as_moves(tally: &mut Tally, rng: &mut Random, t: &[u8], h: u64) {
     let rig = model::read(t).expect("a readable text");
     if rig.monitors.iter().all(|m| m.kind == Kind::Mon) {
