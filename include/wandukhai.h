@@ -9,12 +9,13 @@
  *   - a buffer that is not `const`, the answer's included, overlaps no other buffer.
  * What the buffers hold before a call does not matter.
  *
- * Rig text: at most 65,535 bytes; lines end with byte 10, fields are parted by one byte 9:
+ * Rig text: at most 65,535 bytes. Every line, the last too, ends with byte 10; its word and its numbers are parted by one byte 9. A number
+ * is one to five digits, without leading zero except 0 itself.
  *   rig E             first line; events are 0 to E-1, E from 1 to 16
  *   ord e e ...       second line, which may be left out: all E events, first to last, in the order of scenarios; without it lower first
  *   mon S             a new monitor with states 0 to S-1, S from 1 to 32, starting in 0
  *   mon S start       the same, starting in the state given, which is below S
- *   go s e t          the latest monitor, a `mon`, moves from s to t on event e
+ *   go s e t          the latest monitor, a `mon`, moves from s to t on event e; without such a line it does not admit e in s
  *   stop s            marks state s of the latest monitor, a `mon`; `go` and `stop` lines may be mixed
  *   gap e n           a new monitor: two events e are at least n steps apart, n from 2 to 32
  *   reply a b lo hi   a new monitor: after a, some b comes lo to hi steps later, lo from 1 to hi, hi up to 31; until the first such b no
@@ -22,28 +23,37 @@
  *   bal lo hi         a new monitor of a difference that begins at 0: an event adds its step, and is admitted if the difference stays from
  *                     lo to hi; lo from -15 to 0, hi from 0 to 15
  *   amp e d           gives event e the step d, -15 to 15, in the latest monitor, a `bal`; an event without such a line has step 0
+ *   day T             a new monitor of a day of T steps, T from 2 to 32: the scenario begins at step 0, each event is one step, and the day
+ *                     repeats; an event is admitted at a step if it has no `open` line, or one for that step
+ *   open e a b        admits event e at the steps from a up to but not including b, in the latest monitor, a `day`; a below b, b at most T;
+ *                     several lines of one event add up, and equal ones may repeat
  * In lo, hi and d of `bal` and `amp` a minus sign, byte 45, may come before a nonzero number; no sign may stand anywhere else.
- * One to four monitors, of any kind. A `gap` has n states: the number of coming steps in which e is not admitted; all are marked. A `reply`
- * has hi+1 states: 0 with nothing due, 1 just after a, and one more each step; only 0 is marked. Both start in 0. A `bal` has hi-lo+1
- * states: state j is the difference lo+j; all are marked. It starts in -lo.
+ * One to four monitors, of any kind; an event is admitted if every monitor admits it. A `mon` has the marks of its `stop` lines. A `gap` has n
+ * states: the number of coming steps in which e is not admitted; all are marked. A `reply` has hi+1 states: 0 with nothing due, 1 just after
+ * a, and one more each step; only 0 is marked. A `bal` has hi-lo+1 states: state j is the difference lo+j; all are marked. A `day` has T
+ * states: the step of the day at which the coming event stands; all are marked. A `bal` starts in -lo, a `gap`, `reply` or `day` in 0.
+ * A joint state is a state of each monitor; its number has the first monitor as its highest digit.
  * P is the product of all numbers of states, at most 1,024. The horizon h is 0 to 1,000. N is the number of scenarios of h events.
  *
  * A joint state is stoppable if every monitor's state is marked. It is live if, for every k, k events can follow, or fewer, none included,
  * that lead to a stoppable state. A scenario has exactly h events and passes live states only. In a rig without stoppable states it can be
- * carried on for ever; in one with them, there may be scenarios of one horizon and none of the next.
+ * carried on for ever; in one with them, there may be scenarios of one horizon and none of the next. The scenarios have the indices 0 to N-1:
+ * of two, the one comes first whose event is first in the order of events where they first differ.
+ * Live states are found by pruning all joint states: a pass removes each state that is not stoppable and from which no event leads to a state
+ * left by the pass before. The last pass removes none, and is counted too.
  *
  * Returned: 0 where the call is served, else the number of refusal, with a place (0 where none is named):
  *    1  text over 65,535 bytes
  *    2  no such line form, a field that is no number, a sign where none may      place: line, from 1
  *       stand, or the last line unended; on line 2, an `ord` with other than E
  *       events
- *    3  a number out of its range, a start or a marked state not below S, lo     place: line
- *       over hi, or a fifth monitor
+ *    3  a number out of its range, an event not below E, a start or a state of   place: line
+ *       a `go` or `stop` not below S, lo over hi, b over T, or a fifth monitor
  *    4  s and e again in one monitor, a state marked twice, or an event again    place: line
  *       in one `bal`
  *    5  first line not `rig`, `rig` later, `ord` not on line 2, `go` or `stop`   place: line; at the end, lines + 1
- *       where the latest monitor is no `mon`, `amp` where it is no `bal`; no
- *       monitor by the end
+ *       where the latest monitor is no `mon`, `amp` where it is no `bal`,
+ *       `open` where it is no `day`; no monitor by the end
  *    6  P over 1,024                                                             place: line of that monitor
  *    7  h over 1,000
  *    8  cells_len below (h + 1) * P; scratch_len below 2 * draws_len
@@ -57,7 +67,8 @@
  *   15  draw i not from i to n-1                                                 place: position, from 0
  *   16  an event named twice in `ord`                                            place: line
  *   17  a equals b in `reply`                                                    place: line
- * Checks go in the order 1, 2 to 6, 16 and 17 line by line (on one line 2, 5, 3, 16 or 17, 4, 6), 7, 8, 12, 13, 9, 10, 11, 14, 15.
+ *   18  a not below b in `open`                                                  place: line
+ * Checks go in the order 1, 2 to 6 and 16 to 18 line by line (on one line 2, 5, 3, 16, 17 or 18, 4, 6), 7, 8, 12, 13, 9, 10, 11, 14, 15.
  */
 #ifndef WANDUKHAI_H
 #define WANDUKHAI_H

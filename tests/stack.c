@@ -66,8 +66,21 @@ static void write_sums(void)
     }
 }
 
+/* Two `day`s of 32 states with an `open` line for each half of the day and every event; they add up to the whole day, so N is 16 ^ h. */
+static void write_days(void)
+{
+    char *end = text + sprintf(text, "rig\t%d\n", EVENTS);
+    int k, e;
+
+    for (k = 0; k < 2; k++) {
+        end += sprintf(end, "day\t%d\n", S);
+        for (e = 0; e < EVENTS; e++)
+            end += sprintf(end, "open\t%d\t0\t%d\nopen\t%d\t%d\t%d\n", e, S / 2, e, S / 2, S);
+    }
+}
+
 /* The texts whose N is 2^64 - 1 or more at the horizon. */
-static void (*const full[])(void) = {write_many, write_rules, write_sums};
+static void (*const full[])(void) = {write_many, write_rules, write_sums, write_days};
 
 static void count(void)
 {

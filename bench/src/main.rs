@@ -1,6 +1,6 @@
 //! How long the calls take beside plain Rust and plain C on the same input, in the same run: the best of some rounds, taken in turn. Buffers are
-//! lent as the round before left them. Every answer is compared. And how long `gap`, `reply` and `bal` lines take to read beside the moves they stand
-//! for.
+//! lent as the round before left them. Every answer is compared. And how long `gap`, `reply`, `bal` and `day` lines take to read beside the moves they
+//! stand for.
 mod plain;
 
 use outside::texts::{lower_first, written_out};
@@ -220,8 +220,8 @@ fn growths() {
     growth("random, of 2^64 - 1, a map", &mut map, &most, &mut random);
 }
 
-/// Best microseconds that reading takes, of `gap`, `reply` and `bal` lines and of the same monitors as `mon`, `go` and `stop` lines. The horizon 1,001 is
-/// refused once the text is read, so nothing else is timed.
+/// Best microseconds that reading takes, of `gap`, `reply`, `bal` and `day` lines and of the same monitors as `mon`, `go` and `stop` lines. The horizon 1,001
+/// is refused once the text is read, so nothing else is timed.
 fn reading(name: &str, rules: &str) {
     let moves = lower_first(&written_out(&model::read(rules.as_bytes()).unwrap()));
     let texts = [rules.as_bytes().to_vec(), moves];
@@ -254,6 +254,13 @@ fn readings() {
     reading("bal -15 15 and 16 amps, of 16 events", &format!("rig\t16\nbal\t-15\t15\n{amps}"));
     let three = format!("rig\t16\nbal\t-15\t0\n{amps}bal\t0\t15\n{amps}bal\t-1\t2\n{amps}");
     reading("three bals of 16, 16 and 4 states, 48 amps, of 16 events", &three);
+    reading("day 2 and 1 open, of 1 event", "rig\t1\nday\t2\nopen\t0\t0\t1\n");
+    reading("day 6 and 4 opens, of 5 events", "rig\t5\nday\t6\nopen\t0\t3\t5\nopen\t1\t5\t6\nopen\t1\t0\t1\nopen\t4\t1\t3\n");
+    reading("day 32 and no open, of 16 events", "rig\t16\nday\t32\n");
+    let opens: String = (0..16).map(|e| format!("open\t{e}\t{e}\t{}\n", e + 16)).collect();
+    reading("day 32 and 16 opens, of 16 events", &format!("rig\t16\nday\t32\n{opens}"));
+    reading("day 32 and 160 opens, of 16 events", &format!("rig\t16\nday\t32\n{}", opens.repeat(10)));
+    reading("two days of 32 states, 32 opens, of 16 events", &format!("rig\t16\nday\t32\n{opens}day\t32\n{opens}"));
 }
 
 fn main() {

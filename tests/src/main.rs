@@ -6,10 +6,11 @@ use outside::guarded::{bytes, noise_bytes, noise_words, words, Guarded};
 use outside::listing::scenario_line;
 use outside::model::{self, Kind, Monitor};
 use outside::random::Random;
-use outside::rules::{self, admitted, steps, within, Rule};
-use outside::texts::{self, damage, endless, from_state_0, lower_first, other_bal, other_marks, other_order, other_rules, other_start};
-use outside::texts::{ruled, text, written_out, wrong_signs, Shape};
-use std::collections::{BTreeMap, HashSet};
+use outside::rules::{self, admitted, all_marked, in_hours, intervals, steps, within, Chosen, Rule};
+use outside::texts::{self, damage, endless, from_state_0, lower_first, other_bal, other_day, other_marks, other_order, other_rules};
+use outside::texts::{other_start, ruled, text, written_out, wrong_signs, Shape};
+use std::collections::{BTreeMap, BTreeSet, HashSet};
+use std::slice::from_ref;
 
 #[derive(Default)]
 struct Tally {
@@ -25,9 +26,9 @@ struct Tally {
     lines: BTreeMap<(&'static str, u64), u64>,
     /// By word of a line and of the latest monitor: how many random texts were refused 5 for a line that isn't that monitor's.
     others: BTreeMap<(&'static str, &'static str), u64>,
-    /// By word of a line and cause: how many random texts were refused for a `bal` or `amp` line with this cause alone.
+    /// By word of a line and cause: how many random texts were refused for a `bal`, `amp`, `day` or `open` line with this cause alone.
     causes: BTreeMap<(&'static str, &'static str), u64>,
-    /// By kind of monitor: how many random rigs were served that have one. And how many that have two `bal`, no `mon` or only `bal`.
+    /// By kind of monitor: how many random rigs were served that have one. And how many that have two `bal` or `day`, no `mon`, or only `bal` or `day`.
     kinds: BTreeMap<&'static str, u64>,
     /// How many random rigs were served that have a stoppable state, and how many of these also a live state without any scenario of the horizon.
     stoppable: u64,
@@ -38,8 +39,10 @@ struct Tally {
     ending: u64,
     /// How many sequences of small rigs are refused 14 at an event before which no scenario goes on already.
     late: u64,
-    /// How many sequences of `gap`, `reply` and `bal` lines are admitted and can't be carried on.
+    /// How many sequences are admitted by the sentences and can't be carried on.
     dropped: u64,
+    /// By the kinds of the monitors: how many rigs with scenarios were compared with their sentences.
+    mixed: BTreeMap<Vec<&'static str>, u64>,
     /// How many rigs of such lines were served whose long sequences were judged by their sentences.
     admitted: u64,
     /// How many lines had too short an output, so that nothing is written.
@@ -134,7 +137,7 @@ fn shuffle(tally: &mut Tally, rng: &mut Random, n: u64, draws: &[u64], scratch: 
 
 /// The worked examples of the paper and of its table of refusals, with the answers written there.
 fn worked(tally: &mut Tally, rng: &mut Random) {
-    use texts::{A, A_FROM_1, A_GAP, A_ORDERED, B, B_STOPS, CLASH, EITHER, F, LAST, ONE, REPLY, SWING};
+    use texts::{A, A_FROM_1, A_GAP, A_ORDERED, B, B_STOPS, CLASH, DAY, EITHER, F, LAST, ONE, REPLY, SWING};
     let at = |t: &str, h: u64, cells: usize, number: u64, words: [u64; 2]| (t.as_bytes().to_vec(), h, cells, number, words);
     let two = "rig\t1\nmon\t32\nmon\t32\n".to_string();
     let mut counts = vec![
@@ -452,6 +455,136 @@ fn worked(tally: &mut Tally, rng: &mut Random) {
         at("rig\t1\nbal\t-15\t15\nbal\t-15\t15\nbal\t0\t1\n", 0, 2, 6, [4, 0]),
         at("rig\t1\nbal\t-15\t15\nmon\t32\nbal\t0\t0\ngap\t0\t2\n", 0, 2, 6, [5, 0]),
         at("rig\t1\nbal\t-15\t15\nbal\t-15\t15\nbal\t0\t16\n", 0, 2, 3, [4, 0]),
+        // `day` and `open`: counted by hand, once and twice round the day; lines that add up, overlap and repeat; beside each other and other kinds
+        at(DAY, 0, 3, 0, [1, 1]),
+        at(DAY, 1, 6, 0, [2, 1]),
+        at(DAY, 2, 9, 0, [2, 1]),
+        at(DAY, 3, 12, 0, [4, 1]),
+        at(DAY, 3, 11, 8, [0, 0]),
+        at(DAY, 4, 15, 0, [8, 1]),
+        at(DAY, 6, 21, 0, [16, 1]),
+        at("rig\t1\nday\t2\n", 1000, 2002, 0, [1, 1]),
+        at("rig\t1\nday\t2\nopen\t0\t0\t2\n", 1000, 2002, 0, [1, 1]),
+        at("rig\t1\nday\t2\nopen\t0\t1\t2\nopen\t0\t0\t1\n", 1000, 2002, 0, [1, 1]),
+        at("rig\t1\nday\t2\nopen\t0\t0\t1\n", 1, 4, 0, [1, 1]),
+        at("rig\t1\nday\t2\nopen\t0\t0\t1\n", 2, 6, 9, [0, 0]),
+        at("rig\t1\nday\t2\nopen\t0\t0\t1\nopen\t0\t0\t1\n", 1, 4, 0, [1, 1]),
+        at("rig\t1\nday\t2\nopen\t0\t1\t2\n", 0, 2, 0, [1, 1]),
+        at("rig\t1\nday\t2\nopen\t0\t1\t2\n", 1, 4, 9, [0, 0]),
+        at("rig\t2\nday\t4\nopen\t0\t0\t3\nopen\t0\t1\t2\n", 4, 20, 0, [8, 1]),
+        at("rig\t2\nday\t4\nopen\t0\t0\t2\nopen\t0\t1\t3\n", 8, 36, 0, [64, 1]),
+        at("rig\t3\nday\t2\nopen\t0\t0\t1\nopen\t2\t1\t2\n", 3, 8, 0, [8, 1]),
+        at("rig\t1\nday\t32\nopen\t0\t0\t31\n", 31, 1024, 0, [1, 1]),
+        at("rig\t1\nday\t32\nopen\t0\t0\t31\n", 32, 1056, 9, [0, 0]),
+        at("rig\t2\nday\t32\nopen\t1\t31\t32\n", 31, 1024, 0, [1, 1]),
+        at("rig\t2\nday\t32\nopen\t1\t31\t32\n", 63, 2048, 0, [2, 1]),
+        at("rig\t2\nday\t32\nopen\t1\t31\t32\n", 64, 2080, 0, [4, 1]),
+        at("rig\t2\nday\t2\n", 63, 128, 0, [1 << 63, 1]),
+        at("rig\t2\nday\t2\n", 64, 130, 10, [0, 0]),
+        at("rig\t2\nday\t2\nopen\t1\t0\t1\nday\t3\nopen\t1\t0\t1\n", 6, 42, 0, [2, 1]),
+        at("rig\t2\nday\t2\nopen\t1\t0\t1\nday\t3\nopen\t1\t0\t1\n", 7, 48, 0, [4, 1]),
+        at("rig\t2\nday\t2\nday\t3\nopen\t1\t2\t3\n", 3, 24, 0, [2, 1]),
+        at("rig\t1\nday\t2\nopen\t0\t0\t1\nday\t2\nopen\t0\t1\t2\n", 0, 4, 0, [1, 1]),
+        at("rig\t1\nday\t2\nopen\t0\t0\t1\nday\t2\nopen\t0\t1\t2\n", 1, 8, 9, [0, 0]),
+        at(&format!("rig\t1\n{}", "day\t2\n".repeat(4)), 63, 1024, 0, [1, 1]),
+        at("rig\t16\nday\t32\nday\t32\n", 0, 1024, 0, [1, 1]),
+        at("rig\t1\nmon\t1\ngo\t0\t0\t0\nday\t2\nopen\t0\t0\t1\n", 0, 2, 9, [0, 0]),
+        at("rig\t1\nmon\t1\ngo\t0\t0\t0\nstop\t0\nday\t2\nopen\t0\t0\t1\n", 1, 4, 0, [1, 1]),
+        at("rig\t1\nmon\t1\ngo\t0\t0\t0\nstop\t0\nday\t2\nopen\t0\t0\t1\n", 2, 6, 9, [0, 0]),
+        at("rig\t2\ngap\t1\t2\nday\t2\nopen\t1\t0\t1\n", 5, 24, 0, [8, 1]),
+        at("rig\t2\nday\t2\nopen\t1\t0\t1\nbal\t0\t1\namp\t1\t1\n", 5, 24, 0, [4, 1]),
+        // an hour that a reply misses: what can't be settled doesn't belong
+        at("rig\t2\nreply\t0\t1\t1\t1\nday\t2\nopen\t1\t0\t1\n", 0, 4, 0, [1, 2]),
+        at("rig\t2\nreply\t0\t1\t1\t1\nday\t2\nopen\t1\t0\t1\n", 3, 16, 0, [1, 2]),
+        // all their cases, in their order
+        at("rig\t1\nday\n", 0, 2, 2, [2, 0]),
+        at("rig\t1\nday\t\n", 0, 2, 2, [2, 0]),
+        at("rig\t1\nday\t2\t0\n", 0, 2, 2, [2, 0]),
+        at("rig\t1\nday\t99\t0\n", 0, 2, 2, [2, 0]),
+        at("rig\t1\nday\t02\n", 0, 2, 2, [2, 0]),
+        at("rig\t1\nday\t-2\n", 0, 2, 2, [2, 0]),
+        at("rig\t1\nday\t100000\n", 0, 2, 2, [2, 0]),
+        at("rig\t1\nday\t2", 0, 2, 2, [2, 0]),
+        at("rig\t1\nDAY\t2\n", 0, 2, 2, [2, 0]),
+        at("rig\t1\ndays\t2\n", 0, 2, 2, [2, 0]),
+        at("rig\t1\nday\t1\n", 0, 2, 3, [2, 0]),
+        at("rig\t1\nday\t0\n", 0, 2, 3, [2, 0]),
+        at("rig\t1\nday\t33\n", 0, 2, 3, [2, 0]),
+        at("rig\t1\nday\t258\n", 0, 2, 3, [2, 0]),
+        at("rig\t1\nday\t65538\n", 0, 2, 3, [2, 0]),
+        at("rig\t1\nday\t99999\n", 0, 2, 3, [2, 0]),
+        at("rig\t1\nday\t2\nopen\n", 0, 2, 2, [3, 0]),
+        at("rig\t1\nday\t2\nopen\t0\n", 0, 2, 2, [3, 0]),
+        at("rig\t1\nday\t2\nopen\t0\t0\n", 0, 2, 2, [3, 0]),
+        at("rig\t1\nday\t2\nopen\t0\t0\t1\t1\n", 0, 2, 2, [3, 0]),
+        at("rig\t1\nday\t2\nopen\t9\t9\t9\t9\n", 0, 2, 2, [3, 0]),
+        at("rig\t1\nday\t2\nopen\t0\t0\t\n", 0, 2, 2, [3, 0]),
+        at("rig\t1\nday\t2\nopen\t0\t0\t1", 0, 2, 2, [3, 0]),
+        at("rig\t1\nday\t2\nopen\t0\t1\t0", 0, 2, 2, [3, 0]),
+        at("rig\t1\nday\t2\nopen\t-1\t0\t1\n", 0, 2, 2, [3, 0]),
+        at("rig\t1\nday\t2\nopen\t0\t-1\t1\n", 0, 2, 2, [3, 0]),
+        at("rig\t1\nday\t2\nopen\t0\t0\t-1\n", 0, 2, 2, [3, 0]),
+        at("rig\t1\nday\t2\nopen\t9\t9\t01\n", 0, 2, 2, [3, 0]),
+        at("rig\t1\nday\t2\nopen\t0\t100000\t2\n", 0, 2, 2, [3, 0]),
+        at("rig\t1\nday\t2\nopens\t0\t0\t1\n", 0, 2, 2, [3, 0]),
+        at("rig\t1\nday\t2\nopen\t1\t0\t1\n", 0, 2, 3, [3, 0]),
+        at("rig\t1\nday\t2\nopen\t256\t0\t1\n", 0, 2, 3, [3, 0]),
+        at("rig\t1\nday\t2\nopen\t99999\t0\t1\n", 0, 2, 3, [3, 0]),
+        at("rig\t16\nday\t2\nopen\t16\t0\t1\n", 0, 2, 3, [3, 0]),
+        at("rig\t1\nday\t2\nopen\t0\t0\t3\n", 0, 2, 3, [3, 0]),
+        at("rig\t1\nday\t32\nopen\t0\t0\t33\n", 0, 2, 3, [3, 0]),
+        at("rig\t1\nday\t2\nopen\t0\t0\t258\n", 0, 2, 3, [3, 0]),
+        at("rig\t1\nday\t2\nopen\t0\t0\t65537\n", 0, 2, 3, [3, 0]),
+        at("rig\t1\nday\t2\nopen\t0\t0\t99999\n", 0, 2, 3, [3, 0]),
+        at("rig\t1\nday\t3\nday\t2\nopen\t0\t2\t3\n", 0, 2, 3, [4, 0]),
+        // a not below b: a has no other range, nor b a lower end
+        at("rig\t1\nday\t2\nopen\t0\t0\t0\n", 0, 2, 18, [3, 0]),
+        at("rig\t1\nday\t2\nopen\t0\t1\t1\n", 0, 2, 18, [3, 0]),
+        at("rig\t1\nday\t2\nopen\t0\t2\t2\n", 0, 2, 18, [3, 0]),
+        at("rig\t1\nday\t2\nopen\t0\t2\t1\n", 0, 2, 18, [3, 0]),
+        at("rig\t1\nday\t2\nopen\t0\t1\t0\n", 0, 2, 18, [3, 0]),
+        at("rig\t1\nday\t3\nopen\t0\t99999\t3\n", 0, 2, 18, [3, 0]),
+        at("rig\t1\nday\t2\nopen\t0\t256\t1\n", 0, 2, 18, [3, 0]),
+        at("rig\t1\nday\t2\nopen\t0\t65536\t1\n", 0, 2, 18, [3, 0]),
+        at("rig\t1\nday\t2\nopen\t0\t0\t1\nopen\t0\t1\t1\n", 0, 2, 18, [4, 0]),
+        at("rig\t1\nday\t2\nopen\t0\t1\t1\nopen\t0\t1\t1\t1\n", 0, 2, 18, [3, 0]),
+        // after a line that isn't of the latest monitor and a number out of its range
+        at("rig\t1\nday\t2\nopen\t0\t9\t3\n", 0, 2, 3, [3, 0]),
+        at("rig\t1\nday\t2\nopen\t0\t3\t3\n", 0, 2, 3, [3, 0]),
+        at("rig\t1\nday\t2\nopen\t1\t1\t1\n", 0, 2, 3, [3, 0]),
+        at("rig\t1\nmon\t1\nopen\t0\t1\t1\n", 0, 2, 5, [3, 0]),
+        at("rig\t1\nopen\t9\t9\t0\n", 0, 2, 5, [2, 0]),
+        at("open\t0\n", 0, 2, 2, [1, 0]),
+        at("open\t0\t0\t1\n", 0, 2, 5, [1, 0]),
+        at("open\t9\t9\t9\n", 0, 2, 5, [1, 0]),
+        at("day\t2\n", 0, 2, 5, [1, 0]),
+        at("day\t99\n", 0, 2, 5, [1, 0]),
+        at("rig\t1\nopen\t0\t0\t1\n", 0, 2, 5, [2, 0]),
+        at("rig\t2\nord\t1\t0\nopen\t0\t0\t1\n", 0, 2, 5, [3, 0]),
+        at("rig\t1\nmon\t1\nopen\t0\t0\t1\n", 0, 2, 5, [3, 0]),
+        at("rig\t1\ngap\t0\t2\nopen\t0\t0\t1\n", 0, 2, 5, [3, 0]),
+        at("rig\t2\nreply\t0\t1\t1\t1\nopen\t0\t0\t1\n", 0, 2, 5, [3, 0]),
+        at("rig\t1\nbal\t0\t1\nopen\t0\t0\t1\n", 0, 2, 5, [3, 0]),
+        at("rig\t1\nday\t2\nmon\t2\nopen\t0\t0\t1\n", 0, 2, 5, [4, 0]),
+        at("rig\t1\nday\t2\nopen\t0\t0\t1\ngap\t0\t2\nopen\t0\t0\t1\n", 0, 2, 5, [5, 0]),
+        at("rig\t1\nday\t2\ngo\t0\t0\t0\n", 0, 2, 5, [3, 0]),
+        at("rig\t1\nday\t2\ngo\t99\t99\t99\n", 0, 2, 5, [3, 0]),
+        at("rig\t1\nmon\t2\nday\t2\ngo\t0\t0\t0\n", 0, 2, 5, [4, 0]),
+        at("rig\t1\nday\t2\nstop\t0\n", 0, 2, 5, [3, 0]),
+        at("rig\t1\nday\t2\nstop\t99\n", 0, 2, 5, [3, 0]),
+        at("rig\t1\nday\t2\namp\t0\t1\n", 0, 2, 5, [3, 0]),
+        at("rig\t1\nday\t2\namp\t99\t-99\n", 0, 2, 5, [3, 0]),
+        at("rig\t1\nday\t2\nrig\t1\n", 0, 2, 5, [3, 0]),
+        at("rig\t1\nday\t2\nord\t0\n", 0, 2, 5, [3, 0]),
+        at(&format!("rig\t1\n{}", "day\t2\n".repeat(5)), 0, 2, 3, [6, 0]),
+        at(&format!("rig\t1\n{}mon\t1\n", "day\t2\n".repeat(4)), 0, 2, 3, [6, 0]),
+        at(&format!("rig\t1\n{}day\t32\n", "mon\t5\n".repeat(4)), 0, 2, 3, [6, 0]),
+        at(&format!("rig\t1\n{}day\t032\n", "mon\t5\n".repeat(4)), 0, 2, 2, [6, 0]),
+        at(&(two.clone() + "day\t2\n"), 1, 2, 6, [4, 0]),
+        at(&(two.clone() + "day\t2\nopen\t9\t9\t9\n"), 1, 2, 6, [4, 0]),
+        at(&(two.clone() + "day\t1\n"), 1, 2, 3, [4, 0]),
+        at("rig\t1\nday\t32\nday\t32\nday\t2\n", 0, 2, 6, [4, 0]),
+        at("rig\t1\nday\t32\nbal\t-15\t15\nmon\t1\ngap\t0\t2\n", 0, 2, 6, [5, 0]),
     ];
     let path: String = (0..31).map(|s| format!("go\t{s}\t0\t{}\n", s + 1)).collect();
     counts.push(at(&format!("rig\t1\nmon\t32\n{path}"), 0, 32, 9, [0, 0]));
@@ -474,8 +607,10 @@ fn worked(tally: &mut Tally, rng: &mut Random) {
     assert_eq!((want.number, want.out), (0, vec![0, 1, 0, 2, 2, 2]));
     let want = scenarios(tally, rng, SWING.as_bytes(), 3, &[3, 1, 0], 12, 9);
     assert_eq!((want.number, want.out), (0, vec![1, 0, 1, 0, 1, 1, 0, 1, 0]));
+    let want = scenarios(tally, rng, DAY.as_bytes(), 3, &[3, 1, 0], 12, 9);
+    assert_eq!((want.number, want.out), (0, vec![1, 0, 1, 0, 0, 1, 0, 0, 0]));
     let down = b"rig\t2\nbal\t-15\t0\namp\t0\t-1\n";
-    let sequences: [(&[u8], &[u8], u64, u64); 32] = [
+    let sequences: [(&[u8], &[u8], u64, u64); 37] = [
         (a, &[1, 0, 1], 0, 4),
         (A_ORDERED.as_bytes(), &[0, 1, 0], 0, 2),
         (b, &[1], 14, 0),
@@ -510,12 +645,17 @@ fn worked(tally: &mut Tally, rng: &mut Random) {
         (down, &[0; 15], 0, 0),
         (down, &[0; 16], 14, 15),
         (down, &[1; 16], 0, 65_534),
+        (DAY.as_bytes(), &[1, 0, 1, 1], 0, 7),
+        (DAY.as_bytes(), &[0, 1], 14, 1),
+        (DAY.as_bytes(), &[1, 0, 1, 1, 1], 14, 4),
+        (DAY.as_bytes(), &[1, 1, 2], 13, 2),
+        (DAY.as_bytes(), &[1, 1, 1, 1, 1], 14, 1),
     ];
     for (t, w, number, word) in sequences {
         let want = index(tally, rng, t, w, 300);
         assert_eq!((want.number, want.words[0]), (number, word), "the independent index of a worked example");
     }
-    for good in [LAST, A_GAP, CLASH, SWING] {
+    for good in [LAST, A_GAP, CLASH, SWING, DAY] {
         for (at, byte) in (0..good.len()).flat_map(|at| (0..=255).map(move |byte| (at, byte))) {
             let mut t = good.as_bytes().to_vec();
             t[at] = byte;
@@ -552,61 +692,86 @@ fn horizon(rng: &mut Random) -> u64 {
     }
 }
 
-/// The words that a monitor's lines begin with; the first four begin a monitor.
-const WORDS: [&str; 7] = ["mon", "gap", "reply", "bal", "go", "stop", "amp"];
+/// The words of the lines that begin a monitor.
+const KINDS: [&str; 5] = ["mon", "gap", "reply", "bal", "day"];
+/// The words of the other lines of a monitor, each with the kind that it belongs to.
+const PARTS: [(&str, &str); 4] = [("go", "mon"), ("stop", "mon"), ("amp", "bal"), ("open", "day")];
 
 /// The word and the other fields of the line at this place, from 1, if there is such a line of a monitor and it is ended.
 fn line_at(t: &[u8], place: u64) -> Option<(&'static str, Vec<&[u8]>)> {
     let line = t.split_inclusive(|&b| b == 10).nth((place as usize).checked_sub(1)?)?;
     let mut fields = line.strip_suffix(b"\n")?.split(|&b| b == 9);
     let first = fields.next()?;
-    Some((WORDS.into_iter().find(|w| w.as_bytes() == first)?, fields.collect()))
+    let mut words = KINDS.into_iter().chain(PARTS.map(|(word, _)| word));
+    Some((words.find(|w| w.as_bytes() == first)?, fields.collect()))
 }
 
-/// The two numbers of a `bal` or `amp` line.
-fn numbers(fields: &[&[u8]]) -> Option<[i64; 2]> {
-    let numbers: Option<Vec<i64>> = fields.iter().map(|f| model::signed(f)).collect();
-    numbers?.try_into().ok()
+/// The lines of monitors before this place, the nearest first: the word and the numbers of each.
+fn before(t: &[u8], place: u64) -> impl Iterator<Item = (&'static str, Vec<i64>)> + '_ {
+    (1..place).rev().filter_map(|k| line_at(t, k)).filter_map(|(w, fields)| Some((w, numbers(&fields)?)))
 }
 
-/// Why a `bal` or `amp` line is refused, where nothing else is wrong with it.
+/// The numbers of a line's fields.
+fn numbers(fields: &[&[u8]]) -> Option<Vec<i64>> {
+    fields.iter().map(|f| model::signed(f)).collect()
+}
+
+/// Why a `bal`, `amp`, `day` or `open` line is refused, where nothing else is wrong with it.
 fn cause(t: &[u8], number: u64, place: u64) -> Option<&'static str> {
     let (w, fields) = line_at(t, place)?;
     if number == 2 {
         let unsigned: Vec<Vec<u8>> = fields.iter().map(|f| f.iter().copied().filter(|b| !b"+-".contains(b)).collect()).collect();
-        let right = unsigned.len() == 2 && unsigned.iter().all(|f| model::number(f).is_some());
-        return right.then_some("sign");
+        let right = unsigned.iter().all(|f| model::number(f).is_some());
+        return match (w, unsigned.len()) {
+            ("bal" | "amp", 2) | ("day", 1) | ("open", 3) => Some(if right { "sign" } else { "no number" }),
+            _ => Some("fields"),
+        };
     }
-    let [a, b] = numbers(&fields)?;
-    let before = || (1..place).rev().filter_map(|k| line_at(t, k)).take_while(|(w, _)| *w == "amp");
-    match (w, number) {
-        ("bal", 3) => match ((-15..=0).contains(&a), (0..=15).contains(&b)) {
+    let before = || before(t, place);
+    let kinds = || before().filter(|(w, _)| KINDS.contains(w));
+    let events = t.split(|b| b"\t\n".contains(b)).nth(1).and_then(model::number)? as i64;
+    match (w, number, &numbers(&fields)?[..]) {
+        ("bal", 3, [lo, hi]) => match ((-15..=0).contains(lo), (0..=15).contains(hi)) {
             (false, true) => Some("lo"),
             (true, false) => Some("hi"),
             (true, true) => Some("fifth"),
             _ => None,
         },
-        ("amp", 3) if (-15..=15).contains(&b) => Some("e"),
-        ("amp", 3) => (a == 0).then_some("d"),
-        ("amp", 4) => match before().filter_map(|(_, fields)| numbers(&fields)).find(|[e, _]| *e == a)? {
-            _ if b == 0 => Some("again, 0"),
-            [_, d] if d == b => Some("again, the same"),
+        ("amp", 3, [_, -15..=15]) => Some("e"),
+        ("amp", 3, [e, _]) => (*e < events).then_some("d"),
+        ("amp", 4, [e, d]) => match before().find(|(w, given)| *w == "amp" && given[0] == *e)?.1[..] {
+            _ if *d == 0 => Some("again, 0"),
+            [_, given] if given == *d => Some("again, the same"),
             _ => Some("again, another"),
+        },
+        ("day", 3, [2..=32]) => Some("fifth"),
+        ("day", 3, _) if kinds().count() < 4 => Some("T"),
+        ("open", 3, [e, a, b]) => match (*e < events, *b <= kinds().next()?.1[0], a < b) {
+            (false, true, true) => Some("e"),
+            (false, true, false) => Some("e, a not below b"),
+            (true, false, true) => Some("b"),
+            (true, false, false) => Some("b, a not below b"),
+            _ => None,
+        },
+        ("open", 18, [_, a, b]) => match kinds().next()?.1[0] {
+            _ if a == b => Some("a equals b"),
+            t if *a >= t => Some("a over b, past the day"),
+            _ => Some("a over b"),
         },
         _ => None,
     }
 }
 
 /// Counts the word of the line that a text is refused for; and the latest monitor's too, where that line doesn't belong to it; and the cause, where it is
-/// a `bal` or `amp` line.
+/// a `bal`, `amp`, `day` or `open` line.
 fn refused(tally: &mut Tally, t: &[u8], number: u64, place: u64) {
     let Some((w, _)) = line_at(t, place) else { return };
     *tally.lines.entry((w, number)).or_default() += 1;
-    if let (5, "go" | "stop" | "amp") = (number, w) {
-        let latest = (1..place).rev().filter_map(|k| line_at(t, k)).map(|(w, _)| w).find(|w| WORDS[..4].contains(w));
+    if number == 5 && !KINDS.contains(&w) {
+        let latest = before(t, place).map(|(w, _)| w).find(|w| KINDS.contains(w));
         *tally.others.entry((w, latest.unwrap_or("none"))).or_default() += 1;
     }
-    if let ("bal" | "amp", Some(cause)) = (w, cause(t, number, place)) {
+    if let ("bal" | "amp" | "day" | "open", Some(cause)) = (w, cause(t, number, place)) {
         *tally.causes.entry((w, cause)).or_default() += 1;
     }
 }
@@ -630,6 +795,9 @@ fn calls_on(tally: &mut Tally, rng: &mut Random, t: &[u8]) {
             tally.vain += live.iter().zip(scenarios).any(|(&live, &n)| live == 1 && n == 0) as u64;
             let has = |kind| rig.monitors.iter().any(|m| m.kind == kind);
             let bal = |is: fn(&Monitor) -> bool| rig.monitors.iter().any(|m| m.kind == Kind::Bal && is(m));
+            let (two, only) =
+                (|kind| rig.monitors.iter().filter(|m| m.kind == kind).count() > 1, |kind| rig.monitors.iter().all(|m| m.kind == kind));
+            let kinds: BTreeSet<Kind> = rig.monitors.iter().map(|m| m.kind).collect();
             for (kind, served) in [
                 ("gap", has(Kind::Gap)),
                 ("reply", has(Kind::Reply)),
@@ -637,9 +805,14 @@ fn calls_on(tally: &mut Tally, rng: &mut Random, t: &[u8]) {
                 ("bal, lo 0", bal(|m| m.start == 0)),
                 ("bal, hi 0", bal(|m| m.start == m.states - 1)),
                 ("bal 0 0", bal(|m| m.states == 1)),
-                ("two bal", rig.monitors.iter().filter(|m| m.kind == Kind::Bal).count() > 1),
+                ("two bal", two(Kind::Bal)),
+                ("day", has(Kind::Day)),
+                ("day with hours", rig.monitors.iter().any(|m| m.kind == Kind::Day && m.moves.len() < m.states * rig.events)),
+                ("two day", two(Kind::Day)),
                 ("no mon", !has(Kind::Mon)),
-                ("only bal", rig.monitors.iter().all(|m| m.kind == Kind::Bal)),
+                ("only bal", only(Kind::Bal)),
+                ("only day", only(Kind::Day)),
+                ("three or four kinds", kinds.len() > 2),
             ] {
                 *tally.kinds.entry(kind).or_default() += served as u64;
             }
@@ -685,15 +858,17 @@ fn demand(tally: &mut Tally, rng: &mut Random, t: &[u8], h: usize) -> bool {
     held(tally, rng, names, t, runs.passes(), &sequences(&rig, &runs, h))
 }
 
-/// Demand 3 on one small rig of `gap`, `reply` and `bal` lines alone, by their sentences. With `bal` alone every state is marked, so one pass removes none.
+/// Demand 3 on one small rig, by the sentences of its lines. Where every state is marked, one pass removes none.
 fn by_sentences(tally: &mut Tally, rng: &mut Random, rules: &[Rule], order: &[usize], h: usize) {
     let t = ruled(rules, order);
-    let bals = rules.iter().all(Rule::is_bal);
-    let passes = if bals { 1 } else { Runs::of(&model::read(&t).expect("a readable text")).passes() };
+    let passes = if all_marked(rules) { 1 } else { Runs::of(&model::read(&t).expect("a readable text")).passes() };
     let all = rules::sequences(rules, order, h);
     tally.dropped += all.iter().filter(|(w, bad)| bad.is_some() && admitted(rules, w)).count() as u64;
     let names = ["sentences: count", "sentences: scenarios", "sentences: index", "sentences: shuffle"];
-    held(tally, rng, names, &t, passes, &all);
+    if held(tally, rng, names, &t, passes, &all) {
+        let kinds: BTreeSet<&str> = rules.iter().map(Rule::word).collect();
+        *tally.mixed.entry(kinds.into_iter().collect()).or_default() += 1;
+    }
 }
 
 /// Demand 3: count, order, scenarios, indices and full shuffles against every sequence of some length. Gives back whether any belongs.
@@ -829,8 +1004,8 @@ fn unmarked(tally: &mut Tally, t: &[u8], h: u64) {
     tally.note(name, 0, wrong.then(|| format!("{ours:?} and {theirs:?}")), input);
 }
 
-/// A readable rig with `gap`, `reply` or `bal` lines, and the same one with these as `mon`, `go` and `stop` lines: the library tells the same, fills the same
-/// cells and writes the same bytes.
+/// A readable rig with `gap`, `reply`, `bal` or `day` lines, and the same one with these as `mon`, `go` and `stop` lines: the library tells the same, fills
+/// the same cells and writes the same bytes.
 fn as_moves(tally: &mut Tally, rng: &mut Random, t: &[u8], h: u64) {
     let rig = model::read(t).expect("a readable text");
     if rig.monitors.iter().all(|m| m.kind == Kind::Mon) {
@@ -862,34 +1037,38 @@ fn as_moves(tally: &mut Tally, rng: &mut Random, t: &[u8], h: u64) {
 }
 
 /// What the library says of every sequence of up to 7 events under every `gap` and `reply` line with n and hi up to 5, and every `bal` with numbers up to 2,
-/// alone, is what its sentence says; and so of every two lines with n and hi up to 4, or numbers up to 1, over two events, and of random ones.
+/// alone, is what its sentence says; and so of every two lines with n and hi up to 4, numbers up to 1, or T up to 3, over two events, and of random ones.
 fn sentences(tally: &mut Tally, rng: &mut Random) {
     for events in 1..=3 {
         for rule in Rule::every(events, 5) {
-            (0..=7).for_each(|h| by_sentences(tally, rng, &[rule], &(0..events as usize).collect::<Vec<_>>(), h));
+            (0..=7).for_each(|h| by_sentences(tally, rng, from_ref(&rule), &(0..events as usize).collect::<Vec<_>>(), h));
         }
     }
     for rule in Rule::every_bal(2) {
-        (0..=7).for_each(|h| by_sentences(tally, rng, &[rule], &[0, 1], h));
+        (0..=7).for_each(|h| by_sentences(tally, rng, from_ref(&rule), &[0, 1], h));
     }
     assert_eq!(tally.dropped, 0, "what one line admits can be carried on");
-    let (small, bals) = (Rule::every(2, 4), Rule::every_bal(1));
-    for (a, b) in small.iter().flat_map(|a| small.iter().chain(&bals).map(move |b| (*a, *b))) {
-        (0..=6).for_each(|h| by_sentences(tally, rng, &[a, b], &[1, 0], h));
+    let small = Rule::every(2, 4);
+    let days = [2, 3].into_iter().flat_map(|t| [0, 1].map(|e| Rule::every_day(t, &[e]))).flatten();
+    let marked: Vec<Rule> = Rule::every_bal(1).into_iter().chain(days).collect();
+    for two in small.iter().flat_map(|a| small.iter().chain(&marked).map(move |b| [a.clone(), b.clone()])) {
+        (0..=6).for_each(|h| by_sentences(tally, rng, &two, &[1, 0], h));
     }
-    for _ in 0..1_000 {
-        let ((rules, order), h) = (rules::beside(Rule::random, rng), rng.below(6) as usize);
-        by_sentences(tally, rng, &rules, &order, h);
-    }
+    let mut random = |tally: &mut Tally, chosen: Chosen, rounds: u64| {
+        for _ in 0..rounds {
+            let ((rules, order), h) = (rules::beside(chosen, rng), rng.below(6) as usize);
+            by_sentences(tally, rng, &rules, &order, h);
+        }
+    };
+    random(tally, Rule::random, 1_000);
+    random(tally, Rule::random_kind, 12_000);
     let dropped = tally.dropped;
-    for (a, b) in bals.iter().flat_map(|a| bals.iter().map(move |b| (*a, *b))) {
-        (0..=5).for_each(|h| by_sentences(tally, rng, &[a, b], &[1, 0], h));
+    random(tally, Rule::random_bal, 1_000);
+    random(tally, Rule::random_day, 1_000);
+    for two in marked.iter().flat_map(|a| marked.iter().map(move |b| [a.clone(), b.clone()])) {
+        (0..=5).for_each(|h| by_sentences(tally, rng, &two, &[1, 0], h));
     }
-    for _ in 0..1_000 {
-        let ((rules, order), h) = (rules::beside(Rule::random_bal, rng), rng.below(6) as usize);
-        by_sentences(tally, rng, &rules, &order, h);
-    }
-    assert_eq!(tally.dropped, dropped, "what `bal` lines admit belongs");
+    assert_eq!(tally.dropped, dropped, "what `bal` and `day` lines admit belongs");
 }
 
 /// Every lo and hi with every step, beside steps of 1, -1 and none: every sequence of up to two events is judged by its sums, and so many of 31 events are
@@ -898,8 +1077,8 @@ fn bands(tally: &mut Tally, rng: &mut Random) {
     for (lo, hi) in rules::bands(15) {
         for d in -15..=15 {
             let rule = Rule::Bal { lo, hi, steps: steps(&[Some(d), Some(1), Some(-1)]) };
-            (0..=2).for_each(|h| by_sentences(tally, rng, &[rule], &[0, 1, 2, 3], h));
-            let want = count(tally, rng, &ruled(&[rule], &[0, 1, 2, 3]), 31, 32 * rule.states());
+            (0..=2).for_each(|h| by_sentences(tally, rng, from_ref(&rule), &[0, 1, 2, 3], h));
+            let want = count(tally, rng, &ruled(from_ref(&rule), &[0, 1, 2, 3]), 31, 32 * rule.states());
             let kept = within(lo, hi, &[d, 1, -1, 0], 31);
             assert_eq!((want.number, want.words), (0, [kept, 1]), "the independent count of sums from {lo} to {hi}, with a step of {d}");
         }
@@ -908,9 +1087,51 @@ fn bands(tally: &mut Tally, rng: &mut Random) {
         for half in all.chunks(16) {
             let rule = Rule::Bal { lo, hi, steps: steps(half) };
             let order: Vec<usize> = (0..16).collect();
-            (0..=2).for_each(|h| by_sentences(tally, rng, &[rule], &order, h));
-            as_moves(tally, rng, &ruled(&[rule], &order), 15);
+            (0..=2).for_each(|h| by_sentences(tally, rng, from_ref(&rule), &order, h));
+            as_moves(tally, rng, &ruled(from_ref(&rule), &order), 15);
         }
+    }
+}
+
+/// Every T from 2 to 7 and every a and b, for one event alone and beside one without: every sequence up to one that goes round the day and on. And every two
+/// lines, of one event and of two, at one horizon that goes round the day. Every T and every a and b at a horizon that goes round the day twice, by how many
+/// sequences there are, and by one of them; and random days with several lines for several events.
+fn hours(tally: &mut Tally, rng: &mut Random) {
+    for t in 2..=7 {
+        for rule in Rule::every_day(t, &[0]) {
+            for order in [&[0][..], &[0, 1], &[1, 0]] {
+                (0..=t + 2).for_each(|h| by_sentences(tally, rng, from_ref(&rule), order, h));
+            }
+        }
+        for rule in [&[0, 0], &[0, 1]].into_iter().flat_map(|events| Rule::every_day(t, events)) {
+            by_sentences(tally, rng, &[rule], &[1, 0], t + 1);
+        }
+    }
+    for (t, a, b) in (2..=32).flat_map(|t| intervals(t).map(move |(a, b)| (t, a, b))) {
+        counted_in_hours(tally, rng, &Rule::Day { t, hours: vec![(1, a, b)] }, 2, 2 * t);
+    }
+    for _ in 0..4_000 {
+        let (t, events) = (rng.from_to(2, 32), rng.from_to(1, 4));
+        let h = rng.below(2 * t + 2) as usize;
+        let day = Rule::random_day(t, events, rng);
+        counted_in_hours(tally, rng, &day, events as usize, h);
+    }
+}
+
+/// A `day` alone: so many sequences are counted as there are by their places, and one of them is judged.
+fn counted_in_hours(tally: &mut Tally, rng: &mut Random, day: &Rule, events: usize, h: usize) {
+    let Rule::Day { t, hours } = day else { unreachable!("a `day`") };
+    let kept = in_hours(*t, hours, events, h);
+    let expected = match kept {
+        0 => (9, [0, 0]),
+        u64::MAX => (10, [0, 0]),
+        _ => (0, [kept, 1]),
+    };
+    let order: Vec<usize> = (0..events).collect();
+    let want = count(tally, rng, &ruled(from_ref(day), &order), h as u64, (h + 1) * t);
+    assert_eq!((want.number, want.words), expected, "the independent count inside the hours of {day:?}");
+    if want.number == 0 {
+        judged(tally, rng, from_ref(day), events as u64, h);
     }
 }
 
@@ -931,27 +1152,31 @@ fn walk(rng: &mut Random, rules: &[Rule], events: u64, h: usize) -> Vec<u8> {
     w
 }
 
-/// Long sequences under `gap`, `reply` and `bal` lines with numbers of any size. Where a line is alone, or all are `bal`, a sequence is refused at the event at
-/// which a sentence fails; beside others, there or earlier. What is listed or has an index is admitted by all.
+/// Long sequences under `gap`, `reply`, `bal` and `day` lines with numbers of any size. Where a line is alone, or every state is marked, a sequence is refused
+/// at the event at which a sentence fails; beside others, there or earlier. What is listed or has an index is admitted by all.
 fn long_sequences(tally: &mut Tally, rng: &mut Random) {
-    for k in 0..4_500 {
+    for k in 0..6_000 {
         let events = rng.from_to(2, 4);
         let h = rng.below([0, 0, 60, 38, 30][events as usize] + 1) as usize;
-        let (sizes, random): (_, fn(u64, u64, &mut Random) -> Rule) = match k % 3 {
+        let (sizes, chosen): (_, Chosen) = match k % 4 {
             0 => (vec![rng.from_to(2, 32)], Rule::random),
             1 => (vec![rng.from_to(2, 32), rng.from_to(2, 8), rng.from_to(2, 4)], Rule::random),
-            _ => (vec![rng.from_to(1, 31), rng.from_to(1, 16), rng.from_to(1, 2)], Rule::random_bal),
+            2 => (vec![rng.from_to(1, 31), rng.from_to(1, 16), rng.from_to(1, 2)], Rule::random_bal),
+            _ => (vec![rng.from_to(2, 32), rng.from_to(2, 8), rng.from_to(2, 4)], Rule::random_day),
         };
-        let rules: Vec<Rule> = sizes.iter().map(|&s| random(s, events, rng)).collect();
+        let rules: Vec<Rule> = sizes.iter().map(|&s| chosen(s, events, rng)).collect();
         judged(tally, rng, &rules, events, h);
     }
-    // few enough sequences for a long horizon: one of the two events comes at most once in 17 steps, or as often as steps of 1 make up for its step down
-    for _ in 0..90 {
+    // few enough sequences for a long horizon: one of the two events comes at most once in 17 steps, or as often as steps of 1 make up for its step down,
+    // or in one or two of the steps of a long day
+    for _ in 0..120 {
         let n = rng.from_to(17, 32) as usize;
         let (a, lo) = (rng.below(2) as u8, rng.from_to(16, n as u64 - 1) as usize);
         let d = rng.from_to(12, 15) as i64;
         let bal = Rule::Bal { lo: -(rng.below(3) as i64), hi: d, steps: steps(&[Some(1), Some(-d)]) };
-        let rule = *rng.pick(&[Rule::Gap { e: a, n }, Rule::Reply { a, b: 1 - a, lo, hi: n - 1 }, bal]);
+        let (from, t) = (rng.below(26) as usize, rng.from_to(27, 32) as usize);
+        let day = Rule::Day { t, hours: vec![(a, from, from + rng.from_to(1, 2) as usize)] };
+        let rule = rng.pick(&[Rule::Gap { e: a, n }, Rule::Reply { a, b: 1 - a, lo, hi: n - 1 }, bal, day]).clone();
         let h = rng.from_to(100, 300) as usize;
         judged(tally, rng, &[rule], 2, h);
     }
@@ -966,7 +1191,7 @@ fn judged(tally: &mut Tally, rng: &mut Random, rules: &[Rule], events: u64, h: u
     let fails = (0..h).find(|&k| !admitted(rules, &w[..=k])).map(|k| k as u64);
     match (want.number, fails) {
         (0, None) | (9, _) => (),
-        (14, _) if rules.len() == 1 || rules.iter().all(Rule::is_bal) => {
+        (14, _) if rules.len() == 1 || all_marked(rules) => {
             assert_eq!(Some(want.words[0]), fails, "where the sentence fails: {w:?}, {rules:?}")
         }
         (14, _) => assert!(fails.is_none_or(|k| want.words[0] <= k), "no later than where a sentence fails: {w:?}, {rules:?}"),
@@ -1104,9 +1329,17 @@ fn large(tally: &mut Tally, rng: &mut Random) {
     ];
     let mut rigs =
         shapes.map(|(monitors, density, marks, rules)| text(&Shape { events: 16, monitors, density, marks, rules }, rng)).to_vec();
-    for sizes in [[16, 16, 4], [31, 11, 3], [1, 31, 31]] {
-        let bals = sizes.map(|s| Rule::random_bal(s, 16, rng));
-        rigs.push(ruled(&bals, &(0..16).collect::<Vec<_>>()));
+    let marked: [(&[u64], Chosen); 6] = [
+        (&[16, 16, 4], Rule::random_bal),
+        (&[31, 11, 3], Rule::random_bal),
+        (&[1, 31, 31], Rule::random_bal),
+        (&[32, 32], Rule::random_day),
+        (&[16, 16, 4], Rule::random_day),
+        (&[2, 32, 4, 4], Rule::random_day),
+    ];
+    for (sizes, chosen) in marked {
+        let rules: Vec<Rule> = sizes.iter().map(|&s| chosen(s, 16, rng)).collect();
+        rigs.push(ruled(&rules, &(0..16).collect::<Vec<_>>()));
     }
     for t in rigs {
         let h = rng.below(40);
@@ -1194,16 +1427,17 @@ fn main() {
     let mut tally = Tally::default();
     let rng = &mut Random::seeded(20_261_115);
     worked(&mut tally, rng);
-    for _ in 0..70_000 {
+    for _ in 0..85_000 {
         let most = *rng.pick(&[4, 12, 40]);
         let shape = Shape::small(rng, 4, most);
         let mut t = text(&shape, rng);
-        match rng.below(16) {
+        match rng.below(20) {
             0 | 1 => t = other_start(&t, rng),
             2 => t = other_order(&t, rng),
             3 | 4 => t = other_marks(&t, rng),
             5..=7 => t = other_rules(&t, rng),
             8..=11 => t = other_bal(&t, rng),
+            12..=15 => t = other_day(&t, rng),
             _ => (),
         }
         calls_on(&mut tally, rng, &t);
@@ -1216,6 +1450,7 @@ fn main() {
         match k % 8 {
             0 | 4 => t = other_rules(&t, rng),
             1 | 2 => t = other_bal(&t, rng),
+            5 | 6 => t = other_day(&t, rng),
             _ => (),
         }
         calls_on(&mut tally, rng, &t);
@@ -1251,6 +1486,7 @@ fn main() {
     }
     sentences(&mut tally, rng);
     bands(&mut tally, rng);
+    hours(&mut tally, rng);
     long_sequences(&mut tally, rng);
     all_shuffles(&mut tally, rng);
     shuffles(&mut tally, rng, 200_000);
@@ -1258,9 +1494,9 @@ fn main() {
     large(&mut tally, rng);
     lines(&mut tally, rng);
     for (call, numbers) in [
-        ("count", &[0u64, 1, 2, 3, 4, 5, 6, 7, 8, 9, 10, 16, 17][..]),
-        ("scenarios", &[0, 1, 2, 3, 4, 5, 6, 7, 8, 9, 10, 11, 12, 16, 17]),
-        ("index", &[0, 1, 2, 3, 4, 5, 6, 7, 8, 9, 10, 13, 14, 16, 17]),
+        ("count", &[0u64, 1, 2, 3, 4, 5, 6, 7, 8, 9, 10, 16, 17, 18][..]),
+        ("scenarios", &[0, 1, 2, 3, 4, 5, 6, 7, 8, 9, 10, 11, 12, 16, 17, 18]),
+        ("index", &[0, 1, 2, 3, 4, 5, 6, 7, 8, 9, 10, 13, 14, 16, 17, 18]),
         ("shuffle", &[0, 8, 12, 15]),
         ("line", &[0]),
         ("some marked: count", &[0, 9]),
@@ -1279,25 +1515,47 @@ fn main() {
     }
     assert!(tally.begun > 1_000, "few rigs begin in another state than 0");
     assert!(tally.ordered > 1_000, "few rigs have another order of events than lower first");
-    for (word, numbers) in
-        [("stop", &[2, 3, 4, 5][..]), ("gap", &[2, 3, 5, 6]), ("reply", &[2, 3, 5, 6, 17]), ("bal", &[2, 3, 5, 6]), ("amp", &[2, 3, 4, 5])]
-    {
+    for (word, numbers) in [
+        ("stop", &[2, 3, 4, 5][..]),
+        ("gap", &[2, 3, 5, 6]),
+        ("reply", &[2, 3, 5, 6, 17]),
+        ("bal", &[2, 3, 5, 6]),
+        ("amp", &[2, 3, 4, 5]),
+        ("day", &[2, 3, 5, 6]),
+        ("open", &[2, 3, 5, 18]),
+    ] {
         for &number in numbers {
             let times = tally.lines.get(&(word, number)).copied().unwrap_or(0);
             assert!(times > if word == "stop" { 1_000 } else { 100 }, "few texts are refused {number} for a `{word}` line: {times}");
         }
     }
-    let mons = ["go", "stop"].into_iter().flat_map(|word| ["gap", "reply", "bal"].map(|latest| (word, latest)));
-    for key in mons.chain(["mon", "gap", "reply", "none"].map(|latest| ("amp", latest))) {
-        assert!(tally.others.get(&key).is_some_and(|&n| n > 100), "few texts are refused for {key:?}");
+    for (word, own) in PARTS {
+        for latest in KINDS.into_iter().chain(["none"]).filter(|latest| *latest != own) {
+            let times = tally.others.get(&(word, latest)).copied().unwrap_or(0);
+            assert!(times > 100, "few texts are refused for a `{word}` line after {latest}: {times}");
+        }
     }
-    let again = ["again, 0", "again, the same", "again, another"];
-    let causes = [("bal", &["sign", "lo", "hi", "fifth"][..]), ("amp", &["sign", "e", "d"]), ("amp", &again)];
-    for key in causes.iter().flat_map(|(word, causes)| causes.iter().map(move |cause| (*word, *cause))) {
-        assert!(tally.causes.get(&key).is_some_and(|&n| n > 100), "few texts are refused for {key:?}");
+    for (word, causes) in [
+        ("bal", &["sign", "fields", "lo", "hi", "fifth"][..]),
+        ("amp", &["sign", "fields", "e", "d", "again, 0", "again, the same", "again, another"]),
+        ("day", &["sign", "fields", "T", "fifth"]),
+        ("open", &["sign", "fields", "e", "e, a not below b", "b", "b, a not below b"]),
+        ("open", &["a equals b", "a over b", "a over b, past the day"]),
+    ] {
+        for cause in causes {
+            let times = tally.causes.get(&(word, *cause)).copied().unwrap_or(0);
+            assert!(times > 100, "few texts are refused for a `{word}` line, {cause}: {times}");
+        }
     }
+    for kinds in KINDS.into_iter().flat_map(|a| KINDS.into_iter().filter(move |b| a < *b).map(move |b| [a, b])) {
+        let beside = tally.mixed.iter().filter(|(mixed, _)| kinds.iter().all(|kind| mixed.contains(kind)));
+        let times: u64 = beside.map(|(_, times)| times).sum();
+        assert!(times > 300, "few rigs with {kinds:?} are compared with the sentences: {times}");
+    }
+    let four = tally.mixed.iter().filter(|(kinds, times)| kinds.len() == 4 && **times > 10).count();
+    assert_eq!(four, 5, "the sets of four kinds of which more than a few rigs are compared with the sentences: {:?}", tally.mixed);
     for (kind, times) in &tally.kinds {
-        assert!(*times > 1_000, "few rigs have {kind}: {times}");
+        assert!(*times > 100, "few rigs have {kind}: {times}");
     }
     assert!(tally.dropped > 1_000, "few sequences are admitted by the sentences and can't be carried on: {}", tally.dropped);
     assert!(tally.admitted > 2_000, "few long sequences are judged by the sentences");
@@ -1319,11 +1577,12 @@ fn main() {
     );
     println!("{} sequences are refused at an event before which no scenario goes on already", tally.late);
     println!("served rigs by their monitors: {:?}", tally.kinds);
-    println!("{} sequences are admitted by the sentences of `gap`, `reply` and `bal` lines and can't be carried on", tally.dropped);
+    println!("{} sequences are admitted by the sentences and can't be carried on", tally.dropped);
+    println!("rigs with scenarios that were compared with the sentences, by the kinds of their monitors: {:?}", tally.mixed);
     println!("{} rigs of long sequences were served that were judged by the sentences", tally.admitted);
     println!("texts refused, by the line's word and the number: {:?}", tally.lines);
     println!("texts refused 5, by the line's word and the latest monitor's: {:?}", tally.others);
-    println!("texts refused for a `bal` or `amp` line, by its cause: {:?}", tally.causes);
+    println!("texts refused for a `bal`, `amp`, `day` or `open` line, by its cause: {:?}", tally.causes);
     println!("{} of the lines have too short an output", tally.short);
     println!("{} comparisons, {} differences", tally.comparisons, tally.differences);
     if tally.differences > 0 {

@@ -2,8 +2,10 @@
 //! The last line is the number of inputs and of differences; the exit status is 0 only without any.
 use outside::listing::{listing, Outcome};
 use outside::random::Random;
-use outside::texts::{damage, endless, monitors, other_bal, other_marks, other_order, other_rules, other_start, text, wrong_signs, Shape};
-use outside::texts::{A, A_FROM_1, A_GAP, A_ORDERED, B, B_STOPS, CLASH, F, LAST, ONE, REPLY, SWING};
+use outside::texts::{
+    damage, endless, monitors, other_bal, other_day, other_marks, other_order, other_rules, other_start, text, wrong_signs,
+};
+use outside::texts::{Shape, A, A_FROM_1, A_GAP, A_ORDERED, B, B_STOPS, CLASH, DAY, F, LAST, ONE, REPLY, SWING};
 use std::collections::{BTreeMap, BTreeSet};
 use std::io::Write;
 use std::process::{ChildStdin, Command, Stdio};
@@ -60,7 +62,7 @@ impl Tally {
         seen.0 += 1;
         if matches!(want.outcome, Outcome::Fewer | Outcome::Thousand | Outcome::More) {
             self.served.insert(want.horizon);
-            for word in ["stop", "gap", "reply", "bal", "amp"] {
+            for word in ["stop", "gap", "reply", "bal", "amp", "day", "open"] {
                 let line = format!("\n{word}\t");
                 *self.lines.entry(word).or_default() += u64::from(input.windows(line.len()).any(|w| w == line.as_bytes()));
             }
@@ -123,6 +125,12 @@ fn worked(tally: &mut Tally) {
     }
     let whole = "count\t4\t1\n0\t0\t1\t0\n1\t0\t1\t1\n2\t1\t0\t0\n3\t1\t0\t1\n";
     assert_eq!(tally.compare(&ask(3, SWING.as_bytes())), whole.as_bytes(), "the independent listing of a `bal`");
+    let whole = "count\t4\t1\n0\t0\t0\t0\n1\t0\t0\t1\n2\t1\t0\t0\n3\t1\t0\t1\n";
+    assert_eq!(tally.compare(&ask(3, DAY.as_bytes())), whole.as_bytes(), "the independent listing of a `day`");
+    for (h, whole) in [(0, "count\t1\t1\n0\n"), (1, "count\t1\t1\n0\t0\n"), (2, "no\t9\t0\n")] {
+        let once = tally.compare(&ask(h, b"rig\t1\nday\t2\nopen\t0\t0\t1\n"));
+        assert_eq!(once, whole.as_bytes(), "the independent listing of an event at the first of two steps");
+    }
     let (feeder, table) = (include_bytes!("../../examples/feeder.ask"), include_bytes!("../../examples/feeder_table.ask"));
     assert_eq!(tally.compare(feeder), tally.compare(table), "the independent listing of the feeder, by its difference and by its moves");
     let shift = include_str!("../../examples/last_bus.ask").split_once('\n').unwrap().1.as_bytes();
@@ -130,15 +138,21 @@ fn worked(tally: &mut Tally) {
         assert!(tally.compare(&ask(h, shift)).starts_with(first.as_bytes()), "the independent listing of the last bus");
         assert_eq!(tally.compare(&ask(h, &endless(shift))), b"no\t9\t0\n", "the independent listing of the last bus without marks");
     }
-    let (follows, first) = (include_bytes!("../../examples/load_follows.ask"), include_bytes!("../../examples/load_follows.first"));
-    assert!(tally.compare(follows).starts_with(first), "the independent listing of the load that follows");
+    let examples: [(&[u8], &[u8]); 3] = [
+        (include_bytes!("../../examples/load_follows.ask"), include_bytes!("../../examples/load_follows.first")),
+        (include_bytes!("../../examples/service_day.ask"), include_bytes!("../../examples/service_day.first")),
+        (include_bytes!("../../examples/service_day_gap.ask"), include_bytes!("../../examples/service_day_gap.first")),
+    ];
+    for (input, first) in examples {
+        assert!(tally.compare(input).starts_with(first), "the independent listing of an example: {}", shown(input));
+    }
     let long = "\n".repeat(65_535);
     let (two, four) = ("rig\t1\nmon\t32\nmon\t32\n", "rig\t1\nmon\t1\nmon\t1\nmon\t1\nmon\t1\n");
     let refused = [
         (0, format!("{long}\n"), "no\t1\t0\n"),
         (0, long, "no\t2\t1\n"),
         (0, "rig\t2\nmon\n".into(), "no\t2\t2\n"),
-        (0, "rig\t2\nmon\t2\nday\t3\n".into(), "no\t2\t3\n"),
+        (0, "rig\t2\nmon\t2\nnight\t3\n".into(), "no\t2\t3\n"),
         (0, "rig\t02\nmon\t2\n".into(), "no\t2\t1\n"),
         (0, "rig\t2\nmon\t2\ngo\t0\t0\t0".into(), "no\t2\t3\n"),
         (0, "rig\t17\n".into(), "no\t3\t1\n"),
@@ -201,6 +215,26 @@ fn worked(tally: &mut Tally) {
         (0, format!("{A}amp\t99\t99\n"), "no\t5\t6\n"),
         (0, format!("{CLASH}amp\t0\t1\n"), "no\t5\t4\n"),
         (0, "rig\t2\namp\t0\t1\n".into(), "no\t5\t2\n"),
+        (0, "rig\t2\nday\n".into(), "no\t2\t2\n"),
+        (0, "rig\t2\nday\t-2\n".into(), "no\t2\t2\n"),
+        (0, "rig\t2\nday\t1\n".into(), "no\t3\t2\n"),
+        (0, "rig\t2\nday\t33\n".into(), "no\t3\t2\n"),
+        (0, "rig\t2\nday\t2\ngo\t99\t0\t0\n".into(), "no\t5\t3\n"),
+        (0, "rig\t2\nday\t2\nstop\t0\n".into(), "no\t5\t3\n"),
+        (0, "rig\t2\nday\t2\namp\t0\t1\n".into(), "no\t5\t3\n"),
+        (0, "day\t99\n".into(), "no\t5\t1\n"),
+        (0, format!("{four}day\t2\n"), "no\t3\t6\n"),
+        (0, format!("{two}day\t2\n"), "no\t6\t4\n"),
+        (0, "rig\t2\nday\t2\nopen\t0\t0\n".into(), "no\t2\t3\n"),
+        (0, "rig\t2\nday\t2\nopen\t0\t-1\t0\n".into(), "no\t2\t3\n"),
+        (0, "rig\t2\nday\t2\nopen\t2\t1\t1\n".into(), "no\t3\t3\n"),
+        (0, "rig\t2\nday\t2\nopen\t0\t9\t3\n".into(), "no\t3\t3\n"),
+        (0, "rig\t2\nday\t2\nopen\t0\t0\t0\n".into(), "no\t18\t3\n"),
+        (0, "rig\t2\nday\t2\nopen\t0\t99999\t2\n".into(), "no\t18\t3\n"),
+        (0, format!("{DAY}open\t1\t2\t2\n"), "no\t18\t5\n"),
+        (0, format!("{A}open\t9\t9\t9\n"), "no\t5\t6\n"),
+        (0, format!("{SWING}open\t0\t0\t1\n"), "no\t5\t5\n"),
+        (0, "rig\t2\nopen\t0\t1\t1\n".into(), "no\t5\t2\n"),
         (0, "rig\t2\nmon\t2\ngo\t2\t0\t0\n".into(), "no\t3\t3\n"),
         (0, "rig\t2\nmon\t2\ngo\t0\t2\t0\n".into(), "no\t3\t3\n"),
         (0, "rig\t2\nmon\t2\ngo\t0\t0\t2\n".into(), "no\t3\t3\n"),
@@ -215,7 +249,7 @@ fn worked(tally: &mut Tally) {
         (8, two.into(), "no\t8\t0\n"),
         (0, two.into(), "no\t9\t0\n"),
         (64, F.into(), "no\t10\t0\n"),
-        // the first bad line counts; on one line 2, 5, 3, 16 or 17, 4, 6; the rig before the horizon, the horizon before the cells
+        // the first bad line counts; on one line 2, 5, 3, 16, 17 or 18, 4, 6; the rig before the horizon, the horizon before the cells
         (1001, "rig\t1\nmon\t1\nmon\t0\nx\n".into(), "no\t3\t3\n"),
         (0, "go\t0\t0\t99999\n".into(), "no\t5\t1\n"),
         (0, format!("{four}mon\t33\n"), "no\t3\t6\n"),
@@ -230,7 +264,7 @@ fn worked(tally: &mut Tally) {
         tally.compare(&ask(h, format!("rig\t1\nmon\t{monitors}\n").as_bytes()));
     }
     for h in [0, 1, 2, 7, 30, 63, 999, 1000, 1001, 1002, 8191, 8192, 10_000, 65_535, 65_536, 99_999] {
-        for t in [A, A_FROM_1, A_GAP, A_ORDERED, B, B_STOPS, CLASH, F, ONE, REPLY, SWING, two] {
+        for t in [A, A_FROM_1, A_GAP, A_ORDERED, B, B_STOPS, CLASH, DAY, F, ONE, REPLY, SWING, two] {
             tally.compare(&ask(h, t.as_bytes()));
         }
     }
@@ -246,7 +280,7 @@ fn damaged(tally: &mut Tally) {
             tally.compare(&input);
         }
     }
-    for good in [(10, A_FROM_1), (10, A_ORDERED), (1, LAST), (2, CLASH), (3, SWING)].map(|(h, t)| ask(h, t.as_bytes())) {
+    for good in [(10, A_FROM_1), (10, A_ORDERED), (1, LAST), (2, CLASH), (3, SWING), (4, DAY)].map(|(h, t)| ask(h, t.as_bytes())) {
         for at in 0..good.len() {
             tally.compare(&good[..at]);
             tally.compare(&[&good[..at], &good[at + 1..]].concat());
@@ -376,17 +410,18 @@ fn random(tally: &mut Tally, rng: &mut Random) {
     for _ in 0..3_000 {
         let most = *rng.pick(&[4, 12, 40]);
         let mut t = text(&Shape::small(rng, 4, most), rng);
-        match rng.below(16) {
+        match rng.below(18) {
             0 | 1 => t = other_start(&t, rng),
             2 => t = other_order(&t, rng),
             3 => t = other_marks(&t, rng),
             4 | 5 => t = other_rules(&t, rng),
             6..=8 => t = other_bal(&t, rng),
+            9..=11 => t = other_day(&t, rng),
             _ => (),
         }
         tally.compare(&ask(horizon(rng), &t));
     }
-    for _ in 0..600 {
+    for _ in 0..1_500 {
         let t = text(&Shape { rules: 100, ..Shape::small(rng, 4, 40) }, rng);
         tally.compare(&ask(horizon(rng), &t));
     }
@@ -434,7 +469,7 @@ fn main() {
     long_inputs(&mut tally, rng);
     random(&mut tally, rng);
     let served = [Outcome::Fewer, Outcome::Thousand, Outcome::More, Outcome::BadAsk];
-    for outcome in served.into_iter().chain((1..=10).chain([16, 17]).map(Outcome::Refused)) {
+    for outcome in served.into_iter().chain((1..=10).chain([16, 17, 18]).map(Outcome::Refused)) {
         assert!(tally.outcomes.contains_key(&outcome), "no input is expected to give {outcome:?}");
     }
     for h in [0, 1, 30, 1000] {

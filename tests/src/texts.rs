@@ -27,8 +27,11 @@ pub const CLASH: &str = "rig\t2\ngap\t1\t3\nreply\t0\t1\t1\t1\n";
 /// Event 0 brings the difference up by one and event 1 down; it stays from -1 to 1.
 pub const SWING: &str = "rig\t2\nbal\t-1\t1\namp\t0\t1\namp\t1\t-1\n";
 
+/// A day of three steps: event 1 comes only at the first and at the last.
+pub const DAY: &str = "rig\t2\nday\t3\nopen\t1\t0\t1\nopen\t1\t2\t3\n";
+
 /// The shape of a rig: events, states of each monitor, how many in a hundred moves it has, how many in a hundred states are marked, and how many
-/// in a hundred monitors are `gap`, `reply` or `bal` lines.
+/// in a hundred monitors are `gap`, `reply`, `bal` or `day` lines.
 pub struct Shape {
     pub events: u64,
     pub monitors: Vec<u64>,
@@ -38,8 +41,8 @@ pub struct Shape {
 }
 
 impl Shape {
-    /// A small rig of 1 to 4 monitors with at most `most` joint states. Half of them have no marks but those of `gap`, `reply` and `bal` lines, which every
-    /// other one may have.
+    /// A small rig of 1 to 4 monitors with at most `most` joint states. Half of them have no marks but those of `gap`, `reply`, `bal` and `day` lines, which
+    /// every other one may have.
     pub fn small(rng: &mut Random, events: u64, most: u64) -> Shape {
         let mut left = most;
         let monitors = (0..rng.from_to(1, 4))
@@ -51,15 +54,6 @@ impl Shape {
             .collect();
         let (density, marks) = (*rng.pick(&[25, 50, 70, 85, 100]), *rng.pick(&[0, 0, 0, 0, 30, 60, 80, 100]));
         Shape { events: rng.from_to(1, events), monitors, density, marks, rules: *rng.pick(&[0, 0, 0, 40, 100, 100]) }
-    }
-}
-
-/// A `mon` line; one in three carries a start, which is below S.
-fn mon(s: u64, rng: &mut Random) -> String {
-    if rng.chance(1, 3) {
-        format!("mon\t{s}\t{}\n", rng.below(s))
-    } else {
-        format!("mon\t{s}\n")
     }
 }
 
@@ -79,30 +73,17 @@ pub fn text(shape: &Shape, rng: &mut Random) -> Vec<u8> {
     [t.as_bytes(), &monitors(shape, rng)].concat()
 }
 
-/// The lines of the monitors of this shape; the `go` and `stop` lines of each, or its `amp` lines, stand in random order.
+/// The lines of the monitors of this shape; those after the first of each stand in random order.
 pub fn monitors(shape: &Shape, rng: &mut Random) -> Vec<u8> {
     let mut t = String::new();
     for &s in &shape.monitors {
-        let mut lines: Vec<String> = vec![];
-        let mut add = |line, rng: &mut Random| lines.insert(rng.below(lines.len() as u64 + 1) as usize, line);
-        if rng.chance(shape.rules, 100) {
-            let mut rule = Rule::random(s, shape.events, rng).lines().into_iter();
-            t.extend(rule.next());
-            rule.for_each(|amp| add(amp, rng));
-            t += &lines.concat();
-            continue;
-        }
-        t += &mon(s, rng);
-        for x in 0..s {
-            for e in 0..shape.events {
-                if rng.chance(shape.density, 100) {
-                    add(format!("go\t{x}\t{e}\t{}\n", rng.below(s)), rng);
-                }
-            }
-            if rng.chance(shape.marks, 100) {
-                add(format!("stop\t{x}\n"), rng);
-            }
-        }
+        let rule = if rng.chance(shape.rules, 100) {
+            Rule::random(s, shape.events, rng)
+        } else {
+            Rule::random_mon(s, shape.events, shape.density, shape.marks, rng)
+        };
+        let mut lines = rule.lines();
+        rng.shuffle(&mut lines[1..]);
         t += &lines.concat();
     }
     t.into_bytes()
@@ -182,9 +163,7 @@ pub fn other_marks(t: &[u8], rng: &mut Random) -> Vec<u8> {
 /// The text with one `gap` or `reply` line more, at its end or anywhere: its numbers are just in their ranges or just out of them, or it has no form. A
 /// `go` or `stop` line may follow.
 pub fn other_rules(t: &[u8], rng: &mut Random) -> Vec<u8> {
-    let mut ls = lines(t);
-    let events = first_number(&ls[0]);
-    let at = if rng.chance(1, 2) { ls.len() } else { rng.below(ls.len() as u64 + 1) as usize };
+    let events = first_number(&lines(t)[0]);
     let event = |rng: &mut Random| if rng.chance(1, 12) { *rng.pick(&[events, events + 1, 256, 99_999]) } else { rng.below(events.max(1)) };
     let mut fields = if rng.chance(1, 2) {
         vec![event(rng), *rng.pick(&[2, 2, 3, 4, 5, 31, 32, 33, 1, 0, 258])]
@@ -207,51 +186,106 @@ pub fn other_rules(t: &[u8], rng: &mut Random) -> Vec<u8> {
         fields[k] = rng.pick(FIELDS).to_string();
     }
     let next = ["", "", "", "go\t0\t0\t0\n", "stop\t0\n", "go\t99999\t16\t32\n", "stop\t32\n", "go\t0\t0\n"];
-    ls.insert(at, format!("{word}\t{}\n{}", fields.join("\t"), rng.pick(&next)).into_bytes());
+    with_lines(t, format!("{word}\t{}\n{}", fields.join("\t"), rng.pick(&next)), rng)
+}
+
+/// The text with these lines more, at its end or anywhere.
+fn with_lines(t: &[u8], more: String, rng: &mut Random) -> Vec<u8> {
+    let mut ls = lines(t);
+    let at = if rng.chance(1, 2) { ls.len() } else { rng.below(ls.len() as u64 + 1) as usize };
+    ls.insert(at, more.into_bytes());
     ls.concat()
 }
 
-/// The text with a `bal` line and some `amp` lines more, or with `amp` lines alone, at its end or anywhere: their numbers are just in their ranges or just out
-/// of them, an event may come twice, and a sign may be wrong. A line may follow that mustn't.
-pub fn other_bal(t: &[u8], rng: &mut Random) -> Vec<u8> {
-    let mut ls = lines(t);
-    let events = first_number(&ls[0]) as i64;
-    let at = if rng.chance(1, 2) { ls.len() } else { rng.below(ls.len() as u64 + 1) as usize };
-    let field = |inside: &[i64], outside: &[i64], rng: &mut Random| match rng.below(32) {
+/// A number from the first list; seldom one from the second, or a field that is wrong everywhere.
+fn field(inside: &[i64], outside: &[i64], rng: &mut Random) -> String {
+    match rng.below(32) {
         0 => rng.pick(&SIGNS.concat()).to_string(),
-        1 | 2 => rng.pick(outside).to_string(),
+        1..=3 => rng.pick(outside).to_string(),
         _ => rng.pick(inside).to_string(),
-    };
-    let mut more = vec![];
+    }
+}
+
+/// An event field: most are below E.
+fn event(events: i64, rng: &mut Random) -> String {
+    field(&(0..events.max(1)).collect::<Vec<_>>(), &[events, events + 1, 16, 256, 65_536, 99_999], rng)
+}
+
+/// Lines that mustn't follow a `bal` or a `day`, or only one of the two, and lines of no form; or none.
+const NEXT: &[&str] = &[
+    "",
+    "",
+    "",
+    "",
+    "",
+    "go\t0\t0\t0\n",
+    "stop\t0\n",
+    "go\t99999\t16\t32\n",
+    "stop\t32\n",
+    "amp\t0\t1\n",
+    "amp\t99\t-99\n",
+    "amp\t0\n",
+    "amp\t0\t0\t0\n",
+    "bal\t0\n",
+    "open\t0\t0\t1\n",
+    "open\t99\t99\t0\n",
+    "open\t0\t0\n",
+    "open\t0\t0\t1\t1\n",
+    "day\t2\t2\n",
+];
+
+/// The text with a `bal` line and some `amp` lines more, or with `amp` lines alone: their numbers are just in their ranges or just out of them, an event may
+/// come twice, and a sign may be wrong. A line may follow that mustn't.
+pub fn other_bal(t: &[u8], rng: &mut Random) -> Vec<u8> {
+    let events = first_number(&lines(t)[0]) as i64;
+    let mut more = String::new();
     if rng.chance(3, 4) {
         let lo = field(&[0, 0, -1, -1, -2, -3, -14, -15], &[1, -16, 15, -255, -256, -65_536, -99_999], rng);
         let hi = field(&[0, 0, 1, 1, 2, 3, 14, 15], &[-1, 16, -15, 256, 271, 65_536, 99_999], rng);
-        more.push(format!("bal\t{lo}\t{hi}\n"));
+        more += &format!("bal\t{lo}\t{hi}\n");
     }
     for _ in 0..*rng.pick(&[0, 1, 1, 2, 2, 3]) {
-        let e = field(&(0..events.max(1)).collect::<Vec<_>>(), &[events, events + 1, 16, 256, 65_536, 99_999], rng);
         let d = field(&[0, 0, 1, 1, -1, -1, 2, -3, 14, 15, -15], &[16, -16, -241, 256, -256, 65_535, -65_535, 99_999, -99_999], rng);
-        more.push(format!("amp\t{e}\t{d}\n"));
+        more += &format!("amp\t{}\t{d}\n", event(events, rng));
     }
-    let next =
-        ["", "", "", "", "go\t0\t0\t0\n", "stop\t0\n", "go\t99999\t16\t32\n", "stop\t32\n", "amp\t0\n", "amp\t0\t0\t0\n", "bal\t0\n"];
-    more.push(rng.pick(&next).to_string());
-    ls.insert(at, more.concat().into_bytes());
-    ls.concat()
+    with_lines(t, more + *rng.pick(NEXT), rng)
 }
 
-/// A text with a line of each form, and each number field in turn with each of the signs that are wrong everywhere, and with -1 where no sign may stand;
-/// and the number of that line, from 1.
+/// The text with a `day` line and some `open` lines more, or with `open` lines alone: their numbers are just in their ranges or just out of them, a is below b
+/// or not, and a sign may be wrong. A line may follow that mustn't.
+pub fn other_day(t: &[u8], rng: &mut Random) -> Vec<u8> {
+    let events = first_number(&lines(t)[0]) as i64;
+    let steps = *rng.pick(&[2, 2, 2, 3, 3, 4, 5, 31, 32]);
+    let mut more = String::new();
+    if rng.chance(3, 4) {
+        more += &format!("day\t{}\n", field(&[steps], &[0, 1, 33, 34, 258, 65_538, 99_999], rng));
+    }
+    for _ in 0..*rng.pick(&[0, 1, 1, 2, 2, 3, 5]) {
+        let b = field(&[1, 1, 2, steps - 1, steps, steps], &[steps + 1, 33, 0, 256, 257, 65_537, 99_999], rng);
+        let end: i64 = b.parse().unwrap_or(1);
+        let (below, not_below) = ([0, 0, end.max(1) - 1, end.max(2) - 2], [end, end, end + 1, 33, 256, 65_536, 99_999]);
+        let from = if rng.chance(1, 4) { &not_below[..] } else { &below };
+        more += &format!("open\t{}\t{}\t{b}\n", event(events, rng), field(from, from, rng));
+    }
+    with_lines(t, more + *rng.pick(NEXT), rng)
+}
+
+/// Two texts, with a line of each form between them, and each number field in turn with each of the signs that are wrong everywhere, and with -1 where no
+/// sign may stand; and the number of that line, from 1.
 pub fn wrong_signs() -> Vec<(Vec<u8>, u64)> {
-    let good = "rig\t4\nord\t3\t2\t1\t0\nmon\t2\t1\ngo\t0\t0\t0\nstop\t0\ngap\t1\t2\nreply\t0\t1\t1\t1\nbal\t-3\t4\namp\t2\t-1\n";
-    let ls: Vec<Vec<&str>> = good.lines().map(|l| l.split('\t').collect()).collect();
     let mut wrong = vec![];
-    for (k, f) in (0..ls.len()).flat_map(|k| (1..ls[k].len()).map(move |f| (k, f))) {
-        let unsigned = !(ls[k][0] == "bal" || (ls[k][0] == "amp" && f == 2));
-        for field in SIGNS.concat().into_iter().chain(unsigned.then_some("-1")) {
-            let mut ls = ls.clone();
-            ls[k][f] = field;
-            wrong.push((ls.iter().map(|l| l.join("\t") + "\n").collect::<String>().into_bytes(), k as u64 + 1));
+    for good in [
+        "rig\t4\nord\t3\t2\t1\t0\nmon\t2\t1\ngo\t0\t0\t0\nstop\t0\ngap\t1\t2\nreply\t0\t1\t1\t1\nbal\t-3\t4\namp\t2\t-1\n",
+        "rig\t4\nmon\t2\nday\t3\nopen\t1\t0\t2\nopen\t1\t2\t3\n",
+    ] {
+        let ls: Vec<Vec<&str>> = good.lines().map(|l| l.split('\t').collect()).collect();
+        for (k, f) in (0..ls.len()).flat_map(|k| (1..ls[k].len()).map(move |f| (k, f))) {
+            let unsigned = !(ls[k][0] == "bal" || (ls[k][0] == "amp" && f == 2));
+            for field in SIGNS.concat().into_iter().chain(unsigned.then_some("-1")) {
+                let mut ls = ls.clone();
+                ls[k][f] = field;
+                wrong.push((ls.iter().map(|l| l.join("\t") + "\n").collect::<String>().into_bytes(), k as u64 + 1));
+            }
         }
     }
     wrong
@@ -393,8 +427,32 @@ const LINES: &[&str] = &[
     "amp\t0",
     "amp\t0\t1\t1",
     "amps\t0\t1",
+    "day\t2",
     "day\t3",
+    "day\t32",
+    "day\t33",
+    "day\t1",
+    "day\t-2",
+    "day\t02",
+    "day",
+    "day\t3\t1",
+    "days\t3",
     "open\t0\t0\t1",
+    "open\t1\t1\t2",
+    "open\t0\t0\t2",
+    "open\t0\t1\t3",
+    "open\t0\t0\t33",
+    "open\t0\t2\t2",
+    "open\t0\t3\t2",
+    "open\t0\t0\t0",
+    "open\t0\t99999\t1",
+    "open\t16\t0\t1",
+    "open\t0\t-1\t1",
+    "open\t0\t0\t-1",
+    "open\t0\t1",
+    "open\t0\t0\t1\t2",
+    "opens\t0\t0\t1",
+    "night\t3",
     "mon\t2\t1",
     "mon\t3\t2",
     "mon\t2\t2",

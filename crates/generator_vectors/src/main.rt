@@ -1,5 +1,5 @@
 // Runs the four calls on the examples of paper 01 that are left to a test, on rigs that begin in other states, on rigs with another order of events, on rigs
-// that may stop, on gaps and replies and on a running difference, and prints what each answers and leaves. Cells, scratch and outputs begin with 7 everywhere and are lent in part, so that what is kept shows: each line ends with how many numbers of each buffer are still 7.
+// that may stop, on gaps and replies, on a running difference and on depot hours, and prints what each answers and leaves. Cells, scratch and outputs begin with 7 everywhere and are lent in part, so that what is kept shows: each line ends with how many numbers of each buffer are still 7.
 use generator::Counted;
 use generator::Indexed;
 use generator::Listed;
@@ -20,6 +20,7 @@ fn main() {
     stops();
     rules();
     differences();
+    hours();
     let again = [4u64, 4, 4];
     show_shuffle(5, &again);
     let low = [0u64, 0];
@@ -188,6 +189,30 @@ fn differences() {
     show_count(
         b"an event given twice",
         b"rig\t1\nbal\t0\t1\namp\t0\t1\namp\t0\t0\n",
+        0,
+        1,
+    );
+}
+
+// A day of three steps with event 1 at the first and the last; and one of two steps in which a reply is due when its event isn't admitted.
+fn hours() {
+    let day = b"rig\t2\nday\t3\nopen\t1\t0\t1\nopen\t1\t2\t3\n";
+    let both = b"rig\t2\nreply\t0\t1\t1\t1\nday\t2\nopen\t1\t0\t1\n";
+    let some = [1u64, 0, 1];
+    let inside = [1u8, 0, 1, 1];
+    let outside = [0u8, 1];
+    let next_day = [1u8, 0, 1, 1, 1];
+    let unanswered = [0u8];
+    show_count(b"day h 4", day, 4, 15);
+    show_list(b"day h 1: 1 0 1", day, 1, &some, 3);
+    show_index(b"day: 1 0 1 1", day, &inside);
+    show_index(b"day: 0 1", day, &outside);
+    show_index(b"day: 1 0 1 1 1", day, &next_day);
+    show_count(b"reply and day h 3", both, 3, 16);
+    show_index(b"reply and day: 0", both, &unanswered);
+    show_count(
+        b"hours from 1 to 1",
+        b"rig\t1\nday\t2\nopen\t0\t1\t1\n",
         0,
         1,
     );

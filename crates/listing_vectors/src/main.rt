@@ -46,6 +46,12 @@ fn served() {
         1000,
     );
     show(
+        b"a day of three steps at 4",
+        b"ask\t4\nrig\t2\nday\t3\nopen\t1\t0\t1\nopen\t1\t2\t3\n",
+        0,
+        1000,
+    );
+    show(
         b"A at 14, the last of 987 lines",
         b"ask\t14\nrig\t2\nmon\t2\ngo\t0\t0\t0\ngo\t0\t1\t1\ngo\t1\t0\t0\n",
         985,
@@ -142,6 +148,18 @@ fn refused() {
     show(
         b"16, an event twice in ord",
         b"ask\t3\nrig\t2\nord\t1\t1\nmon\t2\n",
+        0,
+        1000,
+    );
+    show(
+        b"17, a reply to itself",
+        b"ask\t3\nrig\t2\nreply\t1\t1\t1\t1\n",
+        0,
+        1000,
+    );
+    show(
+        b"18, hours from 1 to 1",
+        b"ask\t3\nrig\t1\nday\t2\nopen\t0\t1\t1\n",
         0,
         1000,
     );
