@@ -3,7 +3,7 @@ use decoding::Kind;
 ghost use mathlib.Core.Path.{_≡_};
 ghost use mathlib.Core.Bool.{false, _&&_};
 ghost use mathlib.Core.List.{[], _∷_};
-ghost use Prim.Native.Nat.{_+_, _≤_, _<_};
+ghost use Prim.Native.Nat.{suc, _+_, _%_, _≤_, _<_};
 ghost use lib.IntN.{pos, negℤ};
 ghost use lib.ListN.{length};
 ghost use lib.Dec.{leb, ltb};
@@ -234,9 +234,21 @@ fn bal_next(lo: i64, hi: i64, d: i64, s: usize) -> usize
     (difference - lo) as usize
 }
 
+// The step after step s of a day of t steps: 'the day repeats'.
+fn day_next(t: usize, s: usize) -> usize
+    requires { ⌜ (s < t) × (t ≤ 32) ⌝ }
+    ensures { λ r. ⌜ r ≡ suc s % t ⌝ }
+{
+    let next = s + 1;
+    if next == t {
+        return 0;
+    }
+    next
+}
+
 // Where it moves from s on u, which has the step d; a number that is no state where it does not admit u. Only a `bal` has steps.
 fn next(k: Kind, d: i64, s: usize, u: usize) -> usize
-    requires { ⌜ InRange (asKind k) × (promised.outsideℤ (negℤ (pos 15)) (pos 15) d ≡ false) × (s ≤ 31) ⌝ }
+    requires { ⌜ InRange (asKind k) × (promised.outsideℤ (negℤ (pos 15)) (pos 15) d ≡ false) × (s < statesOf (asKind k)) ⌝ }
     ensures { λ t. ⌜ t ≡ nextOf (asKind k) (amp u d ∷ []) s u ⌝ }
 {
     match k {
@@ -244,7 +256,7 @@ fn next(k: Kind, d: i64, s: usize, u: usize) -> usize
         Kind::Gap(e, n) => gap_next(e, n, s, u),
         Kind::Reply(a, b, lo, hi) => reply_next(a, b, lo, hi, s, u),
         Kind::Bal(lo, hi) => bal_next(lo, hi, d, s),
-        Kind::Day(t) => (s + 1) % t, // the day repeats
+        Kind::Day(t) => day_next(t, s),
     }
 }
 
@@ -274,7 +286,7 @@ fn entry(n: usize, t: usize) -> u8
 // The moves from state s on w events from u on, each of the step d, into the entries from `at` on.
 fn fill_row(moves: &mut [u8], at: usize, u: usize, w: usize, k: Kind, n: usize, d: i64, s: usize)
     requires { ⌜ (at + w ≤ length (now moves)) × (u + w ≤ 16) × (n ≤ 32) ⌝ }
-    requires { ⌜ InRange (asKind k) × (promised.outsideℤ (negℤ (pos 15)) (pos 15) d ≡ false) × (s ≤ 31) ⌝ }
+    requires { ⌜ InRange (asKind k) × (promised.outsideℤ (negℤ (pos 15)) (pos 15) d ≡ false) × (s < statesOf (asKind k)) ⌝ }
     ensures { λ _. ⌜ now (moves .exit) ≡ overwrite (now (moves .entry)) (λ i. at + i) (λ i. entryOf n (nextOf (asKind k) (amp (u + i) d ∷ []) s (u + i))) w ⌝ }
 {
     for i in 0..w {
@@ -335,18 +347,18 @@ fn in_hours(a: usize, b: usize, s: usize) -> bool
 // The move from step s of a day of t steps, with the hours of one `open` line more: to the next step in them; from another step as before, or none if the line
 // is the first of its event.
 fn hour(t: usize, a: usize, b: usize, first: bool, s: usize, before: u8) -> u8
-    requires { ⌜ (1 ≤ t) × (t ≤ 32) × (s ≤ 31) ⌝ }
+    requires { ⌜ (s < t) × (t ≤ 32) ⌝ }
     ensures { λ r. ⌜ r ≡ hourOf t a b first s before ⌝ }
 {
     if in_hours(a, b, s) {
-        return ((s + 1) % t) as u8;
+        return day_next(t, s) as u8;
     }
     if first { 255 } else { before }
 }
 
 // The moves of monitor m, a `day` of t steps, on event e with one `open` line more: 'Several lines add up', and the first closes the steps not in its hours.
 pub fn fill_hours(moves: &mut [u8], m: usize, t: usize, e: usize, a: usize, b: usize, first: bool)
-    requires { ⌜ (length (now moves) ≡ 2048) × (m < 4) × (e < 16) × (1 ≤ t) × (t ≤ 32) ⌝ }
+    requires { ⌜ (length (now moves) ≡ 2048) × (m < 4) × (e < 16) × (t ≤ 32) ⌝ }
     ensures { λ _. ⌜ now (moves .exit) ≡ withHours (now (moves .entry)) m t e a b first t ⌝ }
 {
     for s in 0..t {

@@ -55,7 +55,7 @@ loop-again c =
     let st = c .before .before .before .before .before in
     let lp = c .before .before .before .loop in
     let x = st .args in
-    let l : lp .s < 32 = omega (arith, st .pre .4) in
+    let l : lp .s < 32 = omega (arith, st .pre .3) in
     let old : moveAt (lp .moves) (x .m) (lp .s) (x .e) ≡ moveAt (x .moves .now) (x .m) (lp .s) (x .e) =
     ap (λ (v : List ℕ). moveAt v (x .m) (lp .s) (x .e)) (lp .inv .2)
     ∙ hours-beside (x .moves .now) (x .m) (x .t) (x .e) (x .a) (x .b) (x .first) (lp .s) (x .m) (lp .s) (x .e) (omega arith) (st .pre .2) l (st .pre .2) (λ p q r. omega arith)

@@ -51,7 +51,7 @@ fill-row-requires c κs =
     let lp = c .before .before .loop in
     let n = c .before .before .before .states .ensures in
     let l : lp .s < 32 = omega (arith, few (asKind (c .before .before .before .before .before .args .k)) (c .before .before .before .before .before .pre .1 .0), n) in
-    rw (toZ-ofZ w64 (st .args .d) (st .fits .d)) ((omega (arith, lp .inv .1, st .pre .0 .0), st .pre .0 .2, omega (arith, few (asKind (c .before .before .before .before .before .args .k)) (c .before .before .before .before .before .pre .1 .0), n)), (st .pre .1 .0, st .pre .1 .1, omega arith))
+    rw (toZ-ofZ w64 (st .args .d) (st .fits .d)) ((omega (arith, lp .inv .1, st .pre .0 .0), st .pre .0 .2, omega (arith, few (asKind (c .before .before .before .before .before .args .k)) (c .before .before .before .before .before .pre .1 .0), n)), (st .pre .1 .0, st .pre .1 .1, omega (arith, n)))
 
 add-s : tie.Need-add-s Inv-loop μ-loop
 add-s c = search needs

@@ -3,7 +3,6 @@
 use mathlib.Core.Path.{_≡_, refl, subst}
 use mathlib.Core.Option.{orElse}
 use Prim.Native.Nat.{_+_, _≤_}
-use native.Mathlib.Numerals.{add-one}
 use native.Mathlib.Omega.{arith}
 use mir.Syntax.{w64}
 use mir.Val.{toZ, ofZ}
@@ -33,7 +32,12 @@ enum-known-k-3 : tie.Need-enum-known-k-3
 enum-known-k-3 c = search needs
 
 reply-next-requires : tie.Need-reply-next-requires
-reply-next-requires c κs = let k = c .before .k3 .given in let h : k .0 .1 .1 .1 .0 + 1 ≤ 32 = unfold statesOf in rw (k .1) at (few (asKind (c .before .before .before .args .k)) (c .before .before .before .pre .0)) in (omega arith, c .before .before .before .pre .2)
+reply-next-requires c κs =
+    let st = c .before .before .before in
+    let k = c .before .k3 .given in
+    let f = few (asKind (st .args .k)) (st .pre .0) in
+    let h : k .0 .1 .1 .1 .0 + 1 ≤ 32 = unfold statesOf in rw (k .1) at f in
+    (omega arith, omega (arith, f, st .pre .2))
 
 enum-known-k-4 : tie.Need-enum-known-k-4
 enum-known-k-4 c = search needs
@@ -43,16 +47,16 @@ bal-next-requires c κs =
     let k = c .before .k4 .given in
     let lo : toZ w64 (ofZ w64 (k .0 .0)) ≡ k .0 .0 = search needs in
     let hi : toZ w64 (ofZ w64 (k .0 .1 .0)) ≡ k .0 .1 .0 = search needs in
-    rw (lo, hi, toZ-ofZ w64 (c .before .before .before .args .d) (c .before .before .before .fits .d)) (subst (λ k. InRange (asKind k)) (k .1) (c .before .before .before .pre .0), c .before .before .before .pre .1, c .before .before .before .pre .2)
+    rw (lo, hi, toZ-ofZ w64 (c .before .before .before .args .d) (c .before .before .before .fits .d)) (subst (λ k. InRange (asKind k)) (k .1) (c .before .before .before .pre .0), c .before .before .before .pre .1, omega (arith, few (asKind (c .before .before .before .args .k)) (c .before .before .before .pre .0), c .before .before .before .pre .2))
 
 enum-known-k-5 : tie.Need-enum-known-k-5
 enum-known-k-5 c = search needs
 
-add-result : tie.Need-add-result
-add-result c = search needs
-
-rem-result : tie.Need-rem-result
-rem-result c = let k = c .before .k5 .given in let h : 1 ≤ k .0 .0 = unfold statesOf in rw (k .1) at (some-state (asKind (c .before .before .before .args .k)) (c .before .before .before .pre .0)) in search needs
+day-next-requires : tie.Need-day-next-requires
+day-next-requires c κs =
+    let st = c .before .before .before in
+    let k = c .before .k5 .given in
+    unfold statesOf in (rw (k .1) at (st .pre .2), rw (k .1) at (few (asKind (st .args .k)) (st .pre .0)))
 
 returns : tie.Need-returns
 unfolding nextOf firstOf leadsTo orElse
@@ -77,7 +81,7 @@ returns-4 c =
 
 returns-5 : tie.Need-returns-5
 unfolding nextOf opensBy dayNext
-returns-5 c = rw (c .before .k5 .given .1, add-one)
+returns-5 c = rw (c .before .before .k5 .given .1) (c .day-next .ensures)
 
 pub next-spec : {M : Type 1} → statement M
 next-spec =
@@ -91,8 +95,7 @@ next-spec =
     enum-known-k-4
     bal-next-requires
     enum-known-k-5
-    add-result
-    rem-result
+    day-next-requires
     returns
     returns-2
     returns-3

@@ -54,7 +54,7 @@ fill-hours-requires : tie.Need-fill-hours-requires
 fill-hours-requires c κs =
     let st = c .before .before .before .before .before .before .before .before .before .before in
     let m = some-day (st .args .z) (st .pre .2) (c .before .before .before .before .before .before .before .if1 .left) in
-    (st .pre .0, omega (arith, st .pre .2 .few-monitors), omega (arith, st .pre .2 .few-events, c .before .before .before .before .before .if2 .left), omega (arith, c .before .before .before .before .before .before .before .if1 .left), st .pre .2 .few-day)
+    (st .pre .0, omega (arith, st .pre .2 .few-monitors), omega (arith, st .pre .2 .few-events, c .before .before .before .before .before .if2 .left), st .pre .2 .few-day)
 
 slice-write-given : tie.Need-slice-write-given
 slice-write-given c = search needs
