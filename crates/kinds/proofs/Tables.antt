@@ -13,6 +13,7 @@ use native.Mathlib.Numerals.{add-one}
 use native.Mathlib.Omega.{arith}
 use lib.IntN.{ℤ, pos}
 use lib.ListN.{length, getD, set}
+use lib.Dec.{eqb}
 use borrow.Author.Tests.{le-ltb, eq-eqb}
 use Rattle.lists.specs.Lists.{pick, overwrite, firstOf}
 use Rattle.lists.proofs.Tests.{case, contra}
@@ -22,7 +23,8 @@ use Rattle.promises.specs.Meaning.{stepIn, stepOf}
 use Rattle.promises.specs.Reading.{leadsTo, opensBy, isMon}
 use Rattle.promises.specs.Rig.{nextOf, markedOf}
 use Rattle.rig.specs.Record.{moveIndex, moveAt, stopIndex, stopAt}
-use Rattle.kinds.specs.Kinds.{entryOf, withRows, kindMoves, kindStops, hourOf, withHours}
+use Rattle.kinds.specs.declared.Row.{Row}
+use Rattle.kinds.specs.Kinds.{rowAt, entryOf, withRows, kindMoves, kindStops, hourOf, withHours}
 
 pub record Blank (mv sp : List ℕ) (m : ℕ) : Type 0 where
   pub no-move : (s u : ℕ) → s < 32 → u < 16 → moveAt mv m s u ≡ 255
@@ -31,6 +33,10 @@ pub record Blank (mv sp : List ℕ) (m : ℕ) : Type 0 where
 pub record OfKind (mv sp : List ℕ) (m E : ℕ) (k : Kind) (ps : List Part) : Type 0 where
   pub moves : (s u : ℕ) → s < statesOf k → u < E → moveAt mv m s u ≡ entryOf (statesOf k) (nextOf k ps s u)
   pub marks : (s : ℕ) → s < statesOf k → stopAt sp m s ≡ pick (markedOf k ps s) 1 0
+
+-- the entries of a row
+pub entry-row : (n : ℕ) (r : Row) (v x y z : ℕ) → x ≡ entryOf n (r .x) → y ≡ entryOf n (r .y) → z ≡ entryOf n (r .z) → pick (eqb v (r .a)) x (pick (eqb v (r .b)) y z) ≡ entryOf n (rowAt r v)
+entry-row n r v x y z p q t = rw (p, q, t) (case (eqb v (r .a)) (λ i. rw i) (λ i. case (eqb v (r .b)) (λ j. rw (i, j)) (λ j. rw (i, j))))
 
 -- ---- the moves on some events
 

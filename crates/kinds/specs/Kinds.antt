@@ -4,6 +4,7 @@
 --   monStates k        == how many states a `go` or `stop` line can name: those of a `mon`, 0 of any other kind
 --   bandOf k           == the band in which an `amp` line moves: that of a `bal`, the empty one of any other kind
 --   daySteps k         == how many steps the hours of an `open` line can be of: those of a `day`, 0 of any other kind
+--   rowAt r u          == where the row r moves on event u
 --   entryOf S t        == the state t of S states as an entry of the move table: 255 where it is no state
 --   withRows mv m u w k d n == the move table mv with the moves of monitor m, of the kind k, from its first n states on w events from u on, each of the step d
 --   withStep mv m k e d == with its moves on the event e, of the step d
@@ -17,7 +18,7 @@ use mathlib.Core.Bool.{Bool, false, _&&_}
 use mathlib.Core.List.{List, [], _∷_}
 use Prim.Native.Nat.{ℕ, zero, suc, _+_, _%_}
 use lib.IntN.{ℤ, pos}
-use lib.Dec.{leb, ltb}
+use lib.Dec.{leb, ltb, eqb}
 use Rattle.lists.specs.Lists.{pick, overwrite}
 use Rattle.promises.specs.Text as text
 use Rattle.promises.specs.Text.{mon, gap, reply, bal, day, amp, statesOf}
@@ -27,6 +28,7 @@ use Rattle.rig.specs.Record.{moveIndex, moveAt, stopIndex}
 use Rattle.decoding.specs.declared.Kind.{Kind}
 use Rattle.decoding.specs.declared.Kind.the-variants.{Mon, Gap, Reply, Bal, Day}
 use Rattle.kinds.specs.declared.Band.{Band}
+use Rattle.kinds.specs.declared.Row.{Row}
 
 abbrev pub asKind : Kind → text.Kind
 asKind (Mon S a) = mon S a
@@ -61,6 +63,9 @@ daySteps (Gap e n) = 0
 daySteps (Reply a b lo hi) = 0
 daySteps (Bal lo hi) = 0
 daySteps (Day T) = T
+
+abbrev pub rowAt : Row → ℕ → ℕ
+rowAt r u = pick (eqb u (r .a)) (r .x) (pick (eqb u (r .b)) (r .y) (r .z))
 
 abbrev pub entryOf : ℕ → ℕ → ℕ
 entryOf S t = pick (ltb t S) t 255

@@ -3,21 +3,30 @@ use decoding::Kind;
 ghost use mathlib.Core.Path.{_≡_};
 ghost use mathlib.Core.Bool.{false, _&&_};
 ghost use mathlib.Core.List.{[], _∷_};
-ghost use Prim.Native.Nat.{suc, _+_, _%_, _≤_, _<_};
+ghost use Prim.Native.Nat.{ℕ, suc, _+_, _%_, _≤_, _<_};
 ghost use lib.IntN.{pos, negℤ};
 ghost use lib.ListN.{length};
-ghost use lib.Dec.{leb, ltb};
+ghost use lib.Dec.{leb, ltb, eqb};
 ghost use Rattle.lists.specs.Lists.{pick, overwrite};
 ghost use Rattle.promises.specs.Text.{bal, amp, statesOf, startOf};
 ghost use Rattle.promises.specs.Reading as promised;
 ghost use Rattle.promises.specs.Rig.{gapNext, replyNext, balNext, nextOf, markedOf};
 ghost use Rattle.rig.specs.Record.{stopIndex};
-ghost use Rattle.kinds.specs.Kinds.{asKind, InRange, monStates, bandOf, daySteps, entryOf, withRows, kindMoves, kindStops, hourOf, withHours};
+ghost use Rattle.kinds.specs.Kinds.{asKind, InRange, monStates, bandOf, daySteps, rowAt, entryOf, withRows, kindMoves, kindStops, hourOf, withHours};
 
 // The band of a `bal`, from lo to hi; of any other kind the empty one, from 1 to 0.
 pub struct Band {
     pub lo: i64,
     pub hi: i64,
+}
+
+// The moves of a monitor from one state: on event a to x, on b to y, on any other to z.
+struct Row {
+    a: usize,
+    x: usize,
+    b: usize,
+    y: usize,
+    z: usize,
 }
 
 // Whether n is not 'from lo to hi'.
@@ -183,43 +192,61 @@ pub fn day_steps(k: Kind) -> usize
     }
 }
 
-// Where a `gap` moves from s on u: 'The state of `gap` is the number of coming steps that bar e'.
-fn gap_next(e: usize, n: usize, s: usize, u: usize) -> usize
+// The row of a `gap` in state s: 'The state of `gap` is the number of coming steps that bar e'.
+fn gap_row(e: usize, n: usize, s: usize) -> Row
     requires { ⌜ 1 ≤ n ⌝ }
-    ensures { λ t. ⌜ t ≡ gapNext e n s u ⌝ }
+    ensures { λ r. ⌜ ((u : ℕ) → rowAt r u ≡ gapNext e n s u) ⌝ }
 {
-    if u == e {
-        if s == 0 {
-            return n - 1;
-        }
-        return n; // e is barred
-    }
     if s == 0 {
-        return 0;
+        return Row {
+            a: e,
+            x: n - 1,
+            b: e,
+            y: n - 1,
+            z: 0,
+        };
     }
-    s - 1
+    Row {
+        a: e,
+        x: n,
+        b: e,
+        y: n,
+        z: s - 1,
+    } // e is barred
 }
 
-// Where a `reply` moves from s on u: '0 with nothing due, 1 just after a, and one more each step'.
-fn reply_next(a: usize, b: usize, lo: usize, hi: usize, s: usize, u: usize) -> usize
+// The row of a `reply` in state s: '0 with nothing due, 1 just after a, and one more each step'.
+fn reply_row(a: usize, b: usize, lo: usize, hi: usize, s: usize) -> Row
     requires { ⌜ (hi ≤ 31) × (s ≤ 31) ⌝ }
-    ensures { λ t. ⌜ t ≡ replyNext a b lo hi s u ⌝ }
+    ensures { λ r. ⌜ ((u : ℕ) → rowAt r u ≡ replyNext a b lo hi s u) ⌝ }
 {
     if s == 0 {
-        if u == a {
-            return 1;
-        }
-        return 0;
+        return Row {
+            a,
+            x: 1,
+            b,
+            y: 0,
+            z: 0,
+        };
     }
-    if u == a {
-        return hi + 1; // no further a
+    let barred = hi + 1; // no further a
+    let later = s + 1;
+    if lo <= s {
+        return Row {
+            a,
+            x: barred,
+            b,
+            y: 0,
+            z: later,
+        };
     }
-    if u == b {
-        if lo <= s {
-            return 0; // the reply
-        }
+    Row {
+        a,
+        x: barred,
+        b,
+        y: later,
+        z: later,
     }
-    s + 1
 }
 
 // Where a `bal` moves from s by a step d: 'state j is the difference lo+j', 'admitted if the running difference stays from lo to hi'.
@@ -246,17 +273,30 @@ fn day_next(t: usize, s: usize) -> usize
     next
 }
 
-// Where it moves from s on u, which has the step d; a number that is no state where it does not admit u. Only a `bal` has steps.
-fn next(k: Kind, d: i64, s: usize, u: usize) -> usize
+// The row of a monitor that moves to t on every event.
+fn one_row(t: usize) -> Row
+    ensures { λ r. ⌜ ((u : ℕ) → rowAt r u ≡ t) ⌝ }
+{
+    Row {
+        a: 0,
+        x: t,
+        b: 0,
+        y: t,
+        z: t,
+    }
+}
+
+// Its row in state s, where every event has the step d; a number that is no state where it does not admit the event. Only a `bal` has steps.
+fn row_in(k: Kind, d: i64, s: usize) -> Row
     requires { ⌜ InRange (asKind k) × (promised.outsideℤ (negℤ (pos 15)) (pos 15) d ≡ false) × (s < statesOf (asKind k)) ⌝ }
-    ensures { λ t. ⌜ t ≡ nextOf (asKind k) (amp u d ∷ []) s u ⌝ }
+    ensures { λ r. ⌜ ((u : ℕ) → rowAt r u ≡ nextOf (asKind k) (amp u d ∷ []) s u) ⌝ }
 {
     match k {
-        Kind::Mon(n, _) => n,
-        Kind::Gap(e, n) => gap_next(e, n, s, u),
-        Kind::Reply(a, b, lo, hi) => reply_next(a, b, lo, hi, s, u),
-        Kind::Bal(lo, hi) => bal_next(lo, hi, d, s),
-        Kind::Day(t) => day_next(t, s),
+        Kind::Mon(n, _) => one_row(n),
+        Kind::Gap(e, n) => gap_row(e, n, s),
+        Kind::Reply(a, b, lo, hi) => reply_row(a, b, lo, hi, s),
+        Kind::Bal(lo, hi) => one_row(bal_next(lo, hi, d, s)),
+        Kind::Day(t) => one_row(day_next(t, s)),
     }
 }
 
@@ -283,14 +323,29 @@ fn entry(n: usize, t: usize) -> u8
     if t < n { t as u8 } else { 255 }
 }
 
-// The moves from state s on w events from u on, each of the step d, into the entries from `at` on.
-fn fill_row(moves: &mut [u8], at: usize, u: usize, w: usize, k: Kind, n: usize, d: i64, s: usize)
-    requires { ⌜ (at + w ≤ length (now moves)) × (u + w ≤ 16) × (n ≤ 32) ⌝ }
-    requires { ⌜ InRange (asKind k) × (promised.outsideℤ (negℤ (pos 15)) (pos 15) d ≡ false) × (s < statesOf (asKind k)) ⌝ }
-    ensures { λ _. ⌜ now (moves .exit) ≡ overwrite (now (moves .entry)) (λ i. at + i) (λ i. entryOf n (nextOf (asKind k) (amp (u + i) d ∷ []) s (u + i))) w ⌝ }
+// On event v: x if it is a, y if it is b, else z.
+fn on_event(v: usize, a: usize, x: u8, b: usize, y: u8, z: u8) -> u8
+    ensures { λ r. ⌜ r ≡ pick (eqb v a) x (pick (eqb v b) y z) ⌝ }
 {
+    if v == a {
+        return x;
+    }
+    if v == b {
+        return y;
+    }
+    z
+}
+
+// The moves of the row r, of a monitor with n states, on w events from u on, into the entries from `at` on.
+fn fill_row(moves: &mut [u8], at: usize, u: usize, w: usize, r: Row, n: usize)
+    requires { ⌜ (at + w ≤ length (now moves)) × (u + w ≤ 16) × (n ≤ 32) ⌝ }
+    ensures { λ _. ⌜ now (moves .exit) ≡ overwrite (now (moves .entry)) (λ i. at + i) (λ i. entryOf n (rowAt r (u + i))) w ⌝ }
+{
+    let x = entry(n, r.x);
+    let y = entry(n, r.y);
+    let z = entry(n, r.z);
     for i in 0..w {
-        moves[at + i] = entry(n, next(k, d, s, u + i));
+        moves[at + i] = on_event(u + i, r.a, x, r.b, y, z);
     }
 }
 
@@ -303,7 +358,7 @@ pub fn fill_moves(moves: &mut [u8], m: usize, u: usize, w: usize, k: Kind, d: i6
     let n = states(k);
     for s in 0..n {
         let at = (m * 32 + s) * 16 + u;
-        fill_row(moves, at, u, w, k, n, d, s);
+        fill_row(moves, at, u, w, row_in(k, d, s), n);
     }
 }
 

@@ -1,7 +1,7 @@
 -- The rows so far are those of the kind's automaton, and the rest is as it was.
 -- Assumes nothing.
-use mathlib.Core.Path.{_≡_, refl, ap, ap₂, _∙_}
-use mathlib.Core.List.{List, [], _∷_}
+use mathlib.Core.Path.{_≡_, refl, ap, ap₂, _∙_, fun-ext}
+use mathlib.Core.List.{List}
 use Prim.Native.Nat.{ℕ, _+_, _-_, _≤_, _<_}
 use native.Mathlib.Omega.{arith}
 use lib.ListN.{length}
@@ -9,8 +9,7 @@ use mir.Syntax.{w64}
 use mir.Val.{toZ, ofZ}
 use mir.ValLaws.{toZ-ofZ}
 use Rattle.lists.specs.Lists.{overwrite}
-use Rattle.promises.specs.Text.{amp, statesOf}
-use Rattle.promises.specs.Rig.{nextOf}
+use Rattle.promises.specs.Text.{statesOf}
 use Rattle.rig.specs.Record.{moveIndex}
 use Rattle.kinds.specs.Kinds.{asKind, entryOf, withRows}
 use Rattle.kinds.proofs.Tables.{rows-more}
@@ -45,13 +44,18 @@ mul-at-2 c = let l : c .before .loop .s < 32 = omega (arith, few (asKind (c .bef
 add-at-2 : tie.Need-add-at-2 Inv-loop μ-loop
 add-at-2 c = let l : c .before .loop .s < 32 = omega (arith, few (asKind (c .before .before .before .before .args .k)) (c .before .before .before .before .pre .1 .0), c .before .before .states .ensures) in search needs
 
+row-in-requires : tie.Need-row-in-requires Inv-loop μ-loop
+row-in-requires c κs =
+    let st = c .before .before .before .before .before in
+    rw (toZ-ofZ w64 (st .args .d) (st .fits .d)) (st .pre .1 .0, st .pre .1 .1, omega (arith, c .before .before .before .states .ensures))
+
 fill-row-requires : tie.Need-fill-row-requires Inv-loop μ-loop
 fill-row-requires c κs =
-    let st = c .before .before .before .before .before in
-    let lp = c .before .before .loop in
-    let n = c .before .before .before .states .ensures in
-    let l : lp .s < 32 = omega (arith, few (asKind (c .before .before .before .before .before .args .k)) (c .before .before .before .before .before .pre .1 .0), n) in
-    rw (toZ-ofZ w64 (st .args .d) (st .fits .d)) ((omega (arith, lp .inv .1, st .pre .0 .0), st .pre .0 .2, omega (arith, few (asKind (c .before .before .before .before .before .args .k)) (c .before .before .before .before .before .pre .1 .0), n)), (st .pre .1 .0, st .pre .1 .1, omega (arith, n)))
+    let st = c .before .before .before .before .before .before in
+    let lp = c .before .before .before .loop in
+    let n = c .before .before .before .before .states .ensures in
+    let f = few (asKind (st .args .k)) (st .pre .1 .0) in
+    (omega (arith, lp .inv .1, st .pre .0 .0, n, f), st .pre .0 .2, omega (arith, f, n))
 
 add-s : tie.Need-add-s Inv-loop μ-loop
 add-s c = search needs
@@ -61,14 +65,15 @@ loop-less c = search needs
 
 loop-again : tie.Need-loop-again Inv-loop μ-loop
 loop-again c =
-    let st = c .before .before .before .before .before .before .before .before in
-    let lp = c .before .before .before .before .before .loop in
+    let st = c .before .before .before .before .before .before .before .before .before in
+    let lp = c .before .before .before .before .before .before .loop in
     let fr = c .before .before .fill-row in
+    let n = c .before .before .before .before .before .before .before .states .ensures in
     let d = toZ w64 (ofZ w64 (st .args .d)) in (
       omega arith,
       fr .kept .0 ∙ lp .inv .1,
       fr .ensures
-          ∙ ap₂ (λ (l : List ℕ) (n : ℕ). overwrite l (λ i. moveIndex (st .args .m) (lp .s) (st .args .u) + i) (λ i. entryOf n (nextOf (asKind (st .args .k)) (amp (st .args .u + i) d ∷ []) (lp .s) (st .args .u + i))) (st .args .w)) (lp .inv .2) (c .before .before .before .before .before .before .states .ensures)
+          ∙ ap₂ (λ (l : List ℕ) (f : ℕ → ℕ). overwrite l (λ i. moveIndex (st .args .m) (lp .s) (st .args .u) + i) f (st .args .w)) (lp .inv .2) (fun-ext (λ i. ap₂ entryOf n (c .before .before .before .row-in .ensures (st .args .u + i))))
           ∙ rows-more (st .args .moves .now) (st .args .m) (st .args .u) (st .args .w) (asKind (st .args .k)) d (st .pre .0 .2) (lp .s),
     )
 
@@ -94,6 +99,7 @@ fill-moves-spec =
     add-at
     mul-at-2
     add-at-2
+    row-in-requires
     fill-row-requires
     add-s
     loop-less

@@ -1,41 +1,42 @@
 -- The entries so far are those of the row, and the rest is as it was.
 -- Assumes nothing.
 use mathlib.Core.Path.{_≡_, refl, ap, _∙_}
-use mathlib.Core.List.{List, [], _∷_}
+use mathlib.Core.List.{List}
 use Prim.Native.Nat.{ℕ, _+_, _-_, _≤_}
 use native.Mathlib.Omega.{arith}
 use lib.ListN.{length, set, length-set}
-use mir.Syntax.{w64}
-use mir.Val.{toZ, ofZ}
-use mir.ValLaws.{toZ-ofZ}
 use Rattle.lists.specs.Lists.{overwrite}
 use Rattle.lists.proofs.Tables.{overwrite-more}
-use Rattle.promises.specs.Text.{amp}
-use Rattle.promises.specs.Rig.{nextOf}
-use Rattle.kinds.specs.Kinds.{asKind, entryOf}
+use Rattle.kinds.specs.Kinds.{rowAt, entryOf}
+use Rattle.kinds.proofs.Tables.{entry-row}
 use borrow.Author.Needs.{needs}
 use Rattle.kinds.proofs.fill_row.Statement.{statement}
 use Rattle.kinds.proofs.fill_row.Tie as tie
 
 abbrev Inv-loop : tie.InvT-loop
-Inv-loop moves₀ at u w k n d s i₀ moves i =
-    (i ≤ w) × (length moves ≡ length moves₀) × (moves ≡ overwrite moves₀ (λ i. at + i) (λ i. entryOf n (nextOf (asKind k) (amp (u + i) (toZ w64 d) ∷ []) s (u + i))) i)
+Inv-loop moves₀ at u w r n x y z i₀ moves i = (i ≤ w) × (length moves ≡ length moves₀) × (moves ≡ overwrite moves₀ (λ i. at + i) (λ i. entryOf n (rowAt r (u + i))) i)
 
 abbrev μ-loop : tie.MeasureT-loop
-μ-loop moves₀ at u w k n d s i₀ moves i = w - i
+μ-loop moves₀ at u w r n x y z i₀ moves i = w - i
+
+entry-requires : tie.Need-entry-requires Inv-loop μ-loop
+entry-requires c κs = search needs
+
+entry-requires-2 : tie.Need-entry-requires-2 Inv-loop μ-loop
+entry-requires-2 c κs = search needs
+
+entry-requires-3 : tie.Need-entry-requires-3 Inv-loop μ-loop
+entry-requires-3 c κs = search needs
 
 loop-holds : tie.Need-loop-holds Inv-loop μ-loop
 unfolding overwrite
 loop-holds c = (omega arith, refl, refl)
 
-add-next : tie.Need-add-next Inv-loop μ-loop
-add-next c = search needs
+add-on-event : tie.Need-add-on-event Inv-loop μ-loop
+add-on-event c = search needs
 
-next-requires : tie.Need-next-requires Inv-loop μ-loop
-next-requires c κs = rw (toZ-ofZ w64 (c .before .before .before .args .d) (c .before .before .before .fits .d)) (c .before .before .before .pre .1)
-
-entry-requires : tie.Need-entry-requires Inv-loop μ-loop
-entry-requires c κs = search needs
+on-event-requires : tie.Need-on-event-requires Inv-loop μ-loop
+on-event-requires c κs = search needs
 
 add-moves : tie.Need-add-moves Inv-loop μ-loop
 add-moves c = search needs
@@ -51,12 +52,15 @@ loop-less c = search needs
 
 loop-again : tie.Need-loop-again Inv-loop μ-loop
 loop-again c =
-    let st = c .before .before .before .before .before in
-    let lp = c .before .before .before .loop in (
+    let a = c .before .before .before .before .before .before .before .args in
+    let lp = c .before .before .loop in
+    let x = c .before .before .before .before .before .entry .ensures in
+    let y = c .before .before .before .before .entry2 .ensures in
+    let z = c .before .before .before .entry3 .ensures in (
       omega arith,
       simp length-set (lp .inv .1),
-      ap (λ (l : List ℕ). set l (st .args .at + lp .i) (c .entry .result)) (lp .inv .2)
-          ∙ overwrite-more (st .args .moves .now) (λ i. st .args .at + i) (λ i. entryOf (st .args .n) (nextOf (asKind (st .args .k)) (amp ((st .args .u) + i) (toZ w64 (ofZ w64 (st .args .d))) ∷ []) (st .args .s) ((st .args .u) + i))) (lp .i) (c .entry .result) (c .entry .ensures ∙ ap (entryOf (st .args .n)) (c .before .next .ensures)),
+      ap (λ (l : List ℕ). set l (a .at + lp .i) (c .on-event .result)) (lp .inv .2)
+          ∙ overwrite-more (a .moves .now) (λ i. a .at + i) (λ i. entryOf (a .n) (rowAt (a .r) (a .u + i))) (lp .i) (c .on-event .result) (c .on-event .ensures ∙ entry-row (a .n) (a .r) (a .u + lp .i) _ _ _ x y z),
     )
 
 same-length : tie.Need-same-length Inv-loop μ-loop
@@ -64,10 +68,10 @@ same-length c = search needs
 
 returns : tie.Need-returns Inv-loop μ-loop
 returns c =
-    let st = c .before .before .before in
+    let a = c .before .before .before .before .before .before .args in
     let lp = c .before .loop in
-    let e : lp .i ≡ st .args .w = omega arith in
-    rw (toZ-ofZ w64 (st .args .d) (st .fits .d)) at (lp .inv .2 ∙ ap (overwrite (st .args .moves .now) (λ i. st .args .at + i) (λ i. entryOf (st .args .n) (nextOf (asKind (st .args .k)) (amp ((st .args .u) + i) (toZ w64 (ofZ w64 (st .args .d))) ∷ []) (st .args .s) ((st .args .u) + i)))) e)
+    let e : lp .i ≡ a .w = omega arith in
+    lp .inv .2 ∙ ap (overwrite (a .moves .now) (λ i. a .at + i) (λ i. entryOf (a .n) (rowAt (a .r) (a .u + i)))) e
 
 pub fill-row-spec : {M : Type 1} → statement M
 fill-row-spec =
@@ -75,10 +79,12 @@ fill-row-spec =
     (tie.spec
     Inv-loop
     μ-loop
-    loop-holds
-    add-next
-    next-requires
     entry-requires
+    entry-requires-2
+    entry-requires-3
+    loop-holds
+    add-on-event
+    on-event-requires
     add-moves
     slice-write-moves
     add-i

@@ -1,6 +1,6 @@
 -- By the kind.
 -- Assumes nothing.
-use mathlib.Core.Path.{_≡_, refl, subst}
+use mathlib.Core.Path.{_≡_, refl, subst, _∙_}
 use mathlib.Core.Option.{orElse}
 use Prim.Native.Nat.{_+_, _≤_}
 use native.Mathlib.Omega.{arith}
@@ -16,23 +16,26 @@ use Rattle.promises.specs.Rig.{dayNext, nextOf}
 use Rattle.kinds.specs.Kinds.{asKind, InRange}
 use Rattle.kinds.proofs.Bands.{few, some-state}
 use borrow.Author.Needs.{needs}
-use Rattle.kinds.proofs.next.Statement.{statement}
-use Rattle.kinds.proofs.next.Tie as tie
+use Rattle.kinds.proofs.row_in.Statement.{statement}
+use Rattle.kinds.proofs.row_in.Tie as tie
 
 enum-known-k : tie.Need-enum-known-k
 enum-known-k c = search needs
 
+one-row-requires : tie.Need-one-row-requires
+one-row-requires c κs = search needs
+
 enum-known-k-2 : tie.Need-enum-known-k-2
 enum-known-k-2 c = search needs
 
-gap-next-requires : tie.Need-gap-next-requires
-gap-next-requires c κs = let k = c .before .k2 .given in unfold statesOf in rw (k .1) at (some-state (asKind (c .before .before .before .args .k)) (c .before .before .before .pre .0))
+gap-row-requires : tie.Need-gap-row-requires
+gap-row-requires c κs = let k = c .before .k2 .given in unfold statesOf in rw (k .1) at (some-state (asKind (c .before .before .before .args .k)) (c .before .before .before .pre .0))
 
 enum-known-k-3 : tie.Need-enum-known-k-3
 enum-known-k-3 c = search needs
 
-reply-next-requires : tie.Need-reply-next-requires
-reply-next-requires c κs =
+reply-row-requires : tie.Need-reply-row-requires
+reply-row-requires c κs =
     let st = c .before .before .before in
     let k = c .before .k3 .given in
     let f = few (asKind (st .args .k)) (st .pre .0) in
@@ -44,10 +47,14 @@ enum-known-k-4 c = search needs
 
 bal-next-requires : tie.Need-bal-next-requires
 bal-next-requires c κs =
+    let st = c .before .before .before in
     let k = c .before .k4 .given in
     let lo : toZ w64 (ofZ w64 (k .0 .0)) ≡ k .0 .0 = search needs in
     let hi : toZ w64 (ofZ w64 (k .0 .1 .0)) ≡ k .0 .1 .0 = search needs in
-    rw (lo, hi, toZ-ofZ w64 (c .before .before .before .args .d) (c .before .before .before .fits .d)) (subst (λ k. InRange (asKind k)) (k .1) (c .before .before .before .pre .0), c .before .before .before .pre .1, omega (arith, few (asKind (c .before .before .before .args .k)) (c .before .before .before .pre .0), c .before .before .before .pre .2))
+    rw (lo, hi, toZ-ofZ w64 (st .args .d) (st .fits .d)) (subst (λ k. InRange (asKind k)) (k .1) (st .pre .0), st .pre .1, omega (arith, few (asKind (st .args .k)) (st .pre .0), st .pre .2))
+
+one-row-requires-2 : tie.Need-one-row-requires-2
+one-row-requires-2 c κs = search needs
 
 enum-known-k-5 : tie.Need-enum-known-k-5
 enum-known-k-5 c = search needs
@@ -58,44 +65,51 @@ day-next-requires c κs =
     let k = c .before .k5 .given in
     unfold statesOf in (rw (k .1) at (st .pre .2), rw (k .1) at (few (asKind (st .args .k)) (st .pre .0)))
 
+one-row-requires-3 : tie.Need-one-row-requires-3
+one-row-requires-3 c κs = search needs
+
 returns : tie.Need-returns
 unfolding nextOf firstOf leadsTo orElse
-returns c = rw (c .before .k .given .1)
+returns c = λ u. rw (c .before .before .k .given .1) (c .one-row .ensures u)
 
 returns-2 : tie.Need-returns-2
 unfolding nextOf
-returns-2 c = rw (c .before .before .k2 .given .1) (c .gap-next .ensures)
+returns-2 c = λ u. rw (c .before .before .k2 .given .1) (c .gap-row .ensures u)
 
 returns-3 : tie.Need-returns-3
 unfolding nextOf
-returns-3 c = rw (c .before .before .k3 .given .1) (c .reply-next .ensures)
+returns-3 c = λ u. rw (c .before .before .k3 .given .1) (c .reply-row .ensures u)
 
 returns-4 : tie.Need-returns-4
 unfolding nextOf stepOf firstOf stepIn orElse
 returns-4 c =
-    let k = c .before .before .k4 .given in
+    let st = c .before .before .before .before .before in
+    let k = c .before .before .before .k4 .given in
     let lo : toZ w64 (ofZ w64 (k .0 .0)) ≡ k .0 .0 = search needs in
     let hi : toZ w64 (ofZ w64 (k .0 .1 .0)) ≡ k .0 .1 .0 = search needs in
-    let q = c .bal-next .ensures in
-    rw (k .1, eq-eqb (c .before .before .before .before .args .u) (c .before .before .before .before .args .u) refl) (rw (lo, hi, toZ-ofZ w64 (c .before .before .before .before .args .d) (c .before .before .before .before .fits .d)) at q)
+    let q = c .before .bal-next .ensures in
+    λ u. rw (k .1, eq-eqb u u refl) (c .one-row2 .ensures u ∙ (rw (lo, hi, toZ-ofZ w64 (st .args .d) (st .fits .d)) at q))
 
 returns-5 : tie.Need-returns-5
 unfolding nextOf opensBy dayNext
-returns-5 c = rw (c .before .before .k5 .given .1) (c .day-next .ensures)
+returns-5 c = λ u. rw (c .before .before .before .k5 .given .1) (c .one-row3 .ensures u ∙ c .before .day-next .ensures)
 
-pub next-spec : {M : Type 1} → statement M
-next-spec =
+pub row-in-spec : {M : Type 1} → statement M
+row-in-spec =
     tie.close
     (tie.spec
     enum-known-k
+    one-row-requires
     enum-known-k-2
-    gap-next-requires
+    gap-row-requires
     enum-known-k-3
-    reply-next-requires
+    reply-row-requires
     enum-known-k-4
     bal-next-requires
+    one-row-requires-2
     enum-known-k-5
     day-next-requires
+    one-row-requires-3
     returns
     returns-2
     returns-3
