@@ -206,13 +206,14 @@ fn gap_row(e: usize, n: usize, s: usize) -> Row
             z: 0,
         };
     }
+    // e is barred
     Row {
         a: e,
         x: n,
         b: e,
         y: n,
         z: s - 1,
-    } // e is barred
+    }
 }
 
 // The row of a `reply` in state s: '0 with nothing due, 1 just after a, and one more each step'.
