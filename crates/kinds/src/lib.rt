@@ -1,4 +1,4 @@
-// The kinds of monitor: what a line that begins one says. Each function up to `mark` has a clause for each kind; the others fill the tables of any.
+// The kinds of monitor: what a line that begins one says, each function up to `mark` by the kind; then the tables of any kind, and the hours of a `day`.
 use decoding::Kind;
 ghost use mathlib.Core.Path.{_≡_};
 ghost use mathlib.Core.Bool.{false, _&&_};

@@ -1,4 +1,5 @@
 -- What `day` and `open` lines are, paper 02 no. 7: events that happen only in part of the service day.
+--   dayOf T ps         == the monitor of the line `day`, T with the further lines ps
 --   Hours              == the steps of the day, the sentence, how `open` lines add up, and how they are refused
 -- Lines that begin a monitor, a `day` among them, are refused as Sentences says. Assumes nothing.
 use mathlib.Core.Path.{_≡_}
@@ -14,7 +15,6 @@ use Rattle.promises.specs.Meaning.{Stands, HasHours, InHours, Admits, Ma
 use Rattle.promises.specs.Rig.{monitorOf}
 use Rattle.promises.specs.Sentences.{Agrees, Continues}
 
--- the monitor of a `day` line with the further lines ps
 abbrev pub dayOf : ℕ → List Part → Monitor
 dayOf T ps = record { kind = day T; parts = ps }
 

@@ -1,5 +1,6 @@
 -- The automaton that a text's lines describe: each monitor an automaton, all of them joined. What the answers are read from.
 --   gapNext, replyNext, balNext, dayNext == where a `gap`, a `reply`, a `bal` and a `day` monitor move
+--   admittedAt ps e s  == a `day` with the lines ps admits event e at step s
 --   nextOf k ps s e    == where a monitor of the kind k with the further lines ps moves from s on e; a number that is no state where it doesn't admit e
 --   markedOf k ps s    == its state s is marked as one in which a run may stop
 --   monitorOf es m     == the automaton of the monitor m, its events in the order es
