@@ -13,8 +13,8 @@ use native.Mathlib.Numerals.{add-one}
 use native.Mathlib.Omega.{arith}
 use lib.IntN.{ℤ, pos}
 use lib.ListN.{length, getD, set}
-use lib.Dec.{eqb}
-use borrow.Author.Tests.{le-ltb, eq-eqb}
+use lib.Dec.{ltb, eqb}
+use borrow.Author.Tests.{ltb-false, le-ltb, eq-eqb, ne-eqb}
 use Rattle.lists.specs.Lists.{pick, overwrite, firstOf}
 use Rattle.lists.proofs.Tests.{case, contra}
 use Rattle.lists.proofs.Tables.{length-overwrite, overwrite-at, overwrite-beside, overwrite-more}
@@ -24,7 +24,7 @@ use Rattle.promises.specs.Reading.{leadsTo, opensBy, isMon}
 use Rattle.promises.specs.Rig.{nextOf, markedOf}
 use Rattle.rig.specs.Record.{moveIndex, moveAt, stopIndex, stopAt}
 use Rattle.kinds.specs.declared.Row.{Row}
-use Rattle.kinds.specs.Kinds.{rowAt, entryOf, withRows, kindMoves, kindStops, hourOf, withHours}
+use Rattle.kinds.specs.Kinds.{onEvent, rowAt, entryOf, withRows, kindMoves, kindStops, hourOf, withHours}
 
 pub record Blank (mv sp : List ℕ) (m : ℕ) : Type 0 where
   pub no-move : (s u : ℕ) → s < 32 → u < 16 → moveAt mv m s u ≡ 255
@@ -34,9 +34,15 @@ pub record OfKind (mv sp : List ℕ) (m E : ℕ) (k : Kind) (ps : List Part) : T
   pub moves : (s u : ℕ) → s < statesOf k → u < E → moveAt mv m s u ≡ entryOf (statesOf k) (nextOf k ps s u)
   pub marks : (s : ℕ) → s < statesOf k → stopAt sp m s ≡ pick (markedOf k ps s) 1 0
 
+-- an event as a byte
+same-event : (v a : ℕ) → v < 16 → eqb v (entryOf 16 a) ≡ eqb v a
+same-event v a h = case (ltb a 16) (λ q. rw q) (λ q. rw q (ne-eqb v 255 (λ e. omega arith) ∙ sym (ne-eqb v a (λ e. omega (arith, ltb-false a 16 q)))))
+
 -- the entries of a row
-pub entry-row : (n : ℕ) (r : Row) (v x y z : ℕ) → x ≡ entryOf n (r .x) → y ≡ entryOf n (r .y) → z ≡ entryOf n (r .z) → pick (eqb v (r .a)) x (pick (eqb v (r .b)) y z) ≡ entryOf n (rowAt r v)
-entry-row n r v x y z p q t = rw (p, q, t) (case (eqb v (r .a)) (λ i. rw i) (λ i. case (eqb v (r .b)) (λ j. rw (i, j)) (λ j. rw (i, j))))
+pub entry-row : (n : ℕ) (r : Row) (v a x b y z : ℕ) → v < 16 → a ≡ entryOf 16 (r .a) → b ≡ entryOf 16 (r .b) → x ≡ entryOf n (r .x) → y ≡ entryOf n (r .y) → z ≡ entryOf n (r .z)
+    → onEvent v a x b y z ≡ entryOf n (rowAt r v)
+entry-row n r v a x b y z h i j p q t =
+    rw (i, j, p, q, t, same-event v (r .a) h, same-event v (r .b) h) (case (eqb v (r .a)) (λ i. rw i) (λ i. case (eqb v (r .b)) (λ j. rw (i, j)) (λ j. rw (i, j))))
 
 -- ---- the moves on some events
 

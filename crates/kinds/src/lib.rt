@@ -6,13 +6,13 @@ ghost use mathlib.Core.List.{[], _∷_};
 ghost use Prim.Native.Nat.{ℕ, suc, _+_, _%_, _≤_, _<_};
 ghost use lib.IntN.{pos, negℤ};
 ghost use lib.ListN.{length};
-ghost use lib.Dec.{leb, ltb, eqb};
+ghost use lib.Dec.{leb, ltb};
 ghost use Rattle.lists.specs.Lists.{pick, overwrite};
 ghost use Rattle.promises.specs.Text.{bal, amp, statesOf, startOf};
 ghost use Rattle.promises.specs.Reading as promised;
 ghost use Rattle.promises.specs.Rig.{gapNext, replyNext, balNext, nextOf, markedOf};
 ghost use Rattle.rig.specs.Record.{stopIndex};
-ghost use Rattle.kinds.specs.Kinds.{asKind, InRange, monStates, bandOf, daySteps, rowAt, entryOf, withRows, kindMoves, kindStops, hourOf, withHours};
+ghost use Rattle.kinds.specs.Kinds.{asKind, InRange, monStates, bandOf, daySteps, onEvent, rowAt, entryOf, withRows, kindMoves, kindStops, hourOf, withHours};
 
 // The band of a `bal`, from lo to hi; of any other kind the empty one, from 1 to 0.
 pub struct Band {
@@ -325,8 +325,8 @@ fn entry(n: usize, t: usize) -> u8
 }
 
 // On event v: x if it is a, y if it is b, else z.
-fn on_event(v: usize, a: usize, x: u8, b: usize, y: u8, z: u8) -> u8
-    ensures { λ r. ⌜ r ≡ pick (eqb v a) x (pick (eqb v b) y z) ⌝ }
+fn on_event(v: u8, a: u8, x: u8, b: u8, y: u8, z: u8) -> u8
+    ensures { λ r. ⌜ r ≡ onEvent v a x b y z ⌝ }
 {
     if v == a {
         return x;
@@ -342,11 +342,13 @@ fn fill_row(moves: &mut [u8], at: usize, u: usize, w: usize, r: Row, n: usize)
     requires { ⌜ (at + w ≤ length (now moves)) × (u + w ≤ 16) × (n ≤ 32) ⌝ }
     ensures { λ _. ⌜ now (moves .exit) ≡ overwrite (now (moves .entry)) (λ i. at + i) (λ i. entryOf n (rowAt r (u + i))) w ⌝ }
 {
+    let a = entry(16, r.a);
+    let b = entry(16, r.b);
     let x = entry(n, r.x);
     let y = entry(n, r.y);
     let z = entry(n, r.z);
     for i in 0..w {
-        moves[at + i] = on_event(u + i, r.a, x, r.b, y, z);
+        moves[at + i] = on_event((u + i) as u8, a, x, b, y, z);
     }
 }
 

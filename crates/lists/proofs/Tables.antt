@@ -112,3 +112,8 @@ module _ {A : Type 0} (l : List A) (p : ℕ → ℕ) (f : ℕ → A) where
   pub overwrite-more : (n : ℕ) (v : A) → v ≡ f n → set (overwrite l p f n) (p n) v ≡ overwrite l p f (n + 1)
   unfolding overwrite
   overwrite-more n v q = rw (add-one n, q)
+
+pub overwrite-cong : {A : Type 0} (l : List A) (p : ℕ → ℕ) (f g : ℕ → A) (n : ℕ) → ((x : ℕ) → x < n → f x ≡ g x) → overwrite l p f n ≡ overwrite l p g n
+unfolding overwrite
+overwrite-cong l p f g zero h = refl
+overwrite-cong l p f g (suc n) h = rw (overwrite-cong l p f g n (λ x k. h x (omega arith)), h n (omega arith))

@@ -1,4 +1,4 @@
--- The entries so far are those of the row, and the rest is as it was.
+-- The entries so far are those of the row, its events and moves as bytes, and the rest is as it was.
 -- Assumes nothing.
 use mathlib.Core.Path.{_≡_, refl, ap, _∙_}
 use mathlib.Core.List.{List}
@@ -6,18 +6,18 @@ use Prim.Native.Nat.{ℕ, _+_, _-_, _≤_}
 use native.Mathlib.Omega.{arith}
 use lib.ListN.{length, set, length-set}
 use Rattle.lists.specs.Lists.{overwrite}
-use Rattle.lists.proofs.Tables.{overwrite-more}
-use Rattle.kinds.specs.Kinds.{rowAt, entryOf}
+use Rattle.lists.proofs.Tables.{overwrite-more, overwrite-cong}
+use Rattle.kinds.specs.Kinds.{onEvent, rowAt, entryOf}
 use Rattle.kinds.proofs.Tables.{entry-row}
 use borrow.Author.Needs.{needs}
 use Rattle.kinds.proofs.fill_row.Statement.{statement}
 use Rattle.kinds.proofs.fill_row.Tie as tie
 
 abbrev Inv-loop : tie.InvT-loop
-Inv-loop moves₀ at u w r n x y z i₀ moves i = (i ≤ w) × (length moves ≡ length moves₀) × (moves ≡ overwrite moves₀ (λ i. at + i) (λ i. entryOf n (rowAt r (u + i))) i)
+Inv-loop moves₀ at u w n a b x y z i₀ moves i = (i ≤ w) × (length moves ≡ length moves₀) × (moves ≡ overwrite moves₀ (λ i. at + i) (λ i. onEvent (u + i) a x b y z) i)
 
 abbrev μ-loop : tie.MeasureT-loop
-μ-loop moves₀ at u w r n x y z i₀ moves i = w - i
+μ-loop moves₀ at u w n a b x y z i₀ moves i = w - i
 
 entry-requires : tie.Need-entry-requires Inv-loop μ-loop
 entry-requires c κs = search needs
@@ -28,12 +28,21 @@ entry-requires-2 c κs = search needs
 entry-requires-3 : tie.Need-entry-requires-3 Inv-loop μ-loop
 entry-requires-3 c κs = search needs
 
+entry-requires-4 : tie.Need-entry-requires-4 Inv-loop μ-loop
+entry-requires-4 c κs = search needs
+
+entry-requires-5 : tie.Need-entry-requires-5 Inv-loop μ-loop
+entry-requires-5 c κs = search needs
+
 loop-holds : tie.Need-loop-holds Inv-loop μ-loop
 unfolding overwrite
 loop-holds c = (omega arith, refl, refl)
 
 add-on-event : tie.Need-add-on-event Inv-loop μ-loop
 add-on-event c = search needs
+
+cast-on-event : tie.Need-cast-on-event Inv-loop μ-loop
+cast-on-event c = search needs
 
 on-event-requires : tie.Need-on-event-requires Inv-loop μ-loop
 on-event-requires c κs = search needs
@@ -52,15 +61,12 @@ loop-less c = search needs
 
 loop-again : tie.Need-loop-again Inv-loop μ-loop
 loop-again c =
-    let a = c .before .before .before .before .before .before .before .args in
-    let lp = c .before .before .loop in
-    let x = c .before .before .before .before .before .entry .ensures in
-    let y = c .before .before .before .before .entry2 .ensures in
-    let z = c .before .before .before .entry3 .ensures in (
+    let g = c .before .before .before .before .before .before .before .before .before .args in
+    let lp = c .before .before .loop in (
       omega arith,
       simp length-set (lp .inv .1),
-      ap (λ (l : List ℕ). set l (a .at + lp .i) (c .on-event .result)) (lp .inv .2)
-          ∙ overwrite-more (a .moves .now) (λ i. a .at + i) (λ i. entryOf (a .n) (rowAt (a .r) (a .u + i))) (lp .i) (c .on-event .result) (c .on-event .ensures ∙ entry-row (a .n) (a .r) (a .u + lp .i) _ _ _ x y z),
+      ap (λ (l : List ℕ). set l (g .at + lp .i) (c .on-event .result)) (lp .inv .2)
+          ∙ overwrite-more (g .moves .now) (λ i. g .at + i) (λ i. onEvent (g .u + i) (c .before .before .before .before .before .before .before .entry .result) (c .before .before .before .before .before .entry3 .result) (c .before .before .before .before .before .before .entry2 .result) (c .before .before .before .before .entry4 .result) (c .before .before .before .entry5 .result)) (lp .i) (c .on-event .result) (c .on-event .ensures),
     )
 
 same-length : tie.Need-same-length Inv-loop μ-loop
@@ -68,10 +74,18 @@ same-length c = search needs
 
 returns : tie.Need-returns Inv-loop μ-loop
 returns c =
-    let a = c .before .before .before .before .before .before .args in
+    let st = c .before .before .before .before .before .before .before .before in
+    let g = st .args in
     let lp = c .before .loop in
-    let e : lp .i ≡ a .w = omega arith in
-    lp .inv .2 ∙ ap (overwrite (a .moves .now) (λ i. a .at + i) (λ i. entryOf (a .n) (rowAt (a .r) (a .u + i)))) e
+    let a = c .before .before .before .before .before .before .entry .ensures in
+    let b = c .before .before .before .before .before .entry2 .ensures in
+    let x = c .before .before .before .before .entry3 .ensures in
+    let y = c .before .before .before .entry4 .ensures in
+    let z = c .before .before .entry5 .ensures in
+    let e : lp .i ≡ g .w = omega arith in
+    lp .inv .2
+    ∙ overwrite-cong (g .moves .now) (λ i. g .at + i) _ (λ i. entryOf (g .n) (rowAt (g .r) (g .u + i))) (lp .i) (λ i l. entry-row (g .n) (g .r) (g .u + i) _ _ _ _ _ (omega (arith, st .pre .1)) a b x y z)
+    ∙ ap (overwrite (g .moves .now) (λ i. g .at + i) (λ i. entryOf (g .n) (rowAt (g .r) (g .u + i)))) e
 
 pub fill-row-spec : {M : Type 1} → statement M
 fill-row-spec =
@@ -82,8 +96,11 @@ fill-row-spec =
     entry-requires
     entry-requires-2
     entry-requires-3
+    entry-requires-4
+    entry-requires-5
     loop-holds
     add-on-event
+    cast-on-event
     on-event-requires
     add-moves
     slice-write-moves
