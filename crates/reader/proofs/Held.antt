@@ -37,9 +37,9 @@ use Rattle.decoding.specs.Forms.{over, kindOf, formOf}
 use Rattle.decoding.proofs.Listed.{length-over, Leaves}
 use Rattle.kinds.specs.Kinds.{asKind, InRange, monStates, emptyBand, bandOf, daySteps, withStep, kindMoves, kindStops}
 use Rattle.kinds.proofs.Tables.{Blank, OfKind, length-rows, length-hours, length-moves, length-stops, moves-beside, stops-beside, fills}
-use Rattle.reader.specs.declared.Sizes.{Sizes}
+use Rattle.taking.specs.declared.Sizes.{Sizes}
 use Rattle.reader.specs.Reading.{nobody, withPart, withLine, recordFrom}
-use Rattle.reader.specs.Taking.{Allowed, rigCase, rigSizes, ordCase, kindCase, goCase, goMoves, stopCase, stopStops, noBand, givenIndex, givenAt, withGiven, ampCase, ampMoves, openCase, openMoves, caseOf, sizesAfter, movesAfter, stopsAfter, givenAfter, countsAfter, startsAfter}
+use Rattle.taking.specs.Taking.{Allowed, rigCase, rigSizes, ordCase, kindCase, goCase, goMoves, stopCase, stopStops, noBand, givenIndex, givenAt, withGiven, ampCase, ampMoves, openCase, openMoves, caseOf, sizesAfter, movesAfter, stopsAfter, givenAfter, countsAfter, startsAfter}
 use Rattle.reader.proofs.Monitors.{monitorAt, events-snoc, empty-nil, empty-snoc, empty-length, addPart-at, addPart-beside, latest-at, new-before, new-at, new-parts}
 use Rattle.reader.proofs.Listed.{over-events, front-any, ord-case}
 use Rattle.reader.proofs.Tables.{Same, same-blank, same-kind, go-beside, stop-beside, amp-beside, open-beside, seen, seen-mark, with-go, with-stop, with-amp, with-open}

@@ -1,5 +1,4 @@
 -- The laws that the proofs of reader share.
-pub mod Taking
 pub mod Lines
 pub mod Monitors
 pub mod Tables

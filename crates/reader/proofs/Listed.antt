@@ -2,27 +2,22 @@
 -- Why: no event is past a byte, so a number that is cut is none either way. Assumes nothing.
 use mathlib.Core.Path.{_≡_, refl, sym, ap, ap₂, _∙_}
 use mathlib.Core.Logic.{⊎-elim}
-use mathlib.Core.Bool.{true, false, _||_}
+use mathlib.Core.Bool.{false, _||_}
 use mathlib.Core.List.{List, [], _∷_, _++_, map}
-use Prim.Native.Nat.{ℕ, suc, _+_, _-_, _≤_, _<_, min}
+use Prim.Native.Nat.{ℕ, suc, _≤_, min}
 use native.Mathlib.Omega.{arith}
 use native.Mathlib.Nat.{min-eq-left, min-eq-right}
-use native.Mathlib.Numerals.{add-one}
-use lib.ListN.{length, getD, take, drop, length-map, drop-of-length-le}
-use lib.Seq.{take-at, drop-cons, length-take-le}
-use lib.Dec.{eqb, ltb, leb}
-use borrow.Author.Tests.{eq-eqb, ne-eqb, eqb-true, eqb-false, lt-ltb, le-ltb, le-leb, leb-false}
-use Rattle.lists.specs.Lists.{pick, any, indexOf}
+use lib.ListN.{length, take, drop, length-map}
+use lib.Seq.{take-at}
+use lib.Dec.{eqb, leb}
+use borrow.Author.Tests.{eq-eqb, ne-eqb, eqb-true, eqb-false, le-leb, leb-false}
+use Rattle.lists.specs.Lists.{pick, any}
 use Rattle.lists.proofs.Tests.{case, or-left, or-rest, split}
-use Rattle.lists.proofs.Permutations.{indexOf-any}
 use Rattle.promises.specs.Text.{Line, ord, eventsOf}
 use Rattle.promises.specs.Reading.{repeats, tests, lineCase}
-use Rattle.promises.specs.Calls.{notBelow, firstBad}
-use Rattle.promises.proofs.Checks.{bad-any}
 use Rattle.decoding.specs.Forms.{over}
-use Rattle.decoding.proofs.Numbers.{rest-whole}
-use Rattle.reader.specs.declared.Sizes.{Sizes}
-use Rattle.reader.specs.Taking.{ordCase}
+use Rattle.taking.specs.declared.Sizes.{Sizes}
+use Rattle.taking.specs.Taking.{ordCase}
 
 abbrev cut : List ℕ → List ℕ
 cut es = map (λ e. min e 255) es
@@ -77,34 +72,3 @@ module _ (ls : List Line) (z : Sizes) (line : ℕ) (es os : List ℕ) (E-is : ev
   ord-case = rw E-is (case (eqb (length ls) 1)
       (λ p. rw (p, eq-eqb line 2 (omega (arith, eqb-true (length ls) 1 p))) (case (eqb (length es) (z .events)) (λ q. rw q (on-second (eqb-true (length es) (z .events) q))) (λ q. rw q)))
       (λ p. rw (p, ne-eqb line 2 (λ q. eqb-false (length ls) 1 p (omega arith)))))
-
--- ---- the numbers that are no events
-
-module _ (os : List ℕ) (n k : ℕ) (room : n ≤ length os) (q : k ≡ firstBad (notBelow n) (take n os)) where
-  front-test : ltb k n ≡ any (leb n) (take n os)
-  front-test = ap₂ ltb q (sym (length-take-le n os room)) ∙ bad-any n (take n os)
-
-  pub front-bad : k < n → any (leb n) (take n os) ≡ true
-  front-bad h = sym front-test ∙ lt-ltb k n h
-
-  pub front-good : n ≤ k → any (leb n) (take n os) ≡ false
-  front-good h = sym front-test ∙ le-ltb k n h
-
--- ---- repeats, byte by byte
-
-module _ (l : List ℕ) (k : ℕ) where
-  -- the bytes after k, as they are lent
-  abbrev rest : List ℕ
-  rest = take (length l - (k + 1)) (drop (k + 1) l)
-
-  repeats-step : k < length l → repeats (drop k l) ≡ (ltb (indexOf rest (getD l k 0)) (length rest) || repeats (drop (k + 1) l))
-  repeats-step h = rw (rest-whole l (k + 1), drop-cons l k 0 h, indexOf-any (drop (k + 1) l) (getD l k 0), add-one)
-
-  pub repeats-here : k < length l → indexOf rest (getD l k 0) < length rest → repeats (drop k l) ≡ true
-  repeats-here h lt = repeats-step h ∙ rw (lt-ltb _ _ lt)
-
-  pub repeats-later : k < length l → length rest ≤ indexOf rest (getD l k 0) → repeats (drop k l) ≡ repeats (drop (k + 1) l)
-  repeats-later h le = repeats-step h ∙ rw (le-ltb _ _ le)
-
-  pub repeats-end : length l ≤ k → repeats (drop k l) ≡ false
-  repeats-end h = ap repeats (drop-of-length-le l {i = k} h)

@@ -25,11 +25,11 @@ use Rattle.decoding.proofs.Parts.{indexOf-le}
 use Rattle.decoding.proofs.Numbers.{rest-whole}
 use Rattle.kinds.specs.Kinds.{emptyBand}
 use Rattle.reader.specs.declared.Reading.{Reading}
-use Rattle.reader.specs.declared.Sizes.{Sizes}
-use Rattle.reader.specs.declared.Taken.{Taken}
-use Rattle.reader.specs.declared.Taken.the-variants.{Next, Same, Bad}
-use Rattle.reader.specs.Reading.{answerOf, recordFrom, whereServed, recordOf}
-use Rattle.reader.specs.Taking.{onlyIf, taken, sizesOf, refusal, caseOf, outcome, sizesAfter, movesAfter, stopsAfter, givenAfter, countsAfter, startsAfter}
+use Rattle.taking.specs.declared.Sizes.{Sizes}
+use Rattle.taking.specs.declared.Taken.{Taken}
+use Rattle.taking.specs.declared.Taken.the-variants.{Next, Same, Bad}
+use Rattle.reader.specs.Reading.{answerOf, refusal, recordFrom, whereServed, recordOf}
+use Rattle.taking.specs.Taking.{onlyIf, taken, sizesOf, caseOf, outcome, sizesAfter, movesAfter, stopsAfter, givenAfter, countsAfter, startsAfter}
 use Rattle.reader.proofs.Lines.{decoded-first, unended-first, decoded-none, unended-all}
 use Rattle.reader.proofs.Monitors.{empty-length}
 use Rattle.reader.proofs.Held.{Holds, holds-none, case-is, holds-more}

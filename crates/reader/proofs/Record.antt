@@ -33,10 +33,10 @@ use Rattle.decoding.specs.Forms.{over, formOf}
 use Rattle.decoding.proofs.Listed.{Leaves}
 use Rattle.kinds.specs.Kinds.{emptyBand, entryOf}
 use Rattle.kinds.proofs.Tables.{OfKind}
-use Rattle.reader.specs.declared.Sizes.{Sizes}
+use Rattle.taking.specs.declared.Sizes.{Sizes}
 use Rattle.reader.specs.Reading.{nobody, recordFrom, whereServed, recordOf}
 use Rattle.reader.specs.Record.{monitorIn, ReadFrom}
-use Rattle.reader.specs.Taking.{caseOf, sizesAfter, movesAfter, stopsAfter, givenAfter, countsAfter, startsAfter}
+use Rattle.taking.specs.Taking.{caseOf, sizesAfter, movesAfter, stopsAfter, givenAfter, countsAfter, startsAfter}
 use Rattle.reader.proofs.Monitors.{empty-nil}
 use Rattle.reader.proofs.Held.{Tabled, Holds, few-events, begun-z, holds-none, case-is, holds-more}
 

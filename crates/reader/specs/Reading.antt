@@ -1,5 +1,6 @@
 -- What `read` answers and the record that it gives. Paper 01, 'Rig text' and 'Numbers of refusal'.
 --   answerOf v         == the verdict v in the paper's numbers
+--   refusal n p        == what is given for a text that is refused, its record empty
 --   nobody             == what stands past the last monitor
 --   withPart r m p     == the record r with the line p of its latest monitor, which is m before it
 --   withLine r front l == the record r of the lines `front` with the line l
@@ -17,6 +18,7 @@ use Rattle.promises.specs.Reading.{hasHours, reading}
 use Rattle.rig.specs.declared.Rig.{Rig}
 use Rattle.rig.specs.Record.{moveIndex, stopIndex, emptyRig}
 use Rattle.kinds.specs.Kinds.{withStep, kindMoves, kindStops, withHours}
+use Rattle.reader.specs.declared.Reading.{Reading}
 use Rattle.reader.specs.declared.Verdict.{Verdict}
 use Rattle.reader.specs.declared.Verdict.the-variants.{Readable, Refused}
 
@@ -27,6 +29,9 @@ nobody = record { kind = mon 0 0; parts = [] }
 abbrev pub answerOf : Verdict → Answer
 answerOf Readable = served []
 answerOf (Refused number place) = refused number place
+
+abbrev pub refusal : ℕ → ℕ → Reading
+refusal number place = record { verdict = Refused number place; rig = emptyRig }
 
 -- '`go`, s, e, t: the latest monitor moves from s to t on event e'; '`stop`, s marks a state of the latest monitor' (02 no. 4); '`amp`, e, d line gives event e a
 -- signed step d' (02 no. 6): the moves on e are those of this step; '`open`, e, a, b lines admit e at steps a up to but not including b', and 'Several lines add

@@ -13,8 +13,8 @@ use Rattle.promises.specs.Answer.{served, refused}
 use Rattle.rig.specs.Record.{emptyRig}
 use Rattle.decoding.proofs.Parts.{indexOf-le}
 use Rattle.decoding.proofs.Listed.{length-over}
-use Rattle.reader.specs.declared.Taken.the-variants.{Next, Same}
-use Rattle.reader.specs.Taking.{caseOf, outcome, sizesAfter}
+use Rattle.taking.specs.declared.Taken.the-variants.{Next, Same}
+use Rattle.taking.specs.Taking.{caseOf, outcome, sizesAfter}
 use Rattle.reader.proofs.Held.{room}
 use Rattle.reader.proofs.Passing.{Passed, passed-none, taken-good, stops-unended, stops-bad, goes-on, ends-none, ends-served, ends-record, reading-long, reading-whole, answers-refusal, answers-record}
 use borrow.Author.Needs.{needs}

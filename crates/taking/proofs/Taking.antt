@@ -8,8 +8,8 @@ use lib.Dec.{eqb}
 use borrow.Author.Tests.{eqb-true, eqb-false}
 use Rattle.lists.specs.Lists.{pick}
 use Rattle.lists.proofs.Tests.{case}
-use Rattle.reader.specs.declared.Sizes.{Sizes}
-use Rattle.reader.specs.Taking.{Allowed, onlyIf}
+use Rattle.taking.specs.declared.Sizes.{Sizes}
+use Rattle.taking.specs.Taking.{Allowed, onlyIf}
 
 -- there is a monitor where a `go` or `stop` line can name a state, and where an `open` line can have hours
 there : (n k : ℕ) → (n ≡ 0 → k ≡ 0) → (k ≡ 0 → ⊥) → 1 ≤ n

@@ -8,10 +8,10 @@ use borrow.Author.Tests.{le-leb, lt-leb, lt-ltb, le-ltb, eq-eqb, ne-eqb}
 use Rattle.promises.proofs.Lines.{start-below}
 use Rattle.kinds.specs.Kinds.{asKind, InRange}
 use Rattle.kinds.proofs.Bands.{ranged, few}
-use Rattle.reader.specs.Taking.{kindCase}
+use Rattle.taking.specs.Taking.{kindCase}
 use borrow.Author.Needs.{needs}
-use Rattle.reader.proofs.take_kind.Statement.{statement}
-use Rattle.reader.proofs.take_kind.Tie as tie
+use Rattle.taking.proofs.take_kind.Statement.{statement}
+use Rattle.taking.proofs.take_kind.Tie as tie
 
 returns : tie.Need-returns
 unfolding kindCase

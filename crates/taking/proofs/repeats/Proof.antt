@@ -5,10 +5,10 @@ use Prim.Native.Nat.{_-_, _≤_}
 use native.Mathlib.Omega.{arith}
 use lib.ListN.{length, drop}
 use Rattle.promises.specs.Reading as promised
-use Rattle.reader.proofs.Listed.{repeats-here, repeats-later, repeats-end}
+use Rattle.taking.proofs.Listed.{repeats-here, repeats-later, repeats-end}
 use borrow.Author.Needs.{needs}
-use Rattle.reader.proofs.repeats.Statement.{statement}
-use Rattle.reader.proofs.repeats.Tie as tie
+use Rattle.taking.proofs.repeats.Statement.{statement}
+use Rattle.taking.proofs.repeats.Tie as tie
 
 abbrev Inv-loop : tie.InvT-loop
 Inv-loop bytes k₀ k-end k = (k ≤ length bytes) × (promised.repeats bytes ≡ promised.repeats (drop k bytes))

@@ -2,11 +2,11 @@
 -- Assumes nothing.
 use native.Mathlib.Omega.{arith}
 use borrow.Author.Tests.{le-leb, lt-leb, lt-ltb, le-ltb, eq-eqb, ne-eqb}
-use Rattle.reader.specs.Taking.{openCase}
-use Rattle.reader.proofs.Taking.{some-day}
+use Rattle.taking.specs.Taking.{openCase}
+use Rattle.taking.proofs.Taking.{some-day}
 use borrow.Author.Needs.{needs}
-use Rattle.reader.proofs.take_open.Statement.{statement}
-use Rattle.reader.proofs.take_open.Tie as tie
+use Rattle.taking.proofs.take_open.Statement.{statement}
+use Rattle.taking.proofs.take_open.Tie as tie
 
 returns : tie.Need-returns
 unfolding openCase

@@ -1,11 +1,11 @@
 -- Each return is one of the cases of a `stop` line, in their order; only the last writes a mark.
 -- Assumes nothing.
 use borrow.Author.Tests.{le-leb, lt-leb, eq-eqb, ne-eqb}
-use Rattle.reader.specs.Taking.{stopCase}
-use Rattle.reader.proofs.Taking.{some-monitor}
+use Rattle.taking.specs.Taking.{stopCase}
+use Rattle.taking.proofs.Taking.{some-monitor}
 use borrow.Author.Needs.{needs}
-use Rattle.reader.proofs.take_stop.Statement.{statement}
-use Rattle.reader.proofs.take_stop.Tie as tie
+use Rattle.taking.proofs.take_stop.Statement.{statement}
+use Rattle.taking.proofs.take_stop.Tie as tie
 
 returns : tie.Need-returns
 unfolding stopCase

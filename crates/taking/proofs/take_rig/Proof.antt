@@ -1,9 +1,9 @@
 -- Each return is one of the cases of a `rig` line, in their order.
 -- Assumes nothing.
 use borrow.Author.Tests.{lt-ltb, le-ltb, eq-eqb, ne-eqb}
-use Rattle.reader.specs.Taking.{rigCase}
-use Rattle.reader.proofs.take_rig.Statement.{statement}
-use Rattle.reader.proofs.take_rig.Tie as tie
+use Rattle.taking.specs.Taking.{rigCase}
+use Rattle.taking.proofs.take_rig.Statement.{statement}
+use Rattle.taking.proofs.take_rig.Tie as tie
 
 returns : tie.Need-returns
 unfolding rigCase

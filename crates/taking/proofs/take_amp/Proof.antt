@@ -9,10 +9,10 @@ use mir.Val.{toZ, ofZ}
 use mir.ValLaws.{toZ-ofZ}
 use borrow.Author.Tests.{le-leb, lt-leb, eq-eqb, ne-eqb}
 use Rattle.promises.specs.Reading.{outsideℤ}
-use Rattle.reader.specs.Taking.{noBand, ampCase}
+use Rattle.taking.specs.Taking.{noBand, ampCase}
 use borrow.Author.Needs.{needs}
-use Rattle.reader.proofs.take_amp.Statement.{statement}
-use Rattle.reader.proofs.take_amp.Tie as tie
+use Rattle.taking.proofs.take_amp.Statement.{statement}
+use Rattle.taking.proofs.take_amp.Tie as tie
 
 returns : tie.Need-returns
 unfolding ampCase

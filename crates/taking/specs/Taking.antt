@@ -1,10 +1,10 @@
--- One line more, in the reader's own state: the sizes so far and the tables. The laws of `proofs/Held` tie it to the lines.
+-- One line more, after the sizes and the tables of the lines so far. That these tests are the paper's, and these changes what the lines say, is proved of the
+-- reader (reader/proofs/Held).
 --   noBand b           == the band b is empty, so the latest monitor is no `bal`
 --   Allowed z          == sizes within the paper's limits
 --   onlyIf n a b       == a where the number n is 0, else b
 --   taken n o          == the outcome o where the number n is 0, else Bad n
 --   sizesOf z t        == the sizes after such a line, z being those before it
---   refusal n p        == the answer to a text that is refused
 --   givenAt gv m e     == 1 where an `amp` line of monitor m has given event e a step, or an `open` line hours, else 0
 --   withGiven gv z e   == the list gv with event e given in the latest monitor
 --   rigCase, ordCase, kindCase, goCase, stopCase, ampCase, openCase == the number of the first case that holds of such a line, 0 where none does
@@ -24,7 +24,7 @@ use lib.Dec.{ltb, leb, eqb}
 use Rattle.lists.specs.Lists.{pick, any}
 use Rattle.promises.specs.Text.{bal, statesOf, startOf}
 use Rattle.promises.specs.Reading.{outside, outsideℤ, outOfRange, equal, repeats}
-use Rattle.rig.specs.Record.{moveIndex, moveAt, stopIndex, stopAt, emptyRig}
+use Rattle.rig.specs.Record.{moveIndex, moveAt, stopIndex, stopAt}
 use Rattle.decoding.specs.declared.Form.{Form}
 use Rattle.decoding.specs.declared.Form.the-variants.{Rig, Ord, Begins, Continues, Other}
 use Rattle.decoding.specs.declared.Kind.{Kind}
@@ -32,11 +32,9 @@ use Rattle.decoding.specs.declared.Part.{Part}
 use Rattle.decoding.specs.declared.Part.the-variants.{Go, Stop, Amp, Open}
 use Rattle.kinds.specs.declared.Band.{Band}
 use Rattle.kinds.specs.Kinds.{asKind, InRange, monStates, bandOf, daySteps, withStep, kindMoves, kindStops, withHours}
-use Rattle.reader.specs.declared.Reading.{Reading}
-use Rattle.reader.specs.declared.Sizes.{Sizes}
-use Rattle.reader.specs.declared.Taken.{Taken}
-use Rattle.reader.specs.declared.Taken.the-variants.{Next, Same, Bad}
-use Rattle.reader.specs.declared.Verdict.the-variants.{Refused}
+use Rattle.taking.specs.declared.Sizes.{Sizes}
+use Rattle.taking.specs.declared.Taken.{Taken}
+use Rattle.taking.specs.declared.Taken.the-variants.{Next, Same, Bad}
 
 -- the latest monitor is no `bal`
 abbrev pub noBand : Band → Bool
@@ -63,9 +61,6 @@ abbrev pub sizesOf : Sizes → Taken → Sizes
 sizesOf z (Next y) = y
 sizesOf z Same = z
 sizesOf z (Bad n) = z
-
-abbrev pub refusal : ℕ → ℕ → Reading
-refusal n p = record { verdict = Refused n p; rig = emptyRig }
 
 -- ---- `rig`, E
 

@@ -6,11 +6,11 @@ use native.Mathlib.Omega.{arith}
 use lib.ListN.{length}
 use lib.Seq.{length-take-le}
 use borrow.Author.Tests.{eq-eqb, ne-eqb}
-use Rattle.reader.specs.Taking.{ordCase}
-use Rattle.reader.proofs.Listed.{front-bad, front-good}
+use Rattle.taking.specs.Taking.{ordCase}
+use Rattle.taking.proofs.Listed.{front-bad, front-good}
 use borrow.Author.Needs.{needs}
-use Rattle.reader.proofs.take_ord.Statement.{statement}
-use Rattle.reader.proofs.take_ord.Tie as tie
+use Rattle.taking.proofs.take_ord.Statement.{statement}
+use Rattle.taking.proofs.take_ord.Tie as tie
 
 returns : tie.Need-returns
 unfolding ordCase

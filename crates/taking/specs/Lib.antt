@@ -1,0 +1,2 @@
+-- What the contracts of this crate cite beside crates promises, rig and kinds.
+pub mod Taking
