@@ -7,17 +7,18 @@
 --   onEvent u a x b y z == on event u: x if it is a, y if it is b, else z
 --   rowAt r u          == where the row r moves on event u
 --   entryOf S t        == the state t of S states as an entry of the move table: 255 where it is no state
---   withRows mv m u w k d n == the move table mv with the moves of monitor m, of the kind k, from its first n states on w events from u on, each of the step d
---   withStep mv m k e d == with its moves on the event e, of the step d
---   kindMoves mv m E k == the move table mv with what the line says that begins monitor m of the kind k
+--   withRows mv m k n  == the move table mv with the moves of monitor m, of the kind k, from its first n states on all sixteen events
+--   kindMoves mv m k   == the move table mv with what the line says that begins monitor m of the kind k
 --   kindStops sp m k   == the marks sp likewise
+--   withColumn mv m e f n == the move table mv with the entries f 0, f 1, … f (n−1) of monitor m on event e from its first n states
+--   withStep mv m k e d == with its moves, of the kind k, on the event e, of the step d
 --   hourOf T a b first s x == the move from step s of a day of T steps, where it was x before, with hours from a up to b more, which are the first or not
---   withHours mv m T e a b first n == the move table mv with the moves of monitor m, a `day` of T steps, on event e from its first n steps, with these hours more
+--   withHours mv m T e a b first == with its moves, of a `day` of T steps, on the event e with these hours more
 -- A new Kind is one clause each of asKind, monStates, bandOf and daySteps; its automaton is that of promises/specs/Rig. Assumes nothing.
 use mathlib.Core.Path.{_≡_}
 use mathlib.Core.Bool.{Bool, false, _&&_}
 use mathlib.Core.List.{List, [], _∷_}
-use Prim.Native.Nat.{ℕ, zero, suc, _+_, _%_}
+use Prim.Native.Nat.{ℕ, zero, suc, _%_}
 use lib.IntN.{ℤ, pos}
 use lib.Dec.{leb, ltb, eqb}
 use Rattle.lists.specs.Lists.{pick, overwrite}
@@ -74,26 +75,29 @@ rowAt r u = onEvent u (r .a) (r .x) (r .b) (r .y) (r .z)
 abbrev pub entryOf : ℕ → ℕ → ℕ
 entryOf S t = pick (ltb t S) t 255
 
--- what stood there before, as the moves of another step, is written over
-unfoldable pub withRows : List ℕ → ℕ → ℕ → ℕ → text.Kind → ℤ → ℕ → List ℕ
-withRows mv m u w k d zero = mv
-withRows mv m u w k d (suc s) = overwrite (withRows mv m u w k d s) (λ i. moveIndex m s u + i) (λ i. entryOf (statesOf k) (nextOf k (amp (u + i) d ∷ []) s (u + i))) w
+unfoldable pub withRows : List ℕ → ℕ → text.Kind → ℕ → List ℕ
+withRows mv m k zero = mv
+withRows mv m k (suc s) = overwrite (withRows mv m k s) (moveIndex m s) (λ u. entryOf (statesOf k) (nextOf k [] s u)) 16
 
--- 'Each line is a monitor' (02 no. 5): its whole table, and 'an event without one has step 0' (02 no. 6). A `mon` line has no move yet, and no mark
-unfoldable pub kindMoves : List ℕ → ℕ → ℕ → text.Kind → List ℕ
-kindMoves mv m E k = pick (isMon k) mv (withRows mv m 0 E k (pos 0) (statesOf k))
-
--- '`amp`, e, d line gives event e a signed step d' (02 no. 6)
-abbrev pub withStep : List ℕ → ℕ → text.Kind → ℕ → ℤ → List ℕ
-withStep mv m k e d = withRows mv m e 1 k d (statesOf k)
+-- 'Each line is a monitor' (02 no. 5): its whole table. A `mon` line has no move yet, and no mark
+unfoldable pub kindMoves : List ℕ → ℕ → text.Kind → List ℕ
+kindMoves mv m k = pick (isMon k) mv (withRows mv m k (statesOf k))
 
 unfoldable pub kindStops : List ℕ → ℕ → text.Kind → List ℕ
 kindStops sp m k = pick (isMon k) sp (overwrite sp (stopIndex m) (λ s. pick (markedOf k [] s) 1 0) (statesOf k))
+
+-- what stood there before is written over
+abbrev pub withColumn : List ℕ → ℕ → ℕ → (ℕ → ℕ) → ℕ → List ℕ
+withColumn mv m e f n = overwrite mv (λ s. moveIndex m s e) f n
+
+-- '`amp`, e, d line gives event e a signed step d' (02 no. 6)
+abbrev pub withStep : List ℕ → ℕ → text.Kind → ℕ → ℤ → List ℕ
+withStep mv m k e d = withColumn mv m e (λ s. entryOf (statesOf k) (nextOf k (amp e d ∷ []) s e)) (statesOf k)
 
 -- 'Following `open`, e, a, b lines admit e at steps a up to but not including b'; 'Several lines add up, and an event with none is always admitted' (02 no. 7):
 -- so the first line closes the steps that are not in its hours
 abbrev pub hourOf : ℕ → ℕ → ℕ → Bool → ℕ → ℕ → ℕ
 hourOf T a b first s x = pick (leb a s && ltb s b) (suc s % T) (pick first 255 x)
 
-unfoldable pub withHours : List ℕ → ℕ → ℕ → ℕ → ℕ → ℕ → Bool → ℕ → List ℕ
-withHours mv m T e a b first n = overwrite mv (λ s. moveIndex m s e) (λ s. hourOf T a b first s (moveAt mv m s e)) n
+abbrev pub withHours : List ℕ → ℕ → ℕ → ℕ → ℕ → ℕ → Bool → List ℕ
+withHours mv m T e a b first = withColumn mv m e (λ s. hourOf T a b first s (moveAt mv m s e)) T

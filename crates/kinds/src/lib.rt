@@ -1,18 +1,18 @@
-// The kinds of monitor: what a line that begins one says, each function up to `mark` by the kind; then the tables of any kind, and the hours of a `day`.
+// The kinds of monitor: what a line that begins one says, each function up to `mark` by the kind; then the tables of any kind, and the moves on one event.
 use decoding::Kind;
 ghost use mathlib.Core.Path.{_≡_};
 ghost use mathlib.Core.Bool.{false, _&&_};
-ghost use mathlib.Core.List.{[], _∷_};
+ghost use mathlib.Core.List.{[]};
 ghost use Prim.Native.Nat.{ℕ, suc, _+_, _%_, _≤_, _<_};
 ghost use lib.IntN.{pos, negℤ};
 ghost use lib.ListN.{length};
 ghost use lib.Dec.{leb, ltb};
 ghost use Rattle.lists.specs.Lists.{pick, overwrite};
-ghost use Rattle.promises.specs.Text.{bal, amp, statesOf, startOf};
+ghost use Rattle.promises.specs.Text.{bal, statesOf, startOf};
 ghost use Rattle.promises.specs.Reading as promised;
 ghost use Rattle.promises.specs.Rig.{gapNext, replyNext, balNext, nextOf, markedOf};
 ghost use Rattle.rig.specs.Record.{stopIndex};
-ghost use Rattle.kinds.specs.Kinds.{asKind, InRange, monStates, bandOf, daySteps, onEvent, rowAt, entryOf, withRows, kindMoves, kindStops, hourOf, withHours};
+ghost use Rattle.kinds.specs.Kinds.{asKind, InRange, monStates, bandOf, daySteps, onEvent, rowAt, entryOf, withRows, kindMoves, kindStops, withStep, hourOf, withHours};
 
 // The band of a `bal`, from lo to hi; of any other kind the empty one, from 1 to 0.
 pub struct Band {
@@ -287,16 +287,16 @@ fn one_row(t: usize) -> Row
     }
 }
 
-// Its row in state s, where every event has the step d; a number that is no state where it does not admit the event. Only a `bal` has steps.
-fn row_in(k: Kind, d: i64, s: usize) -> Row
-    requires { ⌜ InRange (asKind k) × (promised.outsideℤ (negℤ (pos 15)) (pos 15) d ≡ false) × (s < statesOf (asKind k)) ⌝ }
-    ensures { λ r. ⌜ ((u : ℕ) → rowAt r u ≡ nextOf (asKind k) (amp u d ∷ []) s u) ⌝ }
+// Its row in state s, without further lines; a number that is no state where it does not admit the event.
+fn row_in(k: Kind, s: usize) -> Row
+    requires { ⌜ InRange (asKind k) × (s < statesOf (asKind k)) ⌝ }
+    ensures { λ r. ⌜ ((u : ℕ) → rowAt r u ≡ nextOf (asKind k) [] s u) ⌝ }
 {
     match k {
         Kind::Mon(n, _) => one_row(n),
         Kind::Gap(e, n) => gap_row(e, n, s),
         Kind::Reply(a, b, lo, hi) => reply_row(a, b, lo, hi, s),
-        Kind::Bal(lo, hi) => one_row(bal_next(lo, hi, d, s)),
+        Kind::Bal(lo, hi) => one_row(bal_next(lo, hi, 0, s)),
         Kind::Day(t) => one_row(day_next(t, s)),
     }
 }
@@ -337,31 +337,31 @@ fn on_event(v: u8, a: u8, x: u8, b: u8, y: u8, z: u8) -> u8
     z
 }
 
-// The moves of the row r, of a monitor with n states, on w events from u on, into the entries from `at` on.
-fn fill_row(moves: &mut [u8], at: usize, u: usize, w: usize, r: Row, n: usize)
-    requires { ⌜ (at + w ≤ length (now moves)) × (u + w ≤ 16) × (n ≤ 32) ⌝ }
-    ensures { λ _. ⌜ now (moves .exit) ≡ overwrite (now (moves .entry)) (λ i. at + i) (λ i. entryOf n (rowAt r (u + i))) w ⌝ }
+// The moves of the row r, of a monitor with n states, into the sixteen entries from `at` on, one for each event.
+fn fill_row(moves: &mut [u8], at: usize, r: Row, n: usize)
+    requires { ⌜ (at + 16 ≤ length (now moves)) × (n ≤ 32) ⌝ }
+    ensures { λ _. ⌜ now (moves .exit) ≡ overwrite (now (moves .entry)) (λ u. at + u) (λ u. entryOf n (rowAt r u)) 16 ⌝ }
 {
     let a = entry(16, r.a);
     let b = entry(16, r.b);
     let x = entry(n, r.x);
     let y = entry(n, r.y);
     let z = entry(n, r.z);
-    for i in 0..w {
-        moves[at + i] = on_event((u + i) as u8, a, x, b, y, z);
+    for u in 0..16 {
+        moves[at + u] = on_event(u as u8, a, x, b, y, z);
     }
 }
 
-// The moves of monitor m on w events from u on, each of the step d, from each of its states.
-pub fn fill_moves(moves: &mut [u8], m: usize, u: usize, w: usize, k: Kind, d: i64)
-    requires { ⌜ (length (now moves) ≡ 2048) × (m < 4) × (u + w ≤ 16) ⌝ }
-    requires { ⌜ InRange (asKind k) × (promised.outsideℤ (negℤ (pos 15)) (pos 15) d ≡ false) ⌝ }
-    ensures { λ _. ⌜ now (moves .exit) ≡ withRows (now (moves .entry)) m u w (asKind k) d (statesOf (asKind k)) ⌝ }
+// The moves of monitor m from each of its states.
+fn fill_moves(moves: &mut [u8], m: usize, k: Kind)
+    requires { ⌜ (length (now moves) ≡ 2048) × (m < 4) ⌝ }
+    requires { ⌜ InRange (asKind k) ⌝ }
+    ensures { λ _. ⌜ now (moves .exit) ≡ withRows (now (moves .entry)) m (asKind k) (statesOf (asKind k)) ⌝ }
 {
     let n = states(k);
     for s in 0..n {
-        let at = (m * 32 + s) * 16 + u;
-        fill_row(moves, at, u, w, row_in(k, d, s), n);
+        let at = (m * 32 + s) * 16;
+        fill_row(moves, at, row_in(k, s), n);
     }
 }
 
@@ -377,20 +377,33 @@ fn fill_marks(stops: &mut [u8], m: usize, k: Kind)
 }
 
 // Writes what the line says into the tables of monitor m: all moves and marks of its kind. A `mon` line leaves them as they are.
-pub fn fill_tables(moves: &mut [u8], stops: &mut [u8], m: usize, events: usize, k: Kind)
-    requires { ⌜ (length (now moves) ≡ 2048) × (length (now stops) ≡ 128) × (m < 4) × (events ≤ 16) ⌝ }
+pub fn fill_tables(moves: &mut [u8], stops: &mut [u8], m: usize, k: Kind)
+    requires { ⌜ (length (now moves) ≡ 2048) × (length (now stops) ≡ 128) × (m < 4) ⌝ }
     requires { ⌜ InRange (asKind k) ⌝ }
-    ensures { λ _. ⌜ now (moves .exit) ≡ kindMoves (now (moves .entry)) m events (asKind k) ⌝ }
+    ensures { λ _. ⌜ now (moves .exit) ≡ kindMoves (now (moves .entry)) m (asKind k) ⌝ }
     ensures { λ _. ⌜ now (stops .exit) ≡ kindStops (now (stops .entry)) m (asKind k) ⌝ }
 {
     if is_mon(k) {
         return;
     }
-    fill_moves(moves, m, 0, events, k, 0); // every step is 0
+    fill_moves(moves, m, k);
     fill_marks(stops, m, k);
 }
 
-// ---- the hours of an event
+// ---- the moves on one event
+
+// The moves of monitor m, a `bal` from lo to hi, on event e of the step d.
+pub fn fill_step(moves: &mut [u8], m: usize, lo: i64, hi: i64, e: usize, d: i64)
+    requires { ⌜ (length (now moves) ≡ 2048) × (m < 4) × (e < 16) ⌝ }
+    requires { ⌜ InRange (bal lo hi) × (promised.outsideℤ (negℤ (pos 15)) (pos 15) d ≡ false) ⌝ }
+    ensures { λ _. ⌜ now (moves .exit) ≡ withStep (now (moves .entry)) m (bal lo hi) e d ⌝ }
+{
+    let n = band_states(lo, hi);
+    for j in 0..n {
+        let at = (m * 32 + j) * 16 + e;
+        moves[at] = entry(n, bal_next(lo, hi, d, j));
+    }
+}
 
 // Whether step s is one of the hours from a up to but not including b.
 fn in_hours(a: usize, b: usize, s: usize) -> bool
@@ -417,7 +430,7 @@ fn hour(t: usize, a: usize, b: usize, first: bool, s: usize, before: u8) -> u8
 // The moves of monitor m, a `day` of t steps, on event e with one `open` line more: 'Several lines add up', and the first closes the steps not in its hours.
 pub fn fill_hours(moves: &mut [u8], m: usize, t: usize, e: usize, a: usize, b: usize, first: bool)
     requires { ⌜ (length (now moves) ≡ 2048) × (m < 4) × (e < 16) × (t ≤ 32) ⌝ }
-    ensures { λ _. ⌜ now (moves .exit) ≡ withHours (now (moves .entry)) m t e a b first t ⌝ }
+    ensures { λ _. ⌜ now (moves .exit) ≡ withHours (now (moves .entry)) m t e a b first ⌝ }
 {
     for s in 0..t {
         let at = (m * 32 + s) * 16 + e;

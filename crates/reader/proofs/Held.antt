@@ -36,7 +36,7 @@ use Rattle.rig.specs.Record.{moveIndex, moveAt, stopIndex, stopAt, lowerFirst}
 use Rattle.decoding.specs.Forms.{over, kindOf, formOf}
 use Rattle.decoding.proofs.Listed.{length-over, Leaves}
 use Rattle.kinds.specs.Kinds.{asKind, InRange, monStates, emptyBand, bandOf, daySteps, withStep, kindMoves, kindStops}
-use Rattle.kinds.proofs.Tables.{Blank, OfKind, length-rows, length-hours, length-moves, length-stops, moves-beside, stops-beside, fills}
+use Rattle.kinds.proofs.Tables.{Blank, OfKind, length-column, length-moves, length-stops, moves-beside, stops-beside, fills}
 use Rattle.taking.specs.declared.Sizes.{Sizes}
 use Rattle.reader.specs.Reading.{nobody, withPart, withLine, recordFrom}
 use Rattle.taking.specs.Taking.{Allowed, rigCase, rigSizes, ordCase, kindCase, goCase, goMoves, stopCase, stopStops, noBand, givenIndex, givenAt, withGiven, ampCase, ampMoves, openCase, openMoves, caseOf, sizesAfter, movesAfter, stopsAfter, givenAfter, countsAfter, startsAfter}
@@ -615,7 +615,7 @@ module _ (r : Rig) (ls : List Line) (z : Sizes) (mv sp gv ct st os : List ℕ) (
   -- a line that begins a monitor of the kind k
   holds-begins : (k : Kind) → kindCase z (kindOf k) ≡ 0
       → Holds r (ls ++ (begins k ∷ [])) (record { events = z .events; monitors = z .monitors + 1; latest = monStates (kindOf k); band = bandOf (kindOf k); day = daySteps (kindOf k); joint = z .joint * statesOf k })
-      (kindMoves mv (z .monitors) (z .events) k) (kindStops sp (z .monitors) k) gv (set ct (z .monitors) (statesOf k)) (set st (z .monitors) (startOf k)) os
+      (kindMoves mv (z .monitors) k) (kindStops sp (z .monitors) k) gv (set ct (z .monitors) (statesOf k)) (set st (z .monitors) (startOf k)) os
   unfolding withLine extended reordered
   holds-begins k q =
       let sound = case-sound ls (begins k) (sym (kind-case k) ∙ q) in
@@ -633,17 +633,17 @@ module _ (r : Rig) (ls : List Line) (z : Sizes) (mv sp gv ct st os : List ℕ) (
         band-is = rw ms (ap (λ m. bandOf (kindOf (m .kind))) (new-at (monitors ls) (fresh k) (z .monitors + 1 - 1) (omega (arith, H .monitors-are))));
         day-is = rw ms (ap (λ m. daySteps (kindOf (m .kind))) (new-at (monitors ls) (fresh k) (z .monitors + 1 - 1) (omega (arith, H .monitors-are))));
         given-are = rw ms (given-fresh k);
-        tabled = rw (ms, ← H .monitors-are) (one-more (monitors ls) (z .events) k mv sp (kindMoves mv (length (monitors ls)) (z .events) k) (kindStops sp (length (monitors ls)) k) ct st (H .wide) (H .wide-starts) few-z few ranged
+        tabled = rw (ms, ← H .monitors-are) (one-more (monitors ls) (z .events) k mv sp (kindMoves mv (length (monitors ls)) k) (kindStops sp (length (monitors ls)) k) ct st (H .wide) (H .wide-starts) few-z few ranged
             (λ i ne. record {
-              moves = λ x y hx hy. moves-beside mv sp (length (monitors ls)) (z .events) k few few-z fewS (H .long) (H .wide-stops) i x y ne hx hy;
-              stops = λ x hx. stops-beside mv sp (length (monitors ls)) (z .events) k few few-z fewS (H .long) (H .wide-stops) i x ne hx;
+              moves = λ x y hx hy. moves-beside mv sp (length (monitors ls)) k few fewS (H .long) (H .wide-stops) i x y ne hx hy;
+              stops = λ x hx. stops-beside mv sp (length (monitors ls)) k few fewS (H .long) (H .wide-stops) i x ne hx;
             })
-            (fills mv sp (length (monitors ls)) (z .events) k few few-z fewS (H .long) (H .wide-stops)) (H .tabled));
+            (fills mv sp (length (monitors ls)) k few fewS (H .long) (H .wide-stops) (z .events) few-z) (H .tabled));
         ordered = H .ordered ∙ sym (order-more ls (begins k));
         unordered = H .unordered;
         recorded = recorded-more (begins k);
-        long = length-moves mv sp (z .monitors) (z .events) k few-m few-z fewS (H .long) (H .wide-stops);
-        wide-stops = length-stops mv sp (z .monitors) (z .events) k few-m few-z fewS (H .long) (H .wide-stops);
+        long = length-moves mv sp (z .monitors) k few-m fewS (H .long) (H .wide-stops);
+        wide-stops = length-stops mv sp (z .monitors) k few-m fewS (H .long) (H .wide-stops);
         wide-given = H .wide-given;
         wide = length-set ct (z .monitors) (statesOf k) ∙ H .wide;
         wide-starts = length-set st (z .monitors) (startOf k) ∙ H .wide-starts;
@@ -736,7 +736,7 @@ module _ (r : Rig) (ls : List Line) (z : Sizes) (mv sp gv ct st os : List ℕ) (
       let k = last-bal p in
       let few : statesOf (bal lo hi) ≤ 32 = few-states (eventsOf ls) (bal lo hi) (last-band p) in
       let new : stepBy (last .parts) e ≡ none = not-some (stepBy (last .parts) e) (rw (latest-is-last there) at (given-again p e d o ∙ f)) in
-      holds-continues (amp e d) (ampMoves mv z e d) sp (withGiven gv z e) there (sym (amp-case e d) ∙ q) (length-rows mv (z .monitors - 1) e 1 (bal lo hi) d (omega (arith, few-z)) (statesOf (bal lo hi)) ∙ H .long) (H .wide-stops)
+      holds-continues (amp e d) (ampMoves mv z e d) sp (withGiven gv z e) there (sym (amp-case e d) ∙ q) (length-column mv (z .monitors - 1) e _ (statesOf (bal lo hi)) ∙ H .long) (H .wide-stops)
       (length-set gv (givenIndex (z .monitors - 1) e) 1 ∙ H .wide-given)
       (rw k)
       (one-part (amp e d) (monitors ls) (z .events) (z .monitors - 1) mv sp (withStep mv (z .monitors - 1) (bal lo hi) e d) sp ct st (last-at there) few-z ranged
@@ -761,7 +761,7 @@ module _ (r : Rig) (ls : List Line) (z : Sizes) (mv sp gv ct st os : List ℕ) (
       let first = first-hours p e he in
       let k = last-day p in
       holds-continues (opens e a b) (openMoves mv gv z e a b) sp (withGiven gv z e) there (sym (open-case e a b) ∙ q)
-      (length-hours mv (z .monitors - 1) (z .day) e a b (eqb (givenAt gv (z .monitors - 1) e) 0) (z .day) ∙ H .long) (H .wide-stops)
+      (length-column mv (z .monitors - 1) e _ (z .day) ∙ H .long) (H .wide-stops)
       (length-set gv (givenIndex (z .monitors - 1) e) 1 ∙ H .wide-given)
       (rw (last-steps p, first))
       (one-part (opens e a b) (monitors ls) (z .events) (z .monitors - 1) mv sp (openMoves mv gv z e a b) sp ct st (last-at there) few-z ranged

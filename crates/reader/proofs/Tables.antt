@@ -24,7 +24,7 @@ use Rattle.promises.specs.Rig.{balNext, dayNext, admittedAt, nextOf, markedOf}
 use Rattle.promises.proofs.Day.{tells-has, tells-in}
 use Rattle.rig.specs.Record.{moveIndex, moveAt, stopIndex, stopAt}
 use Rattle.kinds.specs.Kinds.{entryOf, withStep, hourOf, withHours}
-use Rattle.kinds.proofs.Tables.{Blank, OfKind, rows-beside, rows-at, hours-beside, hours-at}
+use Rattle.kinds.proofs.Tables.{Blank, OfKind, own-step, column-beside, column-at}
 
 -- ---- the other monitors
 
@@ -50,10 +50,10 @@ pub stop-beside : (mv sp : List ℕ) (k m s : ℕ) → (k ≡ m → ⊥) → s <
 stop-beside mv sp k m s ne hs = record { moves = λ x y hx hy. refl; stops = λ x hx. getD-set-other sp (stopIndex m s) (stopIndex k x) 1 0 (λ q. ne (omega arith)) }
 
 pub amp-beside : (mv sp : List ℕ) (i m e : ℕ) (k : Kind) (d : ℤ) → (i ≡ m → ⊥) → statesOf k ≤ 32 → e < 16 → Same mv sp (withStep mv m k e d) sp i
-amp-beside mv sp i m e k d ne few he = record { moves = λ x y hx hy. rows-beside mv m e 1 k d (omega arith) (statesOf k) i x y few hx hy (λ q. absurd (ne q)); stops = λ x hx. refl }
+amp-beside mv sp i m e k d ne few he = record { moves = λ x y hx hy. column-beside mv m e _ (statesOf k) i x y few he hx hy (λ q. absurd (ne q)); stops = λ x hx. refl }
 
-pub open-beside : (mv sp : List ℕ) (i m T e a b : ℕ) (first : Bool) → (i ≡ m → ⊥) → T ≤ 32 → e < 16 → Same mv sp (withHours mv m T e a b first T) sp i
-open-beside mv sp i m T e a b first ne few he = record { moves = λ x y hx hy. hours-beside mv m T e a b first T i x y few he hx hy (λ q. absurd (ne q)); stops = λ x hx. refl }
+pub open-beside : (mv sp : List ℕ) (i m T e a b : ℕ) (first : Bool) → (i ≡ m → ⊥) → T ≤ 32 → e < 16 → Same mv sp (withHours mv m T e a b first) sp i
+open-beside mv sp i m T e a b first ne few he = record { moves = λ x y hx hy. column-beside mv m e _ T i x y few he hx hy (λ q. absurd (ne q)); stops = λ x hx. refl }
 
 -- ---- a `mon`
 
@@ -152,10 +152,6 @@ module _ (mv sp : List ℕ) (k E : ℕ) (lo hi : ℤ) (ps : List Part) (T : OfKi
   unfolding stepOf stepIn orElse
   step-here = rw (first-snoc (stepIn e) ps (amp e d), new, eq-eqb e e refl)
 
-  step-alone : stepOf (amp e d ∷ []) e ≡ d
-  unfolding stepOf firstOf stepIn orElse
-  step-alone = rw (eq-eqb e e refl)
-
   step-elsewhere : (u : ℕ) → eqb e u ≡ false → stepOf (ps ++ (amp e d ∷ [])) u ≡ stepOf ps u
   unfolding stepOf stepIn
   step-elsewhere u q = rw (first-snoc (stepIn u) ps (amp e d), q) (ap (λ o. Option·getD o (pos 0)) (or-none (stepBy ps u)))
@@ -168,13 +164,11 @@ module _ (mv sp : List ℕ) (k E : ℕ) (lo hi : ℤ) (ps : List Part) (T : OfKi
   with-amp = record { moves = λ x y hx hy. case (eqb e y) (λ q. here x y hx (eqb-true e y q)) (λ q. elsewhere x y hx hy q); marks = T .marks }
     where
       here : (x y : ℕ) → x < statesOf (bal lo hi) → e ≡ y → moveAt (withStep mv k (bal lo hi) e d) k x y ≡ entry x (stepOf (ps ++ (amp e d ∷ [])) y)
-      here x y hx q =
-          let at : e + 0 ≡ e = omega arith in
-          rw (← q, step-here) (unfold nextOf in rw (at, step-alone) at (rows-at mv k e 1 (bal lo hi) d (omega arith) (statesOf (bal lo hi)) x 0 few hk long hx (omega arith)))
+      here x y hx q = rw (← q, step-here) (column-at mv k e _ (statesOf (bal lo hi)) x few hk (omega arith) long hx ∙ ap (entryOf (statesOf (bal lo hi))) (own-step lo hi d e x))
 
       elsewhere : (x y : ℕ) → x < statesOf (bal lo hi) → y < E → eqb e y ≡ false → moveAt (withStep mv k (bal lo hi) e d) k x y ≡ entry x (stepOf (ps ++ (amp e d ∷ [])) y)
       elsewhere x y hx hy q =
-          rows-beside mv k e 1 (bal lo hi) d (omega arith) (statesOf (bal lo hi)) k x y few (omega arith) (omega arith) (λ p l a b. eqb-false e y q (omega arith))
+          column-beside mv k e _ (statesOf (bal lo hi)) k x y few (omega arith) (omega arith) (omega arith) (λ p l r. eqb-false e y q (sym r))
           ∙ (unfold nextOf in T .moves x y hx hy) ∙ ap (entry x) (sym (step-elsewhere y q))
 
 -- ---- a `day`
@@ -185,7 +179,7 @@ module _ (mv sp : List ℕ) (k E T : ℕ) (ps : List Part) (D : OfKind mv sp k E
   more = ps ++ (opens e a b ∷ [])
 
   abbrev table : List ℕ
-  table = withHours mv k T e a b (not (hasHours ps e)) T
+  table = withHours mv k T e a b (not (hasHours ps e))
 
   -- the entry of a step from which the event is admitted or not
   entry-of : (x : ℕ) (admitted : Bool) → x < T → entryOf T (dayNext T admitted x) ≡ pick admitted (suc x % T) 255
@@ -226,9 +220,9 @@ module _ (mv sp : List ℕ) (k E T : ℕ) (ps : List Part) (D : OfKind mv sp k E
   with-open = record { moves = λ x y hx hy. case (eqb e y) (λ q. at x y hx (eqb-true e y q)) (λ q. beside x y hx hy q) ∙ sym (entry-of x (admittedAt more y x) hx); marks = D .marks }
     where
       at : (x y : ℕ) → x < T → e ≡ y → moveAt table k x y ≡ pick (admittedAt more y x) (suc x % T) 255
-      at x y hx q = rw (← q) (hours-at mv k T e a b (not (hasHours ps e)) T x few hk (omega arith) long hx ∙ entry-here x hx)
+      at x y hx q = rw (← q) (column-at mv k e _ T x few hk (omega arith) long hx ∙ entry-here x hx)
 
       beside : (x y : ℕ) → x < T → y < E → eqb e y ≡ false → moveAt table k x y ≡ pick (admittedAt more y x) (suc x % T) 255
       beside x y hx hy q =
-          hours-beside mv k T e a b (not (hasHours ps e)) T k x y few (omega arith) (omega arith) (omega arith) (λ p l r. eqb-false e y q (sym r))
+          column-beside mv k e _ T k x y few (omega arith) (omega arith) (omega arith) (λ p l r. eqb-false e y q (sym r))
           ∙ table-is x y hx hy ∙ ap (λ c. pick c (suc x % T) 255) (sym (admitted-elsewhere x y q))

@@ -41,7 +41,7 @@ withPart r m (go s e t) = record { moves = set (r .moves) (moveIndex (r .monitor
 withPart r m (stop s) = record { moves = r .moves; stops = set (r .stops) (stopIndex (r .monitors - 1) s) 1; counts = r .counts; starts = r .starts; order = r .order; monitors = r .monitors; events = r .events }
 withPart r m (amp e d) = record { moves = withStep (r .moves) (r .monitors - 1) (m .kind) e d; stops = r .stops; counts = r .counts; starts = r .starts; order = r .order; monitors = r .monitors; events = r .events }
 withPart r m (opens e a b) = record {
-  moves = withHours (r .moves) (r .monitors - 1) (statesOf (m .kind)) e a b (not (hasHours (m .parts) e)) (statesOf (m .kind));
+  moves = withHours (r .moves) (r .monitors - 1) (statesOf (m .kind)) e a b (not (hasHours (m .parts) e));
   stops = r .stops;
   counts = r .counts;
   starts = r .starts;
@@ -55,7 +55,7 @@ unfoldable pub withLine : Rig → List Line → Line → Rig
 withLine r front (rig E) = record { moves = r .moves; stops = r .stops; counts = r .counts; starts = r .starts; order = r .order; monitors = r .monitors; events = E }
 withLine r front (ord es) = record { moves = r .moves; stops = r .stops; counts = r .counts; starts = r .starts; order = es ++ drop (length es) (r .order); monitors = r .monitors; events = r .events }
 withLine r front (begins k) = record {
-  moves = kindMoves (r .moves) (r .monitors) (r .events) k;
+  moves = kindMoves (r .moves) (r .monitors) k;
   stops = kindStops (r .stops) (r .monitors) k;
   counts = set (r .counts) (r .monitors) (statesOf k);
   starts = set (r .starts) (r .monitors) (startOf k);

@@ -148,7 +148,7 @@ unfoldable pub openCase : Sizes → ℕ → ℕ → ℕ → ℕ
 openCase z e a b = pick (eqb (z .day) 0) 5 (pick (leb (z .events) e || ltb (z .day) b) 3 (pick (leb b a) 18 0))
 
 abbrev pub openMoves : List ℕ → List ℕ → Sizes → ℕ → ℕ → ℕ → List ℕ
-openMoves mv gv z e a b = withHours mv (z .monitors - 1) (z .day) e a b (eqb (givenAt gv (z .monitors - 1) e) 0) (z .day)
+openMoves mv gv z e a b = withHours mv (z .monitors - 1) (z .day) e a b (eqb (givenAt gv (z .monitors - 1) e) 0)
 
 -- ---- any line
 
@@ -196,7 +196,7 @@ sizesAfter z f = sizesOf z (outcome z f)
 abbrev pub movesAfter : List ℕ → List ℕ → Sizes → Form → List ℕ
 movesAfter mv gv z (Rig e) = mv
 movesAfter mv gv z (Ord n) = mv
-movesAfter mv gv z (Begins k) = kindMoves mv (z .monitors) (z .events) (asKind k)
+movesAfter mv gv z (Begins k) = kindMoves mv (z .monitors) (asKind k)
 movesAfter mv gv z (Continues p) = partMoves mv gv z p
 movesAfter mv gv z Other = mv
 

@@ -98,7 +98,7 @@ fn take_kind(
 ) -> Taken
     requires { ⌜ (length (now moves) ≡ 2048) × (length (now stops) ≡ 128) × (length (now counts) ≡ 4) × (length (now starts) ≡ 4) × Allowed z ⌝ }
     ensures { λ r. ⌜ r ≡ taken (kindCase z k) (Next (kindSizes z k)) ⌝ }
-    ensures { λ _. ⌜ now (moves .exit) ≡ onlyIf (kindCase z k) (kindMoves (now (moves .entry)) (z .monitors) (z .events) (asKind k)) (now (moves .entry)) ⌝ }
+    ensures { λ _. ⌜ now (moves .exit) ≡ onlyIf (kindCase z k) (kindMoves (now (moves .entry)) (z .monitors) (asKind k)) (now (moves .entry)) ⌝ }
     ensures { λ _. ⌜ now (stops .exit) ≡ onlyIf (kindCase z k) (kindStops (now (stops .entry)) (z .monitors) (asKind k)) (now (stops .entry)) ⌝ }
     ensures { λ _. ⌜ now (counts .exit) ≡ onlyIf (kindCase z k) (kindCounts (now (counts .entry)) z k) (now (counts .entry)) ⌝ }
     ensures { λ _. ⌜ now (starts .exit) ≡ onlyIf (kindCase z k) (kindStarts (now (starts .entry)) z k) (now (starts .entry)) ⌝ }
@@ -121,7 +121,7 @@ fn take_kind(
         return Taken::Bad(6); // P over 1,024
     }
     let m = z.monitors;
-    kinds::fill_tables(moves, stops, m, z.events, k);
+    kinds::fill_tables(moves, stops, m, k);
     counts[m] = n as u8;
     starts[m] = kinds::start(k) as u8;
     Taken::Next(Sizes {
@@ -204,7 +204,7 @@ fn take_amp(moves: &mut [u8], given: &mut [u8], z: Sizes, e: usize, d: i64) -> T
         return Taken::Bad(4); // given twice
     }
     given[at] = 1;
-    kinds::fill_moves(moves, m, e, 1, Kind::Bal(band.lo, band.hi), d);
+    kinds::fill_step(moves, m, band.lo, band.hi, e, d);
     Taken::Same
 }
 

@@ -7,20 +7,21 @@ use native.Mathlib.Omega.{arith}
 use lib.ListN.{length, set, length-set}
 use Rattle.rig.specs.Record.{moveIndex, moveAt}
 use Rattle.lists.specs.Lists.{overwrite}
-use Rattle.kinds.specs.Kinds.{hourOf, withHours}
-use Rattle.kinds.proofs.Tables.{hours-more, hours-beside}
+use Rattle.lists.proofs.Tables.{overwrite-more}
+use Rattle.kinds.specs.Kinds.{withColumn, hourOf}
+use Rattle.kinds.proofs.Tables.{column-beside}
 use borrow.Author.Needs.{needs}
 use Rattle.kinds.proofs.fill_hours.Statement.{statement}
 use Rattle.kinds.proofs.fill_hours.Tie as tie
 
 abbrev Inv-loop : tie.InvT-loop
-Inv-loop moves₀ m t e a b first s₀ moves s = (s ≤ t) × (length moves ≡ length moves₀) × (moves ≡ withHours moves₀ m t e a b first s)
+Inv-loop moves₀ m t e a b first s₀ moves s = (s ≤ t) × (length moves ≡ length moves₀) × (moves ≡ withColumn moves₀ m e (λ s. hourOf t a b first s (moveAt moves₀ m s e)) s)
 
 abbrev μ-loop : tie.MeasureT-loop
 μ-loop moves₀ m t e a b first s₀ moves s = t - s
 
 loop-holds : tie.Need-loop-holds Inv-loop μ-loop
-unfolding withHours overwrite
+unfolding overwrite
 loop-holds c = (omega arith, refl, refl)
 
 mul-at : tie.Need-mul-at Inv-loop μ-loop
@@ -55,15 +56,16 @@ loop-again c =
     let st = c .before .before .before .before .before in
     let lp = c .before .before .before .loop in
     let x = st .args in
+    let f : ℕ → ℕ = λ s. hourOf (x .t) (x .a) (x .b) (x .first) s (moveAt (x .moves .now) (x .m) s (x .e)) in
     let l : lp .s < 32 = omega (arith, st .pre .3) in
     let old : moveAt (lp .moves) (x .m) (lp .s) (x .e) ≡ moveAt (x .moves .now) (x .m) (lp .s) (x .e) =
     ap (λ (v : List ℕ). moveAt v (x .m) (lp .s) (x .e)) (lp .inv .2)
-    ∙ hours-beside (x .moves .now) (x .m) (x .t) (x .e) (x .a) (x .b) (x .first) (lp .s) (x .m) (lp .s) (x .e) (omega arith) (st .pre .2) l (st .pre .2) (λ p q r. omega arith)
+    ∙ column-beside (x .moves .now) (x .m) (x .e) f (lp .s) (x .m) (lp .s) (x .e) (omega arith) (st .pre .2) l (st .pre .2) (λ p q r. omega arith)
     in (
       omega arith,
       simp length-set (lp .inv .1),
       ap (λ (v : List ℕ). set v (moveIndex (x .m) (lp .s) (x .e)) (c .hour .result)) (lp .inv .2)
-          ∙ hours-more (x .moves .now) (x .m) (x .t) (x .e) (x .a) (x .b) (x .first) (lp .s) (c .hour .result) (c .hour .ensures ∙ ap (hourOf (x .t) (x .a) (x .b) (x .first) (lp .s)) old),
+          ∙ overwrite-more (x .moves .now) (λ s. moveIndex (x .m) s (x .e)) f (lp .s) (c .hour .result) (c .hour .ensures ∙ ap (hourOf (x .t) (x .a) (x .b) (x .first) (lp .s)) old),
     )
 
 same-length : tie.Need-same-length Inv-loop μ-loop
@@ -74,7 +76,7 @@ returns c =
     let x = c .before .before .before .args in
     let lp = c .before .loop in
     let e : lp .s ≡ x .t = omega arith in
-    lp .inv .2 ∙ ap (withHours (x .moves .now) (x .m) (x .t) (x .e) (x .a) (x .b) (x .first)) e
+    lp .inv .2 ∙ ap (withColumn (x .moves .now) (x .m) (x .e) (λ s. hourOf (x .t) (x .a) (x .b) (x .first) s (moveAt (x .moves .now) (x .m) s (x .e)))) e
 
 pub fill-hours-spec : {M : Type 1} → statement M
 fill-hours-spec =

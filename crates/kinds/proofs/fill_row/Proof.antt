@@ -14,10 +14,10 @@ use Rattle.kinds.proofs.fill_row.Statement.{statement}
 use Rattle.kinds.proofs.fill_row.Tie as tie
 
 abbrev Inv-loop : tie.InvT-loop
-Inv-loop moves₀ at u w n a b x y z i₀ moves i = (i ≤ w) × (length moves ≡ length moves₀) × (moves ≡ overwrite moves₀ (λ i. at + i) (λ i. onEvent (u + i) a x b y z) i)
+Inv-loop moves₀ at n a b x y z u₀ moves u = (u ≤ 16) × (length moves ≡ length moves₀) × (moves ≡ overwrite moves₀ (λ u. at + u) (λ u. onEvent u a x b y z) u)
 
 abbrev μ-loop : tie.MeasureT-loop
-μ-loop moves₀ at u w n a b x y z i₀ moves i = w - i
+μ-loop moves₀ at n a b x y z u₀ moves u = 16 - u
 
 entry-requires : tie.Need-entry-requires Inv-loop μ-loop
 entry-requires c κs = search needs
@@ -38,9 +38,6 @@ loop-holds : tie.Need-loop-holds Inv-loop μ-loop
 unfolding overwrite
 loop-holds c = (omega arith, refl, refl)
 
-add-on-event : tie.Need-add-on-event Inv-loop μ-loop
-add-on-event c = search needs
-
 cast-on-event : tie.Need-cast-on-event Inv-loop μ-loop
 cast-on-event c = search needs
 
@@ -53,8 +50,8 @@ add-moves c = search needs
 slice-write-moves : tie.Need-slice-write-moves Inv-loop μ-loop
 slice-write-moves c = search needs
 
-add-i : tie.Need-add-i Inv-loop μ-loop
-add-i c = search needs
+add-u : tie.Need-add-u Inv-loop μ-loop
+add-u c = search needs
 
 loop-less : tie.Need-loop-less Inv-loop μ-loop
 loop-less c = search needs
@@ -65,8 +62,8 @@ loop-again c =
     let lp = c .before .before .loop in (
       omega arith,
       simp length-set (lp .inv .1),
-      ap (λ (l : List ℕ). set l (g .at + lp .i) (c .on-event .result)) (lp .inv .2)
-          ∙ overwrite-more (g .moves .now) (λ i. g .at + i) (λ i. onEvent (g .u + i) (c .before .before .before .before .before .before .before .entry .result) (c .before .before .before .before .before .entry3 .result) (c .before .before .before .before .before .before .entry2 .result) (c .before .before .before .before .entry4 .result) (c .before .before .before .entry5 .result)) (lp .i) (c .on-event .result) (c .on-event .ensures),
+      ap (λ (l : List ℕ). set l (g .at + lp .u) (c .on-event .result)) (lp .inv .2)
+          ∙ overwrite-more (g .moves .now) (λ u. g .at + u) (λ u. onEvent u (c .before .before .before .before .before .before .before .entry .result) (c .before .before .before .before .before .entry3 .result) (c .before .before .before .before .before .before .entry2 .result) (c .before .before .before .before .entry4 .result) (c .before .before .before .entry5 .result)) (lp .u) (c .on-event .result) (c .on-event .ensures),
     )
 
 same-length : tie.Need-same-length Inv-loop μ-loop
@@ -82,10 +79,10 @@ returns c =
     let x = c .before .before .before .before .entry3 .ensures in
     let y = c .before .before .before .entry4 .ensures in
     let z = c .before .before .entry5 .ensures in
-    let e : lp .i ≡ g .w = omega arith in
+    let e : lp .u ≡ 16 = omega arith in
     lp .inv .2
-    ∙ overwrite-cong (g .moves .now) (λ i. g .at + i) _ (λ i. entryOf (g .n) (rowAt (g .r) (g .u + i))) (lp .i) (λ i l. entry-row (g .n) (g .r) (g .u + i) _ _ _ _ _ (omega (arith, st .pre .1)) a b x y z)
-    ∙ ap (overwrite (g .moves .now) (λ i. g .at + i) (λ i. entryOf (g .n) (rowAt (g .r) (g .u + i)))) e
+    ∙ overwrite-cong (g .moves .now) (λ u. g .at + u) _ (λ u. entryOf (g .n) (rowAt (g .r) u)) (lp .u) (λ u l. entry-row (g .n) (g .r) u _ _ _ _ _ (omega arith) a b x y z)
+    ∙ ap (overwrite (g .moves .now) (λ u. g .at + u) (λ u. entryOf (g .n) (rowAt (g .r) u))) e
 
 pub fill-row-spec : {M : Type 1} → statement M
 fill-row-spec =
@@ -99,12 +96,11 @@ fill-row-spec =
     entry-requires-4
     entry-requires-5
     loop-holds
-    add-on-event
     cast-on-event
     on-event-requires
     add-moves
     slice-write-moves
-    add-i
+    add-u
     loop-less
     loop-again
     same-length

@@ -1,17 +1,13 @@
 -- By the kind.
 -- Assumes nothing.
 use mathlib.Core.Path.{_≡_, refl, subst, _∙_}
-use mathlib.Core.Option.{orElse}
 use Prim.Native.Nat.{_+_, _≤_}
 use native.Mathlib.Omega.{arith}
 use mir.Syntax.{w64}
 use mir.Val.{toZ, ofZ}
-use mir.ValLaws.{toZ-ofZ}
-use borrow.Author.Tests.{eq-eqb}
 use Rattle.lists.specs.Lists.{firstOf}
 use Rattle.promises.specs.Text.{statesOf}
-use Rattle.promises.specs.Meaning.{stepIn, stepOf}
-use Rattle.promises.specs.Reading.{leadsTo, opensBy}
+use Rattle.promises.specs.Meaning.{stepOf}
 use Rattle.promises.specs.Rig.{dayNext, nextOf}
 use Rattle.kinds.specs.Kinds.{asKind, InRange}
 use Rattle.kinds.proofs.Bands.{few, some-state}
@@ -40,7 +36,7 @@ reply-row-requires c κs =
     let k = c .before .k3 .given in
     let f = few (asKind (st .args .k)) (st .pre .0) in
     let h : k .0 .1 .1 .1 .0 + 1 ≤ 32 = unfold statesOf in rw (k .1) at f in
-    (omega arith, omega (arith, f, st .pre .2))
+    (omega arith, omega (arith, f, st .pre .1))
 
 enum-known-k-4 : tie.Need-enum-known-k-4
 enum-known-k-4 c = search needs
@@ -51,7 +47,7 @@ bal-next-requires c κs =
     let k = c .before .k4 .given in
     let lo : toZ w64 (ofZ w64 (k .0 .0)) ≡ k .0 .0 = search needs in
     let hi : toZ w64 (ofZ w64 (k .0 .1 .0)) ≡ k .0 .1 .0 = search needs in
-    rw (lo, hi, toZ-ofZ w64 (st .args .d) (st .fits .d)) (subst (λ k. InRange (asKind k)) (k .1) (st .pre .0), st .pre .1, omega (arith, few (asKind (st .args .k)) (st .pre .0), st .pre .2))
+    rw (lo, hi) (subst (λ k. InRange (asKind k)) (k .1) (st .pre .0), refl, omega (arith, few (asKind (st .args .k)) (st .pre .0), st .pre .1))
 
 one-row-requires-2 : tie.Need-one-row-requires-2
 one-row-requires-2 c κs = search needs
@@ -63,13 +59,13 @@ day-next-requires : tie.Need-day-next-requires
 day-next-requires c κs =
     let st = c .before .before .before in
     let k = c .before .k5 .given in
-    unfold statesOf in (rw (k .1) at (st .pre .2), rw (k .1) at (few (asKind (st .args .k)) (st .pre .0)))
+    unfold statesOf in (rw (k .1) at (st .pre .1), rw (k .1) at (few (asKind (st .args .k)) (st .pre .0)))
 
 one-row-requires-3 : tie.Need-one-row-requires-3
 one-row-requires-3 c κs = search needs
 
 returns : tie.Need-returns
-unfolding nextOf firstOf leadsTo orElse
+unfolding nextOf firstOf
 returns c = λ u. rw (c .before .before .k .given .1) (c .one-row .ensures u)
 
 returns-2 : tie.Need-returns-2
@@ -81,17 +77,16 @@ unfolding nextOf
 returns-3 c = λ u. rw (c .before .before .k3 .given .1) (c .reply-row .ensures u)
 
 returns-4 : tie.Need-returns-4
-unfolding nextOf stepOf firstOf stepIn orElse
+unfolding nextOf stepOf firstOf
 returns-4 c =
-    let st = c .before .before .before .before .before in
     let k = c .before .before .before .k4 .given in
     let lo : toZ w64 (ofZ w64 (k .0 .0)) ≡ k .0 .0 = search needs in
     let hi : toZ w64 (ofZ w64 (k .0 .1 .0)) ≡ k .0 .1 .0 = search needs in
     let q = c .before .bal-next .ensures in
-    λ u. rw (k .1, eq-eqb u u refl) (c .one-row2 .ensures u ∙ (rw (lo, hi, toZ-ofZ w64 (st .args .d) (st .fits .d)) at q))
+    λ u. rw (k .1) (c .one-row2 .ensures u ∙ (rw (lo, hi) at q))
 
 returns-5 : tie.Need-returns-5
-unfolding nextOf opensBy dayNext
+unfolding nextOf dayNext
 returns-5 c = λ u. rw (c .before .before .before .k5 .given .1) (c .one-row3 .ensures u ∙ c .before .day-next .ensures)
 
 pub row-in-spec : {M : Type 1} → statement M

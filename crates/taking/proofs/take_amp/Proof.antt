@@ -81,15 +81,15 @@ returns-4 c =
 slice-write-given : tie.Need-slice-write-given
 slice-write-given c = search needs
 
-fill-moves-requires : tie.Need-fill-moves-requires
-fill-moves-requires c κs =
-    let st = c .before .before .before .before .before .before .before .before .before .before .before .before .before .before .before in
+fill-step-requires : tie.Need-fill-step-requires
+fill-step-requires c κs =
+    let st = c .before .before .before .before .before .before .before .before .before .before .before .before .before .before .before .before in
     let lo : toZ w64 (ofZ w64 (st .args .z .band .lo)) ≡ st .args .z .band .lo = search needs in
     let hi : toZ w64 (ofZ w64 (st .args .z .band .hi)) ≡ st .args .z .band .hi = search needs in
-    let b : noBand (st .args .z .band) ≡ false = rw (lo, hi) at (c .before .before .before .before .before .before .before .before .before .if1 .left) in
+    let b : noBand (st .args .z .band) ≡ false = rw (lo, hi) at (c .before .before .before .before .before .before .before .before .before .before .if1 .left) in
     let d = toZ-ofZ w64 (st .args .d) (st .fits .d) in
-    let o : outsideℤ (negℤ (pos 15)) (pos 15) (st .args .d) ≡ false = rw d at (sym (c .before .before .before .before .before .before .outside-signed .ensures) ∙ c .before .before .before .before .before .if3 .left) in
-    rw (lo, hi, d) ((st .pre .0, omega (arith, st .pre .2 .few-monitors, st .pre .2 .some-band b), omega (arith, st .pre .2 .few-events, c .before .before .before .before .before .before .before .if2 .left)), (st .pre .2 .in-band b, o))
+    let o : outsideℤ (negℤ (pos 15)) (pos 15) (st .args .d) ≡ false = rw d at (sym (c .before .before .before .before .before .before .before .outside-signed .ensures) ∙ c .before .before .before .before .before .before .if3 .left) in
+    rw (lo, hi, d) ((st .pre .0, omega (arith, st .pre .2 .few-monitors, st .pre .2 .some-band b), omega (arith, st .pre .2 .few-events, c .before .before .before .before .before .before .before .before .if2 .left)), (st .pre .2 .in-band b, o))
 
 same-length : tie.Need-same-length
 same-length c = search needs
@@ -100,15 +100,15 @@ same-length-2 c = search needs
 returns-5 : tie.Need-returns-5
 unfolding ampCase
 returns-5 c =
-    let st = c .before .before .before .before .before .before .before .before .before .before .before .before .before .before .before .before .before .before in
+    let st = c .before .before .before .before .before .before .before .before .before .before .before .before .before .before .before .before .before .before .before in
     let lo : toZ w64 (ofZ w64 (st .args .z .band .lo)) ≡ st .args .z .band .lo = search needs in
     let hi : toZ w64 (ofZ w64 (st .args .z .band .hi)) ≡ st .args .z .band .hi = search needs in
-    let b : noBand (st .args .z .band) ≡ false = rw (lo, hi) at (c .before .before .before .before .before .before .before .before .before .before .before .before .if1 .left) in
+    let b : noBand (st .args .z .band) ≡ false = rw (lo, hi) at (c .before .before .before .before .before .before .before .before .before .before .before .before .before .if1 .left) in
     let d = toZ-ofZ w64 (st .args .d) (st .fits .d) in
-    let o : outsideℤ (negℤ (pos 15)) (pos 15) (st .args .d) ≡ false = rw d at (sym (c .before .before .before .before .before .before .before .before .before .outside-signed .ensures) ∙ c .before .before .before .before .before .before .before .before .if3 .left) in
-    let e = lt-leb _ _ (c .before .before .before .before .before .before .before .before .before .before .if2 .left) in
-    let g = eq-eqb _ _ (c .before .before .before .before .before .if4 .left) in
-    let f = c .before .before .fill-moves .ensures in
+    let o : outsideℤ (negℤ (pos 15)) (pos 15) (st .args .d) ≡ false = rw d at (sym (c .before .before .before .before .before .before .before .before .before .before .outside-signed .ensures) ∙ c .before .before .before .before .before .before .before .before .before .if3 .left) in
+    let e = lt-leb _ _ (c .before .before .before .before .before .before .before .before .before .before .before .if2 .left) in
+    let g = eq-eqb _ _ (c .before .before .before .before .before .before .if4 .left) in
+    let f = c .before .before .fill-step .ensures in
     (rw (b, e, o, g), (rw (b, e, o, g) (rw (lo, hi, d) at f), rw (b, e, o, g)))
 
 pub take-amp-spec : {M : Type 1} → statement M
@@ -125,7 +125,7 @@ take-amp-spec =
     slice-read-if4
     returns-4
     slice-write-given
-    fill-moves-requires
+    fill-step-requires
     same-length
     same-length-2
     returns-5)

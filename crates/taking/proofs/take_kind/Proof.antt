@@ -63,7 +63,7 @@ returns-5 c =
     (rw q, (rw q, (rw q, (rw q, rw q))))
 
 fill-tables-requires : tie.Need-fill-tables-requires
-fill-tables-requires c κs = let st = c .before .before .before .before .before .before .before .before .before .before .before .before .before .before .before .before .before in ((st .pre .0, st .pre .1, c .before .before .before .before .before .before .before .if3 .left, st .pre .4 .few-events), (c .before .before .before .before .before .before .before .before .before .before .before .before .before .before .before .before .before .args .z .events, sym (c .before .before .before .before .before .before .before .before .before .before .out-of-range .ensures) ∙ c .before .before .before .before .before .before .before .before .before .if2 .left, sym (c .before .before .before .before .before .before .equal .ensures) ∙ c .before .before .before .before .before .if4 .left))
+fill-tables-requires c κs = let st = c .before .before .before .before .before .before .before .before .before .before .before .before .before .before .before .before .before in ((st .pre .0, st .pre .1, c .before .before .before .before .before .before .before .if3 .left), (c .before .before .before .before .before .before .before .before .before .before .before .before .before .before .before .before .before .args .z .events, sym (c .before .before .before .before .before .before .before .before .before .before .out-of-range .ensures) ∙ c .before .before .before .before .before .before .before .before .before .if2 .left, sym (c .before .before .before .before .before .before .equal .ensures) ∙ c .before .before .before .before .before .if4 .left))
 
 cast-counts : tie.Need-cast-counts
 cast-counts c = omega (arith, few (asKind (c .before .before .before .before .before .before .before .before .before .before .before .before .before .before .before .before .before .before .before .before .before .before .args .k)) (c .before .before .before .before .before .before .before .before .before .before .before .before .before .before .before .before .before .before .before .before .before .before .args .z .events, sym (c .before .before .before .before .before .before .before .before .before .before .before .before .before .before .before .out-of-range .ensures) ∙ c .before .before .before .before .before .before .before .before .before .before .before .before .before .before .if2 .left, sym (c .before .before .before .before .before .before .before .before .before .before .before .equal .ensures) ∙ c .before .before .before .before .before .before .before .before .before .before .if4 .left), c .before .before .before .before .before .before .before .before .before .states .ensures)
