@@ -12,19 +12,19 @@ use native.Mathlib.Nat.{eq-or-lt-of-le, le-of-suc-le-suc, not-suc-le-zero}
 use native.Mathlib.Numerals.{add-one}
 use native.Mathlib.Omega.{arith}
 use lib.IntN.{ℤ}
-use lib.ListN.{length}
+use lib.ListN.{length, set}
 use lib.Dec.{ltb, eqb}
-use borrow.Author.Tests.{ltb-false, le-ltb, eq-eqb, ne-eqb}
+use borrow.Author.Tests.{ltb-true, ltb-false, le-ltb, eq-eqb, ne-eqb}
 use Rattle.lists.specs.Lists.{pick, overwrite, firstOf}
 use Rattle.lists.proofs.Tests.{case, contra}
-use Rattle.lists.proofs.Tables.{length-overwrite, overwrite-at, overwrite-beside}
+use Rattle.lists.proofs.Tables.{length-overwrite, overwrite-at, overwrite-beside, overwrite-cong, overwrite-set}
 use Rattle.promises.specs.Text.{Kind, mon, gap, reply, bal, day, Part, amp, statesOf}
 use Rattle.promises.specs.Meaning.{stepIn, stepOf}
 use Rattle.promises.specs.Reading.{isMon}
 use Rattle.promises.specs.Rig.{balNext, nextOf, markedOf}
 use Rattle.rig.specs.Record.{moveIndex, moveAt, stopIndex, stopAt}
 use Rattle.kinds.specs.declared.Row.{Row}
-use Rattle.kinds.specs.Kinds.{onEvent, rowAt, entryOf, withRows, kindMoves, kindStops, withColumn}
+use Rattle.kinds.specs.Kinds.{rowAt, entryOf, withRows, kindMoves, kindStops, withColumn}
 
 pub record Blank (mv sp : List ℕ) (m : ℕ) : Type 0 where
   pub no-move : (s u : ℕ) → s < 32 → u < 16 → moveAt mv m s u ≡ 255
@@ -34,15 +34,19 @@ pub record OfKind (mv sp : List ℕ) (m E : ℕ) (k : Kind) (ps : List Part) : T
   pub moves : (s u : ℕ) → s < statesOf k → u < E → moveAt mv m s u ≡ entryOf (statesOf k) (nextOf k ps s u)
   pub marks : (s : ℕ) → s < statesOf k → stopAt sp m s ≡ pick (markedOf k ps s) 1 0
 
--- an event as a byte
-same-event : (v a : ℕ) → v < 16 → eqb v (entryOf 16 a) ≡ eqb v a
-same-event v a h = case (ltb a 16) (λ q. rw q) (λ q. rw q (ne-eqb v 255 (λ e. omega arith) ∙ sym (ne-eqb v a (λ e. omega (arith, ltb-false a 16 q)))))
+-- ---- the entries of a row
 
--- the entries of a row
-pub entry-row : (n : ℕ) (r : Row) (v a x b y z : ℕ) → v < 16 → a ≡ entryOf 16 (r .a) → b ≡ entryOf 16 (r .b) → x ≡ entryOf n (r .x) → y ≡ entryOf n (r .y) → z ≡ entryOf n (r .z)
-    → onEvent v a x b y z ≡ entryOf n (rowAt r v)
-entry-row n r v a x b y z h i j p q t =
-    rw (i, j, p, q, t, same-event v (r .a) h, same-event v (r .b) h) (case (eqb v (r .a)) (λ i. rw i) (λ i. case (eqb v (r .b)) (λ j. rw (i, j)) (λ j. rw (i, j))))
+-- those of the events that a row names are written over the others
+module _ (l : List ℕ) (at : ℕ) where
+  pub put-entry : (f : ℕ → ℕ) (e x : ℕ) (row : List ℕ) → row ≡ overwrite l (λ u. at + u) f 16
+      → pick (ltb e 16) (set row (at + e) x) row ≡ overwrite l (λ u. at + u) (λ u. pick (eqb u e) x (f u)) 16
+  put-entry f e x row q =
+      case (ltb e 16)
+      (λ t. rw (t, q) (overwrite-set l (λ u. at + u) f (λ u v p. omega arith) 16 e x (ltb-true e 16 t)))
+      (λ t. rw (t, q) (overwrite-cong l (λ u. at + u) f (λ u. pick (eqb u e) x (f u)) 16 (λ u h. rw (ne-eqb u e (λ p. omega (arith, ltb-false e 16 t))))))
+
+pub entry-row : (n : ℕ) (r : Row) (u : ℕ) → pick (eqb u (r .a)) (entryOf n (r .x)) (pick (eqb u (r .b)) (entryOf n (r .y)) (entryOf n (r .z))) ≡ entryOf n (rowAt r u)
+entry-row n r u = case (eqb u (r .a)) (λ p. rw p) (λ p. case (eqb u (r .b)) (λ q. rw (p, q)) (λ q. rw (p, q)))
 
 -- ---- the rows of a monitor
 

@@ -4,7 +4,6 @@
 --   monStates k        == how many states a `go` or `stop` line can name: those of a `mon`, 0 of any other kind
 --   bandOf k           == the band in which an `amp` line moves: that of a `bal`, the empty one of any other kind
 --   daySteps k         == how many steps the hours of an `open` line can be of: those of a `day`, 0 of any other kind
---   onEvent u a x b y z == on event u: x if it is a, y if it is b, else z
 --   rowAt r u          == where the row r moves on event u
 --   entryOf S t        == the state t of S states as an entry of the move table: 255 where it is no state
 --   withRows mv m k n  == the move table mv with the moves of monitor m, of the kind k, from its first n states on all sixteen events
@@ -66,11 +65,8 @@ daySteps (Reply a b lo hi) = 0
 daySteps (Bal lo hi) = 0
 daySteps (Day T) = T
 
-abbrev pub onEvent : ℕ → ℕ → ℕ → ℕ → ℕ → ℕ → ℕ
-onEvent u a x b y z = pick (eqb u a) x (pick (eqb u b) y z)
-
 abbrev pub rowAt : Row → ℕ → ℕ
-rowAt r u = onEvent u (r .a) (r .x) (r .b) (r .y) (r .z)
+rowAt r u = pick (eqb u (r .a)) (r .x) (pick (eqb u (r .b)) (r .y) (r .z))
 
 abbrev pub entryOf : ℕ → ℕ → ℕ
 entryOf S t = pick (ltb t S) t 255

@@ -5,14 +5,14 @@ ghost use mathlib.Core.Bool.{false, _&&_};
 ghost use mathlib.Core.List.{[]};
 ghost use Prim.Native.Nat.{ℕ, suc, _+_, _%_, _≤_, _<_};
 ghost use lib.IntN.{pos, negℤ};
-ghost use lib.ListN.{length};
+ghost use lib.ListN.{length, set};
 ghost use lib.Dec.{leb, ltb};
 ghost use Rattle.lists.specs.Lists.{pick, overwrite};
 ghost use Rattle.promises.specs.Text.{bal, statesOf, startOf};
 ghost use Rattle.promises.specs.Reading as promised;
 ghost use Rattle.promises.specs.Rig.{gapNext, replyNext, balNext, nextOf, markedOf};
 ghost use Rattle.rig.specs.Record.{stopIndex};
-ghost use Rattle.kinds.specs.Kinds.{asKind, InRange, monStates, bandOf, daySteps, onEvent, rowAt, entryOf, withRows, kindMoves, kindStops, withStep, hourOf, withHours};
+ghost use Rattle.kinds.specs.Kinds.{asKind, InRange, monStates, bandOf, daySteps, rowAt, entryOf, withRows, kindMoves, kindStops, withStep, hourOf, withHours};
 
 // The band of a `bal`, from lo to hi; of any other kind the empty one, from 1 to 0.
 pub struct Band {
@@ -279,9 +279,9 @@ fn one_row(t: usize) -> Row
     ensures { λ r. ⌜ ((u : ℕ) → rowAt r u ≡ t) ⌝ }
 {
     Row {
-        a: 0,
+        a: 16,
         x: t,
-        b: 0,
+        b: 16,
         y: t,
         z: t,
     }
@@ -324,17 +324,14 @@ fn entry(n: usize, t: usize) -> u8
     if t < n { t as u8 } else { 255 }
 }
 
-// On event v: x if it is a, y if it is b, else z.
-fn on_event(v: u8, a: u8, x: u8, b: u8, y: u8, z: u8) -> u8
-    ensures { λ r. ⌜ r ≡ onEvent v a x b y z ⌝ }
+// Writes the move x on event e, if there can be such an event, into the row of entries from `at` on.
+fn put_move(moves: &mut [u8], at: usize, e: usize, x: u8)
+    requires { ⌜ at + 16 ≤ length (now moves) ⌝ }
+    ensures { λ _. ⌜ now (moves .exit) ≡ pick (ltb e 16) (set (now (moves .entry)) (at + e) x) (now (moves .entry)) ⌝ }
 {
-    if v == a {
-        return x;
+    if e < 16 {
+        moves[at + e] = x;
     }
-    if v == b {
-        return y;
-    }
-    z
 }
 
 // The moves of the row r, of a monitor with n states, into the sixteen entries from `at` on, one for each event.
@@ -342,14 +339,12 @@ fn fill_row(moves: &mut [u8], at: usize, r: Row, n: usize)
     requires { ⌜ (at + 16 ≤ length (now moves)) × (n ≤ 32) ⌝ }
     ensures { λ _. ⌜ now (moves .exit) ≡ overwrite (now (moves .entry)) (λ u. at + u) (λ u. entryOf n (rowAt r u)) 16 ⌝ }
 {
-    let a = entry(16, r.a);
-    let b = entry(16, r.b);
-    let x = entry(n, r.x);
-    let y = entry(n, r.y);
     let z = entry(n, r.z);
     for u in 0..16 {
-        moves[at + u] = on_event(u as u8, a, x, b, y, z);
+        moves[at + u] = z;
     }
+    put_move(moves, at, r.b, entry(n, r.y));
+    put_move(moves, at, r.a, entry(n, r.x)); // where a is b too, it is the move on a
 }
 
 // The moves of monitor m from each of its states.

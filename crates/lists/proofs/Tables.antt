@@ -8,8 +8,10 @@ use native.Mathlib.Numerals.{add-one}
 use native.Mathlib.Omega.{arith}
 use native.Mathlib.Decide.{le-ind}
 use lib.ListN.{length, getD, set, take, drop, length-append, length-set, List·getD-append}
-use lib.Seq.{take-all, take-append-le, drop-cons, set-at, append-snoc, getD-at, getD-append-add, getD-set-same, getD-set-other}
-use Rattle.lists.specs.Lists.{tabulate, stack, overwrite, range}
+use lib.Seq.{take-all, take-append-le, drop-cons, set-at, set-set, set-comm, append-snoc, getD-at, getD-append-add, getD-set-same, getD-set-other}
+use lib.Dec.{eqb}
+use borrow.Author.Tests.{eq-eqb, ne-eqb}
+use Rattle.lists.specs.Lists.{pick, tabulate, stack, overwrite, range}
 
 pub length-tabulate : {A : Type 0} (f : ℕ → A) (n : ℕ) → length (tabulate f n) ≡ n
 unfolding tabulate
@@ -117,3 +119,14 @@ pub overwrite-cong : {A : Type 0} (l : List A) (p : ℕ → ℕ) (f g : ℕ → 
 unfolding overwrite
 overwrite-cong l p f g zero h = refl
 overwrite-cong l p f g (suc n) h = rw (overwrite-cong l p f g n (λ x k. h x (omega arith)), h n (omega arith))
+
+-- another entry at one of the places
+pub overwrite-set : {A : Type 0} (l : List A) (p : ℕ → ℕ) (f : ℕ → A) → ((u v : ℕ) → p u ≡ p v → u ≡ v) → (n k : ℕ) (x : A) → k < n
+    → set (overwrite l p f n) (p k) x ≡ overwrite l p (λ i. pick (eqb i k) x (f i)) n
+unfolding overwrite
+overwrite-set l p f apart zero k x h = absurd (not-suc-le-zero h)
+overwrite-set {A} l p f apart (suc n) k x h =
+    ⊎-elim
+    (λ e. rw (eq-eqb n k (sym e), e) (set-set (overwrite l p f n) (p n) (f n) x ∙ ap (λ (r : List A). set r (p n) x) (overwrite-cong l p f (λ i. pick (eqb i n) x (f i)) n (λ i b. rw (ne-eqb i n (λ q. omega arith))))))
+    (λ b. rw (ne-eqb n k (λ q. omega arith)) (set-comm (overwrite l p f n) (p n) (p k) (f n) x (λ q. omega (arith, apart n k q)) ∙ ap (λ (r : List A). set r (p n) (f n)) (overwrite-set l p f apart n k x b)))
+    (eq-or-lt-of-le (le-of-suc-le-suc h))
