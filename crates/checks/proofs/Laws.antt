@@ -17,7 +17,7 @@ use Rattle.promises.specs.Calls.{fills, sized}
 use Rattle.promises.proofs.Meaning.{rig-states}
 use Rattle.promises.proofs.Reading.{reading-serves, reading-refuses}
 use Rattle.promises.proofs.Buffers.{early-fills, fault-fills}
-use Rattle.pruning.proofs.Starts.{start-lt}
+use Rattle.joint.proofs.Starts.{start-lt}
 use Rattle.reader.specs.Reading.{answerOf, recordOf}
 use Rattle.reader.specs.declared.Verdict.the-variants.{Readable as Read, Refused as Unread}
 use Rattle.reader.specs.Record.{ReadFrom}

@@ -49,7 +49,7 @@ fn check_sizes(rig: Rig, h: u64, room: usize) -> Loaded
             start: 0,
         };
     }
-    let states = pruning::joint_states(rig);
+    let states = joint::joint_states(rig);
     if room < (h as usize + 1) * states {
         return Loaded {
             checked: Checked::Refused(8, 0),
@@ -58,7 +58,7 @@ fn check_sizes(rig: Rig, h: u64, room: usize) -> Loaded
             start: 0,
         };
     }
-    let start = pruning::joint_start(rig);
+    let start = joint::joint_start(rig);
     Loaded {
         checked: Checked::Passed,
         rig,

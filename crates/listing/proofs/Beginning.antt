@@ -24,7 +24,7 @@ use Rattle.ranking.proofs.Premises.{filled-exact}
 use Rattle.ranking.proofs.Walk.{length-unrank}
 use Rattle.rig.specs.declared.Rig.{Rig}
 use Rattle.rig.specs.Record.{recordAutomaton}
-use Rattle.pruning.proofs.Digits.{states-few}
+use Rattle.joint.proofs.Digits.{states-few}
 use Rattle.checks.specs.Loading.{Fits}
 use Rattle.checks.specs.declared.Checked.the-variants.{Passed}
 use Rattle.filling.specs.declared.Filled.{Filled}

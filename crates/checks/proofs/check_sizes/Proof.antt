@@ -2,13 +2,13 @@
 -- Assumes nothing.
 use Prim.Native.Nat.{_+_, _*_, _≤_}
 use native.Mathlib.Omega.{arith}
-use Rattle.pruning.proofs.Digits.{states-few}
+use Rattle.joint.proofs.Digits.{states-few}
 use Rattle.checks.proofs.Laws.{cells-few, sizes-7, sizes-8, sizes-on}
 use Rattle.checks.proofs.check_sizes.Statement.{statement}
 use Rattle.checks.proofs.check_sizes.Tie as tie
 use Rattle.checks.proofs.check_sizes.Reads as reads
 use Rattle.checks.proofs.check_sizes.Lts as lts
-use Rattle.pruning.proofs.joint_states.Reads as joint-states-reads
+use Rattle.joint.proofs.joint_states.Reads as joint-states-reads
 
 returns : tie.Need-returns
 returns c = let st = c .before .args in sizes-7 (st .rig) (st .h) (st .room) (c .if1 .taken)

@@ -4,7 +4,7 @@ use Prim.Native.Nat.{ℕ}
 use native.Mathlib.Omega.{arith}
 use lib.ListN.{length-replicate}
 use Rattle.rig.specs.Record.{recordAutomaton}
-use Rattle.pruning.proofs.Digits.{states-few}
+use Rattle.joint.proofs.Digits.{states-few}
 use Rattle.counting.proofs.Sums.{tabled-bounded}
 use Rattle.filling.proofs.Laws.{flagged, tabled}
 use borrow.Author.Needs.{needs}

@@ -4,7 +4,7 @@ use mathlib.Core.Path.{_∙_}
 use native.Mathlib.Omega.{arith}
 use lib.ListN.{length}
 use Rattle.rig.specs.Record.{recordAutomaton}
-use Rattle.pruning.proofs.Digits.{states-few}
+use Rattle.joint.proofs.Digits.{states-few}
 use Rattle.ranking.proofs.Premises.{filled-exact}
 use Rattle.filling.proofs.Rows.{cell-room, told-refused, told-passed, told-few}
 use Rattle.generator.proofs.Laws.{ranked-index, ranked-violation}

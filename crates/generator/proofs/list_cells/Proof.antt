@@ -5,7 +5,7 @@ use native.Mathlib.Omega.{arith}
 use lib.ListN.{length}
 use Rattle.promises.specs.Calls.{outputAfter}
 use Rattle.rig.specs.Record.{recordAutomaton}
-use Rattle.pruning.proofs.Digits.{states-few}
+use Rattle.joint.proofs.Digits.{states-few}
 use Rattle.ranking.proofs.Premises.{filled-exact}
 use Rattle.filling.proofs.Rows.{cell-room, told-refused, told-passed, told-exact, told-few}
 use Rattle.generator.proofs.Laws.{listed-bad, listed-good}
