@@ -6,7 +6,7 @@ ghost use mathlib.Core.List.{[]};
 ghost use Prim.Native.Nat.{ℕ, suc, _+_, _%_, _≤_, _<_};
 ghost use lib.IntN.{pos, negℤ};
 ghost use lib.ListN.{length, set};
-ghost use lib.Dec.{leb, ltb};
+ghost use lib.Dec.{leb, ltb, eqb};
 ghost use Rattle.lists.specs.Lists.{pick, overwrite};
 ghost use Rattle.promises.specs.Text.{bal, statesOf, startOf};
 ghost use Rattle.promises.specs.Reading as promised;
@@ -192,28 +192,35 @@ pub fn day_steps(k: Kind) -> usize
     }
 }
 
+// The row of a monitor that moves to x on event e, and on any other to z.
+fn event_row(e: usize, x: usize, z: usize) -> Row
+    ensures { λ r. ⌜ ((u : ℕ) → rowAt r u ≡ pick (eqb u e) x z) ⌝ }
+{
+    Row {
+        a: e,
+        x,
+        b: e,
+        y: x,
+        z,
+    }
+}
+
+// The row of a monitor that moves to t on every event; 16 is none.
+fn same_row(t: usize) -> Row
+    ensures { λ r. ⌜ ((u : ℕ) → rowAt r u ≡ t) ⌝ }
+{
+    event_row(16, t, t)
+}
+
 // The row of a `gap` in state s: 'The state of `gap` is the number of coming steps that bar e'.
 fn gap_row(e: usize, n: usize, s: usize) -> Row
     requires { ⌜ 1 ≤ n ⌝ }
     ensures { λ r. ⌜ ((u : ℕ) → rowAt r u ≡ gapNext e n s u) ⌝ }
 {
     if s == 0 {
-        return Row {
-            a: e,
-            x: n - 1,
-            b: e,
-            y: n - 1,
-            z: 0,
-        };
+        return event_row(e, n - 1, 0);
     }
-    // e is barred
-    Row {
-        a: e,
-        x: n,
-        b: e,
-        y: n,
-        z: s - 1,
-    }
+    event_row(e, n, s - 1) // e is barred
 }
 
 // The row of a `reply` in state s: '0 with nothing due, 1 just after a, and one more each step'.
@@ -222,30 +229,18 @@ fn reply_row(a: usize, b: usize, lo: usize, hi: usize, s: usize) -> Row
     ensures { λ r. ⌜ ((u : ℕ) → rowAt r u ≡ replyNext a b lo hi s u) ⌝ }
 {
     if s == 0 {
-        return Row {
-            a,
-            x: 1,
-            b,
-            y: 0,
-            z: 0,
-        };
+        return event_row(a, 1, 0);
     }
     let barred = hi + 1; // no further a
     let later = s + 1;
-    if lo <= s {
-        return Row {
-            a,
-            x: barred,
-            b,
-            y: 0,
-            z: later,
-        };
+    if s < lo {
+        return event_row(a, barred, later); // an earlier b settles nothing
     }
     Row {
         a,
         x: barred,
         b,
-        y: later,
+        y: 0,
         z: later,
     }
 }
@@ -274,30 +269,17 @@ fn day_next(t: usize, s: usize) -> usize
     next
 }
 
-// The row of a monitor that moves to t on every event.
-fn one_row(t: usize) -> Row
-    ensures { λ r. ⌜ ((u : ℕ) → rowAt r u ≡ t) ⌝ }
-{
-    Row {
-        a: 16,
-        x: t,
-        b: 16,
-        y: t,
-        z: t,
-    }
-}
-
 // Its row in state s, without further lines; a number that is no state where it does not admit the event.
 fn row_in(k: Kind, s: usize) -> Row
     requires { ⌜ InRange (asKind k) × (s < statesOf (asKind k)) ⌝ }
     ensures { λ r. ⌜ ((u : ℕ) → rowAt r u ≡ nextOf (asKind k) [] s u) ⌝ }
 {
     match k {
-        Kind::Mon(n, _) => one_row(n),
+        Kind::Mon(n, _) => same_row(n),
         Kind::Gap(e, n) => gap_row(e, n, s),
         Kind::Reply(a, b, lo, hi) => reply_row(a, b, lo, hi, s),
-        Kind::Bal(lo, hi) => one_row(bal_next(lo, hi, 0, s)),
-        Kind::Day(t) => one_row(day_next(t, s)),
+        Kind::Bal(lo, hi) => same_row(bal_next(lo, hi, 0, s)),
+        Kind::Day(t) => same_row(day_next(t, s)),
     }
 }
 
@@ -344,7 +326,7 @@ fn fill_row(moves: &mut [u8], at: usize, r: Row, n: usize)
         moves[at + u] = z;
     }
     put_move(moves, at, r.b, entry(n, r.y));
-    put_move(moves, at, r.a, entry(n, r.x)); // where a is b too, it is the move on a
+    put_move(moves, at, r.a, entry(n, r.x)); // where both are one event, this move stands
 }
 
 // The moves of monitor m from each of its states.

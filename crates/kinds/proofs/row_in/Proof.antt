@@ -18,8 +18,8 @@ use Rattle.kinds.proofs.row_in.Tie as tie
 enum-known-k : tie.Need-enum-known-k
 enum-known-k c = search needs
 
-one-row-requires : tie.Need-one-row-requires
-one-row-requires c κs = search needs
+same-row-requires : tie.Need-same-row-requires
+same-row-requires c κs = search needs
 
 enum-known-k-2 : tie.Need-enum-known-k-2
 enum-known-k-2 c = search needs
@@ -49,8 +49,8 @@ bal-next-requires c κs =
     let hi : toZ w64 (ofZ w64 (k .0 .1 .0)) ≡ k .0 .1 .0 = search needs in
     rw (lo, hi) (subst (λ k. InRange (asKind k)) (k .1) (st .pre .0), refl, omega (arith, few (asKind (st .args .k)) (st .pre .0), st .pre .1))
 
-one-row-requires-2 : tie.Need-one-row-requires-2
-one-row-requires-2 c κs = search needs
+same-row-requires-2 : tie.Need-same-row-requires-2
+same-row-requires-2 c κs = search needs
 
 enum-known-k-5 : tie.Need-enum-known-k-5
 enum-known-k-5 c = search needs
@@ -61,12 +61,12 @@ day-next-requires c κs =
     let k = c .before .k5 .given in
     unfold statesOf in (rw (k .1) at (st .pre .1), rw (k .1) at (few (asKind (st .args .k)) (st .pre .0)))
 
-one-row-requires-3 : tie.Need-one-row-requires-3
-one-row-requires-3 c κs = search needs
+same-row-requires-3 : tie.Need-same-row-requires-3
+same-row-requires-3 c κs = search needs
 
 returns : tie.Need-returns
 unfolding nextOf firstOf
-returns c = λ u. rw (c .before .before .k .given .1) (c .one-row .ensures u)
+returns c = λ u. rw (c .before .before .k .given .1) (c .same-row .ensures u)
 
 returns-2 : tie.Need-returns-2
 unfolding nextOf
@@ -83,28 +83,28 @@ returns-4 c =
     let lo : toZ w64 (ofZ w64 (k .0 .0)) ≡ k .0 .0 = search needs in
     let hi : toZ w64 (ofZ w64 (k .0 .1 .0)) ≡ k .0 .1 .0 = search needs in
     let q = c .before .bal-next .ensures in
-    λ u. rw (k .1) (c .one-row2 .ensures u ∙ (rw (lo, hi) at q))
+    λ u. rw (k .1) (c .same-row2 .ensures u ∙ (rw (lo, hi) at q))
 
 returns-5 : tie.Need-returns-5
 unfolding nextOf dayNext
-returns-5 c = λ u. rw (c .before .before .before .k5 .given .1) (c .one-row3 .ensures u ∙ c .before .day-next .ensures)
+returns-5 c = λ u. rw (c .before .before .before .k5 .given .1) (c .same-row3 .ensures u ∙ c .before .day-next .ensures)
 
 pub row-in-spec : {M : Type 1} → statement M
 row-in-spec =
     tie.close
     (tie.spec
     enum-known-k
-    one-row-requires
+    same-row-requires
     enum-known-k-2
     gap-row-requires
     enum-known-k-3
     reply-row-requires
     enum-known-k-4
     bal-next-requires
-    one-row-requires-2
+    same-row-requires-2
     enum-known-k-5
     day-next-requires
-    one-row-requires-3
+    same-row-requires-3
     returns
     returns-2
     returns-3
