@@ -1,5 +1,5 @@
-// Reads texts and prints what each gives: `read`, E, the events in their order, the number of moves, each S with its start and, where states are marked, `stop` and
-// their number; or `no`, the number and the place.
+// Reads texts and prints what each gives: `read`, E, the events in their order, the number of moves on these, each S with its start and, where states are
+// marked, `stop` and their number; or `no`, the number and the place.
 // The texts of standard input each have a name up to a line end before them and byte 28 after them; those at the limit of 65,535 bytes are made here.
 use libc::STDIN_FILENO;
 use libc::STDOUT_FILENO;
@@ -21,17 +21,21 @@ fn say_byte(byte: u8) {
     say_number(byte as u64);
 }
 
-fn one_unless(entry: u8, none: u8) -> u64
+// 1 where the entry at place i is another than `none` and among the first `width` of its sixteen, else 0.
+fn one_entry(entry: u8, none: u8, i: usize, width: usize) -> u64
     ensures { λ r. ⌜ r ≤ 1 ⌝ }
 {
+    if width <= i % 16 {
+        return 0;
+    }
     if entry == none { 0 } else { 1 }
 }
 
-// How many entries of a table are others than `none`.
-fn entries_in(table: &[u8], none: u8) -> u64 {
+// How many entries of a table are others than `none`, of the first `width` of each sixteen.
+fn entries_in(table: &[u8], none: u8, width: usize) -> u64 {
     let mut n = 0;
     for i in 0..table.len() {
-        n += one_unless(table[i], none);
+        n += one_entry(table[i], none, i, width);
     }
     n
 }
@@ -52,7 +56,7 @@ fn say_record(r: Rig) {
             say_byte(order[i]);
         }
     }
-    say_number(entries_in(&r.moves, 255));
+    say_number(entries_in(&r.moves, 255, r.events));
     let counts = r.counts;
     let starts = r.starts;
     for m in 0..4 {
@@ -61,7 +65,7 @@ fn say_record(r: Rig) {
             say_byte(starts[m]);
         }
     }
-    say_marks(entries_in(&r.stops, 0));
+    say_marks(entries_in(&r.stops, 0, 16));
 }
 
 fn show(name: &[u8], text: &[u8]) {

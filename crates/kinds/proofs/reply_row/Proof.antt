@@ -30,14 +30,14 @@ unfolding replyNext
 returns-2 c =
     let x = c .before .before .before .args in
     let s = ne-eqb _ _ (c .before .before .if1 .left) in
-    λ u. c .event-row2 .ensures u ∙ case (eqb u (x .b)) (λ p. rw (p, s, lt-leb _ _ (c .before .if2 .taken))) (λ p. rw (p, s))
+    λ u. c .event-row2 .ensures u ∙ case (eqb u (x .b)) (λ p. rw (p, s, lt-leb (x .lo) (x .s) (c .before .if2 .taken))) (λ p. rw (p, s))
 
 returns-3 : tie.Need-returns-3
 unfolding replyNext
 returns-3 c =
     let x = c .before .before .args in
     let s = ne-eqb _ _ (c .before .if1 .left) in
-    λ u. case (eqb u (x .a)) (λ q. rw (q, s)) (λ q. case (eqb u (x .b)) (λ p. rw (q, p, s, le-leb _ _ (c .if2 .left))) (λ p. rw (q, p, s)))
+    λ u. case (eqb u (x .a)) (λ q. rw (q, s)) (λ q. case (eqb u (x .b)) (λ p. rw (q, p, s, le-leb (x .lo) (x .s) (c .if2 .left))) (λ p. rw (q, p, s)))
 
 pub reply-row-spec : {M : Type 1} → statement M
 reply-row-spec =

@@ -8,19 +8,19 @@ use Rattle.reader_vectors.proofs.entries_in.Statement.{statement}
 use Rattle.reader_vectors.proofs.entries_in.Tie as tie
 
 abbrev Inv-loop : tie.InvT-loop
-Inv-loop table none n₀ i₀ i-end n i = (i-end ≡ length table) × (i ≤ i-end) × (n ≤ i)
+Inv-loop table none width n₀ i₀ i-end n i = (i-end ≡ length table) × (i ≤ i-end) × (n ≤ i)
 
 abbrev μ-loop : tie.MeasureT-loop
-μ-loop table none n₀ i₀ i-end n i = i-end - i
+μ-loop table none width n₀ i₀ i-end n i = i-end - i
 
 loop-holds : tie.Need-loop-holds Inv-loop μ-loop
 loop-holds c = search needs
 
-shared-slice-read-one-unless : tie.Need-shared-slice-read-one-unless Inv-loop μ-loop
-shared-slice-read-one-unless c = search needs
+shared-slice-read-one-entry : tie.Need-shared-slice-read-one-entry Inv-loop μ-loop
+shared-slice-read-one-entry c = search needs
 
-one-unless-requires : tie.Need-one-unless-requires Inv-loop μ-loop
-one-unless-requires c κs = search needs
+one-entry-requires : tie.Need-one-entry-requires Inv-loop μ-loop
+one-entry-requires c κs = search needs
 
 add-n : tie.Need-add-n Inv-loop μ-loop
 add-n c = search needs
@@ -44,8 +44,8 @@ entries-in-spec =
     Inv-loop
     μ-loop
     loop-holds
-    shared-slice-read-one-unless
-    one-unless-requires
+    shared-slice-read-one-entry
+    one-entry-requires
     add-n
     add-i
     loop-less
