@@ -6,7 +6,7 @@
 --   daySteps k         == how many steps the hours of an `open` line can be of: those of a `day`, 0 of any other kind
 --   rowAt r u          == where the row r moves on event u
 --   entryOf S t        == the state t of S states as an entry of the move table: 255 where it is no state
---   withRows mv m k n  == the move table mv with the moves of monitor m, of the kind k, from its first n states on all sixteen events
+--   withRows mv m k n  == the move table mv with the moves of monitor m, of the kind k, from its first n states on each of the sixteen events that there can be
 --   kindMoves mv m k   == the move table mv with what the line says that begins monitor m of the kind k
 --   kindStops sp m k   == the marks sp likewise
 --   withColumn mv m e f n == the move table mv with the entries f 0, f 1, … f (n−1) of monitor m on event e from its first n states
@@ -71,6 +71,7 @@ rowAt r u = pick (eqb u (r .a)) (r .x) (pick (eqb u (r .b)) (r .y) (r .z))
 abbrev pub entryOf : ℕ → ℕ → ℕ
 entryOf S t = pick (ltb t S) t 255
 
+-- a row is filled whole: nothing reads the entries of events that the rig doesn't have
 unfoldable pub withRows : List ℕ → ℕ → text.Kind → ℕ → List ℕ
 withRows mv m k zero = mv
 withRows mv m k (suc s) = overwrite (withRows mv m k s) (moveIndex m s) (λ u. entryOf (statesOf k) (nextOf k [] s u)) 16
