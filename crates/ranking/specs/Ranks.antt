@@ -1,6 +1,6 @@
 -- What unranking and ranking read, and what they tell. Paper 01, 'Counting and indices'.
---   HoldsRows A n cells               == the cells begin with the rows of every r below n
---   Exact A p n x t cells             == t and the cells are those of A for n events, whose count from x is not cut off
+--   HoldsRows A b n cells             == the cells begin with the n rows from b on
+--   Exact A p b n x t cells           == t and the cells are those of A for n events with b left after them, whose count from x is not cut off
 --   Chosen A r x i c                  == c is one step of unranking the index i from x, with r events left after it
 --   noChoice                          == what is told where the index is in no event's part
 --   ChosenOrNone A r x i c            == c is that step, or noChoice where the index is not below the count
@@ -8,7 +8,8 @@
 --   FoundEvent A r x e f              == f is how a scenario from x begins with the event e, with r events left after it
 --   FoundOrNot A p r x e f            == f is that, or its state is p where e isn't admitted or leads to a state not live
 --   FoundBy t cells p x e f           == the same, whatever automaton the table and the row of cells are those of
---   UnrankedBy t cells p x i b a      == a is the scenario of index i from x, of as many events as b has bytes
+--   Unranked A b n x i a e            == a is the first n events of the scenario of index i from x, of b events more, and e is where they end
+--   UnrankedBy t cells p x i out a e  == the same for as many events as the output has bytes, whatever automaton the table and the rows are those of
 --   rankedAs A x s                    == what is told of the sequence s from x: its index, or the place where it is no scenario
 --   RankedBy t cells p x s k          == k is that
 --   IndicesBelow n is                 == every index of the list is below n
@@ -27,20 +28,20 @@ use Rattle.automaton.specs.Automaton.{Automaton}
 use Rattle.automaton.specs.Pruning.{live}
 use Rattle.automaton.specs.Counting.{N, most}
 use Rattle.automaton.specs.Ranking.{before, unrank, rank, firstViolation}
-use Rattle.promises.specs.Calls.{rows}
-use Rattle.counting.specs.Tabled.{Tabled, HoldsRow}
+use Rattle.counting.specs.Tabled.{Tabled, HoldsRow, rowsFrom}
 use Rattle.ranking.specs.declared.Choice.{Choice}
+use Rattle.ranking.specs.declared.Rest.{Rest}
 use Rattle.ranking.specs.declared.Found.{Found}
 use Rattle.ranking.specs.declared.Ranked.{Ranked}
 use Rattle.ranking.specs.declared.Ranked.the-variants.{Index, Violation}
 
-unfoldable pub HoldsRows : Automaton → ℕ → List ℕ → Type 0
-HoldsRows A n cells = take (n * A .states) cells ≡ rows A n
+unfoldable pub HoldsRows : Automaton → ℕ → ℕ → List ℕ → Type 0
+HoldsRows A b n cells = take (n * A .states) cells ≡ rowsFrom A b n
 
-pub record Exact (A : Automaton) (p n x : ℕ) (t cells : List ℕ) : Type 0 where
+pub record Exact (A : Automaton) (p b n x : ℕ) (t cells : List ℕ) : Type 0 where
   pub tabled : Tabled A p t
-  pub holds : HoldsRows A n cells
-  pub not-cut-off : N A n x < most
+  pub holds : HoldsRows A b n cells
+  pub not-cut-off : N A (b + n) x < most
 
 -- ---- one step
 
@@ -77,16 +78,21 @@ FoundBy t cells p x e f = (A : Automaton) (r : ℕ) → Tabled A p t → HoldsRo
 
 -- ---- whole sequences
 
-abbrev pub UnrankedBy : List ℕ → List ℕ → ℕ → ℕ → ℕ → List ℕ → List ℕ → Type 0
-UnrankedBy t cells p x i out after =
-    (A : Automaton) → Exact A p (length out) x t cells → i < N A (length out) x → after ≡ unrank A (length out) x i
+pub record Unranked (A : Automaton) (b n x i : ℕ) (after : List ℕ) (e : Rest) : Type 0 where
+  pub written : after ++ unrank A b (e .state) (e .left) ≡ unrank A (b + n) x i
+  pub is-below : e .left < N A b (e .state)
+  pub no-more : N A b (e .state) ≤ N A (b + n) x
+
+abbrev pub UnrankedBy : List ℕ → List ℕ → ℕ → ℕ → ℕ → List ℕ → List ℕ → Rest → Type 0
+UnrankedBy t cells p x i out after e =
+    (A : Automaton) (b : ℕ) → Exact A p b (length out) x t cells → i < N A (b + length out) x → Unranked A b (length out) x i after e
 
 -- refusal 14: the place is that of the 'first event that isn't admitted or leads to a state not live'
 unfoldable pub rankedAs : Automaton → ℕ → List ℕ → Ranked
 rankedAs A x s = pick (ltb (firstViolation A x s) (length s)) (Violation (firstViolation A x s)) (Index (rank A x s))
 
 abbrev pub RankedBy : List ℕ → List ℕ → ℕ → ℕ → List ℕ → Ranked → Type 0
-RankedBy t cells p x s k = (A : Automaton) → Exact A p (length s) x t cells → k ≡ rankedAs A x s
+RankedBy t cells p x s k = (A : Automaton) → Exact A p 0 (length s) x t cells → k ≡ rankedAs A x s
 
 -- ---- lists of indices
 
@@ -99,8 +105,8 @@ withScenarios A h x is out = concatMap (unrank A h x) is ++ drop (length is * h)
 
 abbrev pub WrittenBy : List ℕ → List ℕ → ℕ → ℕ → ℕ → List ℕ → List ℕ → List ℕ → Type 0
 WrittenBy t cells p x h is out after =
-    (A : Automaton) → Exact A p h x t cells → IndicesBelow (N A h x) is → after ≡ withScenarios A h x is out
+    (A : Automaton) → Exact A p 0 h x t cells → IndicesBelow (N A h x) is → after ≡ withScenarios A h x is out
 
 abbrev pub ListedBy : List ℕ → List ℕ → ℕ → ℕ → ℕ → ℕ → List ℕ → ℕ → List ℕ → List ℕ → Type 0
 ListedBy t cells p x h n is k out after =
-    (A : Automaton) → Exact A p h x t cells → n ≡ N A h x → after ≡ pick (ltb k (length is)) out (withScenarios A h x is out)
+    (A : Automaton) → Exact A p 0 h x t cells → n ≡ N A h x → after ≡ pick (ltb k (length is)) out (withScenarios A h x is out)

@@ -16,6 +16,12 @@ pub struct Choice {
     pub state: usize,
 }
 
+// Where an unranking ended: the state, and what is left of the index there.
+pub struct Rest {
+    pub state: usize,
+    pub left: u64,
+}
+
 // One step of ranking: how many indices lie before those that begin with the event, and the state that the event leads to.
 struct Found {
     before: u64,
@@ -66,19 +72,21 @@ pub fn choose_event(cells: &[u64], table: &[u16; 16384], p: usize, x: usize, i: 
     }
 }
 
-// Writes the scenario of index i from x to the part lent, one byte for each event left.
-pub fn unrank(cells: &[u64], table: &[u16; 16384], p: usize, x: usize, i: u64, out: &mut [u8])
+// Writes the next events of the scenario of index i from x, as many as the part lent has bytes, and tells where it ended. The cells begin with
+// the rows of what is left after each of these events, the last event's first.
+pub fn unrank(cells: &[u64], table: &[u16; 16384], p: usize, x: usize, i: u64, out: &mut [u8]) -> Rest
     requires { ⌜ (p ≤ 1024) × (x < p) × (length (now out) * p ≤ length (now cells)) ⌝ }
-    ensures { λ _. ⌜ UnrankedBy (now (table .entry)) (now (cells .entry)) p x i (now (out .entry)) (now (out .exit)) ⌝ }
+    ensures { λ e. ⌜ e .state < p ⌝ }
+    ensures { λ e. ⌜ UnrankedBy (now (table .entry)) (now (cells .entry)) p x i (now (out .entry)) (now (out .exit)) e ⌝ }
 {
     let r = out.len();
     if r == 0 {
-        return;
+        return Rest { state: x, left: i };
     }
     let from = (r - 1) * p;
     let c = choose_event(&cells[from..], table, p, x, i);
     out[0] = c.event;
-    unrank(cells, table, p, c.state, c.left, &mut out[1..]);
+    unrank(cells, table, p, c.state, c.left, &mut out[1..])
 }
 
 // a + b, or the largest 64-bit number where that is more.
@@ -142,7 +150,7 @@ pub fn fits(scenarios: usize, h: usize, out: usize) -> bool
 }
 
 // The place of the first index that is not below n; the list's length where all are.
-fn first_not_below(list: &[u64], n: u64) -> usize
+pub fn first_not_below(list: &[u64], n: u64) -> usize
     ensures { λ k. ⌜ k ≡ firstBad (notBelow n) (now (list .entry)) ⌝ }
 {
     for k in 0..list.len() {

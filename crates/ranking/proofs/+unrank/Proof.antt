@@ -5,11 +5,9 @@ use Prim.Native.Nat.{ℕ, _+_, _-_, _*_, _≤_, _<_}
 use native.Mathlib.Omega.{arith}
 use lib.ListN.{length, length-set, length-take, length-drop}
 use Rattle.automaton.specs.Counting.{N, most}
-use Rattle.automaton.specs.Ranking.{unrank}
-use Rattle.ranking.specs.Ranks.{Exact, Chosen}
-use Rattle.ranking.proofs.Steps.{chosen-unrank}
-use Rattle.ranking.proofs.Premises.{exact-on}
-use Rattle.ranking.proofs.Rows.{row-within, row-lent, length-rest, rest-within, rest-none, rest-back}
+use Rattle.ranking.specs.Ranks.{Exact, Chosen, Unranked}
+use Rattle.ranking.proofs.Premises.{exact-on, unranked-step}
+use Rattle.ranking.proofs.Rows.{row-within, row-lent, length-rest, rest-within, rest-none}
 use borrow.Author.Needs.{needs}
 use borrow.Fn.Kinds.{In}
 use borrow.Fn.PlainCycle.{Measures, is, falls, and}
@@ -36,9 +34,9 @@ unrank-returns : (t : ℕ) → unrank-lts.Need-returns (
   unrank.Post,
 ) (unrank-at t) unrank.Post
 unrank-returns t c =
-    λ A exact below.
-    let a = c .before .before .before .args in
-    rest-none A (a .x) (a .i) (a .out .now) (c .if1 .taken)
+    let st = c .before .before .before in
+    let a = st .args in
+    (st .pre .1 .1, λ A b exact below. rest-none A b (a .x) (a .i) (a .out .now) (c .if1 .taken) below)
 
 unrank-sub-from : (t : ℕ) → unrank-lts.Need-sub-from (
   choose-event-reads.Asked,
@@ -168,22 +166,25 @@ unrank-returns-2 : (t : ℕ) → unrank-lts.Need-returns-2 (
   unrank.Post,
 ) (unrank-at t) unrank.Post
 unrank-returns-2 t c =
-    λ A exact below.
     let st = c .before .before .before .before .before .before .before .before .before in
     let a = st .args in
     let cells = a .cells .now in
     let r = length (a .out .now) in
     let k = r - 1 in
-    let e : r ≡ k + 1 = omega arith in
     let ch = c .before .before .before .before .choose-event in
-    let less : N A (k + 1) (a .x) < most = subst (λ (n : ℕ). N A n (a .x) < most) e (exact .not-cut-off) in
-    let is : Chosen A k (a .x) (a .i) (ch .result) =
-    ch .ensures .1 A k (exact .tabled) (row-lent A cells (a .p) k r (exact .tabled .states) (exact .holds) (omega arith)) .some (subst (λ (n : ℕ). a .i < N A n (a .x)) e below) less in
-    let on : Exact A (a .p) k (ch .result .state) (a .table .now) cells = exact-on A (a .p) k (a .x) (a .i) (a .table .now) cells (ch .result) is below e exact in
-    let q = sym (length-rest (a .out .now) (ch .result .event) (omega arith)) in
-    let back = c .before .before .unrank .ensures A (subst (λ (n : ℕ). Exact A (a .p) n (ch .result .state) (a .table .now) cells) q on) (subst (λ (n : ℕ). ch .result .left < N A n (ch .result .state)) q (is .is-below)) in
-    rest-back (a .out .now) (ch .result .event) (unrank A k (ch .result .state) (ch .result .left)) _ (omega arith) (back ∙ ap (λ (n : ℕ). unrank A n (ch .result .state) (ch .result .left)) (sym q))
-    ∙ sym (chosen-unrank A k (a .x) (a .i) (ch .result) is) ∙ ap (λ (n : ℕ). unrank A n (a .x) (a .i)) (sym e)
+    let on = c .before .before .unrank in
+    let e : r ≡ k + 1 = omega arith in (
+      on .ensures .0,
+      λ A b exact below.
+          let s : b + r ≡ b + k + 1 = omega arith in
+          let less : N A (b + k + 1) (a .x) < most = subst (λ (n : ℕ). N A n (a .x) < most) s (exact .not-cut-off) in
+          let is : Chosen A (b + k) (a .x) (a .i) (ch .result) =
+          ch .ensures .1 A (b + k) (exact .tabled) (row-lent A b cells (a .p) k r (exact .tabled .states) (exact .holds) (omega arith)) .some (subst (λ (n : ℕ). a .i < N A n (a .x)) s below) less in
+          let rest : Exact A (a .p) b k (ch .result .state) (a .table .now) cells = exact-on A (a .p) b k (a .x) (a .i) (a .table .now) cells (ch .result) is below e exact in
+          let q = sym (length-rest (a .out .now) (ch .result .event) (omega arith)) in
+          let back = on .ensures .1 A b (subst (λ (n : ℕ). Exact A (a .p) b n (ch .result .state) (a .table .now) cells) q rest) (subst (λ (n : ℕ). ch .result .left < N A (b + n) (ch .result .state)) q (is .is-below)) in
+          unranked-step A b k (a .x) (a .i) (a .out .now) (ch .result) is _ (on .result) (omega arith) below (subst (λ (n : ℕ). Unranked A b n (ch .result .state) (ch .result .left) _ (on .result)) (sym q) back),
+    )
 
 pub +unrank-spec : {M : Type 1} → statement M
 +unrank-spec = close μ-unrank λ t. unrank-lts.spec (

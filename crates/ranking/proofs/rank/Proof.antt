@@ -6,7 +6,8 @@ use native.Mathlib.Omega.{arith}
 use lib.ListN.{length, getD, length-take, length-drop}
 use Rattle.automaton.specs.Automaton.{Automaton}
 use Rattle.ranking.specs.Ranks.{Exact, FoundOrNot}
-use Rattle.ranking.proofs.Rows.{row-within, row-lent}
+use Rattle.ranking.proofs.Rows.{row-within}
+use Rattle.ranking.proofs.Premises.{whole-row, whole-few}
 use Rattle.ranking.proofs.Along.{Along, along-start, along-end, along-off, along-least, along-step}
 use borrow.Author.Needs.{needs}
 use Rattle.ranking.proofs.rank.Statement.{statement}
@@ -14,7 +15,7 @@ use Rattle.ranking.proofs.rank.Tie as tie
 
 abbrev Inv-loop : tie.InvT-loop
 Inv-loop cells table p x s h index₀ at₀ k₀ index at k =
-    (k ≤ length s) × (at < p) × ((A : Automaton) → Exact A p (length s) x table cells → Along A x s k at index)
+    (k ≤ length s) × (at < p) × ((A : Automaton) → Exact A p 0 (length s) x table cells → Along A x s k at index)
 
 abbrev μ-loop : tie.MeasureT-loop
 μ-loop cells table p x s h index₀ at₀ k₀ index at k = length s - k
@@ -77,12 +78,12 @@ returns c =
     let r = length s - 1 - lp .k in
     let f = c .before .before .find-event in
     let lt : lp .k < length s = c .before .before .before .before .before .loop-test .taken in
-    let told : (A : Automaton) → Exact A (a .p) (length s) (a .x) (a .table .now) (a .cells .now) → FoundOrNot A (a .p) r (lp .at) (getD s (lp .k) 0) (f .result) =
+    let told : (A : Automaton) → Exact A (a .p) 0 (length s) (a .x) (a .table .now) (a .cells .now) → FoundOrNot A (a .p) r (lp .at) (getD s (lp .k) 0) (f .result) =
     λ A exact.
-    f .ensures A r (exact .tabled) (row-lent A (a .cells .now) (a .p) r (length s) (exact .tabled .states) (exact .holds) (omega arith))
-    (along-least A (a .x) s (lp .k) (lp .at) (lp .index) lt (exact .not-cut-off) (lp .inv .2 A exact)) in
+    f .ensures A r (exact .tabled) (whole-row A (a .p) (length s) (a .x) (a .table .now) (a .cells .now) exact r (omega arith))
+    (along-least A (a .x) s (lp .k) (lp .at) (lp .index) lt (whole-few A (a .p) (length s) (a .x) (a .table .now) (a .cells .now) exact) (lp .inv .2 A exact)) in
     λ A exact.
-    along-off A (a .x) s (lp .k) (lp .at) (lp .index) lt (exact .not-cut-off) (lp .inv .2 A exact) (told A exact .not-live (c .if1 .taken))
+    along-off A (a .x) s (lp .k) (lp .at) (lp .index) lt (whole-few A (a .p) (length s) (a .x) (a .table .now) (a .cells .now) exact) (lp .inv .2 A exact) (told A exact .not-live (c .if1 .taken))
 
 add-saturating-requires : tie.Need-add-saturating-requires Inv-loop μ-loop
 add-saturating-requires c κs = search needs
@@ -102,15 +103,15 @@ loop-again c =
     let r = length s - 1 - lp .k in
     let f = c .before .before .before .find-event in
     let lt : lp .k < length s = c .before .before .before .before .before .before .loop-test .taken in
-    let told : (A : Automaton) → Exact A (a .p) (length s) (a .x) (a .table .now) (a .cells .now) → FoundOrNot A (a .p) r (lp .at) (getD s (lp .k) 0) (f .result) =
+    let told : (A : Automaton) → Exact A (a .p) 0 (length s) (a .x) (a .table .now) (a .cells .now) → FoundOrNot A (a .p) r (lp .at) (getD s (lp .k) 0) (f .result) =
     λ A exact.
-    f .ensures A r (exact .tabled) (row-lent A (a .cells .now) (a .p) r (length s) (exact .tabled .states) (exact .holds) (omega arith))
-    (along-least A (a .x) s (lp .k) (lp .at) (lp .index) lt (exact .not-cut-off) (lp .inv .2 A exact)) in (
+    f .ensures A r (exact .tabled) (whole-row A (a .p) (length s) (a .x) (a .table .now) (a .cells .now) exact r (omega arith))
+    (along-least A (a .x) s (lp .k) (lp .at) (lp .index) lt (whole-few A (a .p) (length s) (a .x) (a .table .now) (a .cells .now) exact) (lp .inv .2 A exact)) in (
       omega arith,
       omega arith,
       λ A exact.
           let n : A .states ≡ a .p = exact .tabled .states in
-          along-step A (a .x) s (lp .k) (lp .at) (lp .index) lt (exact .not-cut-off) (lp .inv .2 A exact) (f .result) (c .add-saturating .result) (omega arith)
+          along-step A (a .x) s (lp .k) (lp .at) (lp .index) lt (whole-few A (a .p) (length s) (a .x) (a .table .now) (a .cells .now) exact) (lp .inv .2 A exact) (f .result) (c .add-saturating .result) (omega arith)
           (told A exact .goes-on (c .before .if1 .left)) (c .add-saturating .ensures),
     )
 

@@ -4,7 +4,7 @@ use mathlib.Core.Path.{_≡_, refl, sym, ap, _∙_, subst}
 use mathlib.Core.List.{List, _++_}
 use Prim.Native.Nat.{ℕ, _+_, _-_, _*_, _≤_, _<_}
 use native.Mathlib.Omega.{arith}
-use native.Mathlib.Nat.{zero-mul}
+use native.Mathlib.Nat.{zero-add, zero-mul}
 use lib.ListN.{length, getD, take, drop}
 use lib.Seq.{take-length}
 use Rattle.lists.specs.Lists.{concatMap}
@@ -13,6 +13,7 @@ use Rattle.automaton.specs.Counting.{N}
 use Rattle.automaton.specs.Ranking.{unrank}
 use Rattle.ranking.specs.Ranks.{Exact, IndicesBelow, withScenarios}
 use Rattle.ranking.proofs.Rows.{row-within}
+use Rattle.ranking.proofs.Premises.{unranked-whole}
 use Rattle.ranking.proofs.Walk.{length-unrank, length-part, walk-step}
 use borrow.Author.Needs.{needs}
 use Rattle.ranking.proofs.unrank_all.Statement.{statement}
@@ -21,7 +22,7 @@ use Rattle.ranking.proofs.unrank_all.Tie as tie
 abbrev Inv-loop : tie.InvT-loop
 Inv-loop cells table p x h list out₀ n₀ n-end out n =
     (n ≤ length list) × (length out ≡ length out₀)
-    × ((A : Automaton) → Exact A p h x table cells → IndicesBelow (N A h x) list → out ≡ concatMap (unrank A h x) (take n list) ++ drop (n * h) out₀)
+    × ((A : Automaton) → Exact A p 0 h x table cells → IndicesBelow (N A h x) list → out ≡ concatMap (unrank A h x) (take n list) ++ drop (n * h) out₀)
 
 abbrev μ-loop : tie.MeasureT-loop
 μ-loop cells table p x h list out₀ n₀ n-end out n = length list - n
@@ -95,9 +96,9 @@ loop-again c =
       omega arith,
       c .before .out .given .1 ∙ lp .inv .1,
       λ A exact below.
-          let back = c .before .before .unrank .ensures A (subst (λ (r : ℕ). Exact A (a .p) r (a .x) (a .table .now) (a .cells .now)) q exact) (subst (λ (r : ℕ). i < N A r (a .x)) q (below (lp .n) lt)) in
+          let back = c .before .before .unrank .ensures .1 A 0 (subst (λ (r : ℕ). Exact A (a .p) 0 r (a .x) (a .table .now) (a .cells .now)) q exact) (subst (λ (r : ℕ). i < N A r (a .x)) (sym (zero-add (a .h)) ∙ ap (λ (r : ℕ). 0 + r) q) (below (lp .n) lt)) in
           walk-step (unrank A (a .h) (a .x)) (a .h) (a .list .now) (λ k h. length-unrank A (a .h) (a .x) (getD (a .list .now) k 0) (below k h)) (a .out .now) (lp .out) (lp .n) _ lt
-          (lp .inv .2 A exact below) (back ∙ ap (λ (r : ℕ). unrank A r (a .x) i) (sym q)),
+          (lp .inv .2 A exact below) (unranked-whole A _ (a .x) i _ _ back ∙ ap (λ (r : ℕ). unrank A r (a .x) i) (sym q)),
     )
 
 same-length : tie.Need-same-length Inv-loop μ-loop
