@@ -43,17 +43,17 @@ module _ (A : Automaton) where
 
   -- the step's event is stored, and the rest of the part comes back with what follows it
   pub unranked-step : (b k x i : ℕ) (out : List ℕ) (c : Choice) → Chosen A (b + k) x i c → (last : List ℕ) (e : Rest) → length out ≡ k + 1 → i < N A (b + length out) x
-      → Unranked A b k (c .state) (c .left) last e
+      → {m : ℕ} → m ≡ k → Unranked A b m (c .state) (c .left) last e
       → Unranked A b (length out) x i (take 1 (set out 0 (c .event)) ++ (last ++ drop (length (set out 0 (c .event)) - 1) (drop 1 (set out 0 (c .event))))) e
-  unranked-step b k x i out c is last e n below on =
+  unranked-step b k x i out c is last e n below {m} q on =
       let s : b + length out ≡ b + k + 1 = omega arith in
       let l : live A x ≡ true = N-live A (b + length out) x (omega arith) in
       record {
         written =
             ap (λ (w : List ℕ). w ++ unrank A b (e .state) (e .left)) (rest-back out (c .event) last (omega arith))
-            ∙ ap (λ (w : List ℕ). c .event ∷ w) (on .written) ∙ sym (chosen-unrank A (b + k) x i c is) ∙ ap (λ (m : ℕ). unrank A m x i) (sym s);
+            ∙ ap (λ (w : List ℕ). c .event ∷ w) (on .written ∙ ap (λ (j : ℕ). unrank A (b + j) (c .state) (c .left)) q) ∙ sym (chosen-unrank A (b + k) x i c is) ∙ ap (λ (m : ℕ). unrank A m x i) (sym s);
         is-below = on .is-below;
-        no-more = omega (arith, on .no-more, chosen-least A (b + k) x i c is l, ap (λ (m : ℕ). N A m x) s);
+        no-more = omega (arith, on .no-more, ap (λ (j : ℕ). N A (b + j) (c .state)) q, chosen-least A (b + k) x i c is l, ap (λ (j : ℕ). N A j x) s);
       }
 
   -- of all rows: each stands at its place, and the count is that of all events

@@ -5,7 +5,7 @@ use Prim.Native.Nat.{ℕ, _+_, _-_, _*_, _≤_, _<_}
 use native.Mathlib.Omega.{arith}
 use lib.ListN.{length, length-set, length-take, length-drop}
 use Rattle.automaton.specs.Counting.{N, most}
-use Rattle.ranking.specs.Ranks.{Exact, Chosen, Unranked}
+use Rattle.ranking.specs.Ranks.{Exact, Chosen}
 use Rattle.ranking.proofs.Premises.{exact-on, unranked-step}
 use Rattle.ranking.proofs.Rows.{row-within, row-lent, length-rest, rest-within, rest-none}
 use borrow.Author.Needs.{needs}
@@ -183,7 +183,7 @@ unrank-returns-2 t c =
           let rest : Exact A (a .p) b k (ch .result .state) (a .table .now) cells = exact-on A (a .p) b k (a .x) (a .i) (a .table .now) cells (ch .result) is below e exact in
           let q = sym (length-rest (a .out .now) (ch .result .event) (omega arith)) in
           let back = on .ensures .1 A b (subst (λ (n : ℕ). Exact A (a .p) b n (ch .result .state) (a .table .now) cells) q rest) (subst (λ (n : ℕ). ch .result .left < N A (b + n) (ch .result .state)) q (is .is-below)) in
-          unranked-step A b k (a .x) (a .i) (a .out .now) (ch .result) is _ (on .result) (omega arith) below (subst (λ (n : ℕ). Unranked A b n (ch .result .state) (ch .result .left) _ (on .result)) (sym q) back),
+          unranked-step A b k (a .x) (a .i) (a .out .now) (ch .result) is _ (on .result) e below (sym q) back,
     )
 
 pub +unrank-spec : {M : Type 1} → statement M
