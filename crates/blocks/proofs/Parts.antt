@@ -6,7 +6,8 @@ use mathlib.Core.List.{List, _++_}
 use Prim.Native.Nat.{ℕ, suc, _+_, _-_, _*_, _≤_, _<_}
 use native.Mathlib.Omega.{arith}
 use native.Mathlib.Nat.{eq-or-lt-of-le}
-use lib.ListN.{length, getD, take, drop, set, List·getD-append}
+use native.Mathlib.Decide.{ℕ-discrete}
+use lib.ListN.{length, getD, take, drop, set, length-append, List·getD-append}
 use lib.Seq.{getD-drop, drop-drop, drop-at, getD-set-same, getD-set-other}
 use Rattle.lists.proofs.Tests.{split}
 use Rattle.automaton.specs.Automaton.{Automaton}
@@ -14,7 +15,8 @@ use Rattle.automaton.specs.Counting.{N, most}
 use Rattle.automaton.specs.Ranking.{unrank}
 use Rattle.ranking.specs.declared.Rest.{Rest}
 use Rattle.ranking.specs.Ranks.{Unranked}
-use Rattle.blocks.specs.Blocks.{Begun, AllBegun}
+use Rattle.ranking.proofs.Walk.{length-unrank}
+use Rattle.blocks.specs.Blocks.{Begun, AllBegun, StatesBelow, Past}
 use Rattle.blocks.proofs.Splices.{splice-before, splice-in, splice-past}
 use Rattle.blocks.proofs.Places.{place-below}
 
@@ -69,13 +71,24 @@ module _ (A : Automaton) (x h : ℕ) (is : List ℕ) (at n b : ℕ) where
   passed-all k states left out e p j lt = p .done j (omega arith)
 
   module _ (k : ℕ) (states left out last : List ℕ) (e : Rest) (lt : k < length is) (within : at + n ≤ h) (fits : length is * h ≤ length out)
-      (some : k < length states) (some-left : k < length left) (long : length last ≡ n) (part : Unranked A b n (getD states k 0) (getD left k 0) last e)
-      (p : Passed A x h is at n b k states left out) where
+      (some : k < length states) (some-left : k < length left) (p : Passed A x h is at n b k states left out)
+      {m w : ℕ} (m-is : m ≡ n) (w-is : w ≡ n) (told : Unranked A b m (getD states k 0) (getD left k 0) last e) where
+    part : Unranked A b n (getD states k 0) (getD left k 0) last e
+    part = subst (λ (j : ℕ). Unranked A b j (getD states k 0) (getD left k 0) last e) m-is told
+
+    long : length last ≡ n
+    long =
+        let all = ap length (part .written) in
+        let rest : length (unrank A b (e .state) (e .left)) ≡ b = length-unrank A b (e .state) (e .left) (part .is-below) in
+        let whole : length (unrank A (b + n) (getD states k 0) (getD left k 0)) ≡ b + n = length-unrank A (b + n) (getD states k 0) (getD left k 0) (p .ahead k (omega arith) lt .is-below) in
+        let sum : length last + length (unrank A b (e .state) (e .left)) ≡ length (last ++ unrank A b (e .state) (e .left)) = sym (length-append last (unrank A b (e .state) (e .left))) in
+        omega arith
+
     abbrev from : ℕ
     from = k * h + at
 
-    abbrev after : List ℕ
-    after = take from out ++ (last ++ drop n (drop from out))
+    abbrev written : List ℕ
+    written = take from out ++ (last ++ drop n (drop from out))
 
     own-end : k * h + h ≤ length out
     own-end = omega (arith, place-below k (length is) h lt)
@@ -84,11 +97,11 @@ module _ (A : Automaton) (x h : ℕ) (is : List ℕ) (at n b : ℕ) where
     room = omega (arith, own-end)
 
     beside : (j : ℕ) → j ≢ k → (i at b : ℕ) → at ≤ h → Begun A x h i at b (getD states j 0) (getD left j 0) (j * h) out
-        → Begun A x h i at b (getD (set states k (e .state)) j 0) (getD (set left k (e .left)) j 0) (j * h) after
+        → Begun A x h i at b (getD (set states k (e .state)) j 0) (getD (set left k (e .left)) j 0) (j * h) written
     beside j ne i at' b' le is' =
-        rw (getD-set-other states k j (e .state) 0 ne, getD-set-other left k j (e .left) 0 ne) (begun-beside A x h i at' b' (getD states j 0) (getD left j 0) (j * h) out after (λ m l. same m l (split k j)) is')
+        rw (getD-set-other states k j (e .state) 0 ne, getD-set-other left k j (e .left) 0 ne) (begun-beside A x h i at' b' (getD states j 0) (getD left j 0) (j * h) out written (λ m l. same m l (split k j)) is')
       where
-        same : (m : ℕ) → m < at' → (k ≤ j) ⊎ (j < k) → getD after (j * h + m) 0 ≡ getD out (j * h + m) 0
+        same : (m : ℕ) → m < at' → (k ≤ j) ⊎ (j < k) → getD written (j * h + m) 0 ≡ getD out (j * h + m) 0
         same m l (inl kj) = splice-past out last from n 0 room long (j * h + m) (omega (arith, place-below k j h (next kj ne)))
           where
             next : k ≤ j → j ≢ k → k < j
@@ -99,14 +112,28 @@ module _ (A : Automaton) (x h : ℕ) (is : List ℕ) (at n b : ℕ) where
                 go (inr q) = q
         same m l (inr jk) = splice-before out last from n 0 room long (j * h + m) (omega (arith, place-below j k h jk))
 
-    done-more : (j : ℕ) → (j ≡ k) ⊎ (j < k) → Begun A x h (getD is j 0) (at + n) b (getD (set states k (e .state)) j 0) (getD (set left k (e .left)) j 0) (j * h) after
+    done-more : (j : ℕ) → (j ≡ k) ⊎ (j < k) → Begun A x h (getD is j 0) (at + n) b (getD (set states k (e .state)) j 0) (getD (set left k (e .left)) j 0) (j * h) written
     done-more j (inl q) =
         rw (q, getD-set-same states k (e .state) 0 some, getD-set-same left k (e .left) 0 some-left)
         (begun-more A x h (getD is k 0) at b n (getD states k 0) (getD left k 0) (k * h) out last e long room (p .ahead k (omega arith) lt) part)
     done-more j (inr l) = beside j (λ q. omega arith) (getD is j 0) (at + n) b within (p .done j l)
 
-    pub passed-more : Passed A x h is at n b (k + 1) (set states k (e .state)) (set left k (e .left)) after
-    passed-more = record {
+    next : Passed A x h is at n b (k + 1) (set states k (e .state)) (set left k (e .left)) written
+    next = record {
       done = λ j l. done-more j (eq-or-lt-of-le (omega arith));
       ahead = λ j le l. beside j (λ q. omega arith) (getD is j 0) at (b + n) (omega arith) (p .ahead j (omega arith) l);
     }
+
+    pub passed-more : (d : List ℕ) → Past (length is * h) d out → Passed A x h is at n b (k + 1) (set states k (e .state)) (set left k (e .left)) (take from out ++ (last ++ drop w (drop from out)))
+        × Past (length is * h) d (take from out ++ (last ++ drop w (drop from out)))
+    unfolding Past
+    passed-more d past = rw w-is (next, λ i le. splice-past out last from n 0 room long i (omega (arith, place-below k (length is) h lt)) ∙ past i le)
+
+-- a state told is stored
+pub states-set : (p m k v : ℕ) (states : List ℕ) → v < p → k < length states → StatesBelow p m states → StatesBelow p m (set states k v)
+unfolding StatesBelow
+states-set p m k v states lt some all j l = go (ℕ-discrete j k)
+  where
+    go : Dec (j ≡ k) → getD (set states k v) j 0 < p
+    go (yes e) = rw (e, getD-set-same states k v 0 some) lt
+    go (no n) = rw (getD-set-other states k j v 0 n) (all j l)

@@ -1,99 +1,150 @@
+-- The invariant: the first k scenarios have their next n events, the others are as they were (`Passed`). The part lent is that of scenario k, and lies in its
+-- own h bytes (`passed-more`).
+use mathlib.Core.Path.{_≡_, refl, sym, ap, _∙_, subst}
+use mathlib.Core.List.{List}
+use Prim.Native.Nat.{ℕ, _+_, _-_, _*_, _≤_, _<_}
+use native.Mathlib.Omega.{arith}
+use lib.ListN.{length, getD, length-set}
+use Rattle.automaton.specs.Automaton.{Automaton}
+use Rattle.automaton.specs.Counting.{N}
+use Rattle.counting.specs.Tabled.{Tabled}
+use Rattle.ranking.specs.Ranks.{HoldsRows, Exact}
+use Rattle.ranking.proofs.Walk.{length-part}
+use Rattle.blocks.specs.Blocks.{StatesBelow, Past, AllBegun}
+use Rattle.blocks.proofs.Places.{place-below, past-refl}
+use Rattle.blocks.proofs.Parts.{Passed, passed-none, passed-all, passed-more, states-set}
 use borrow.Author.Needs.{needs}
 use Rattle.blocks.proofs.unrank_parts.Statement.{statement}
 use Rattle.blocks.proofs.unrank_parts.Tie as tie
-use Rattle.blocks.proofs.unrank_parts.Reads as reads
-use Rattle.blocks.proofs.unrank_parts.Lts as lts
-use Rattle.ranking.proofs.unrank.Reads as unrank-reads
 
 abbrev Inv-loop : tie.InvT-loop
-Inv-loop rows table p h at n m states₀ left₀ out₀ k₀ states left out k = ?
+Inv-loop rows table p h at n m states₀ left₀ out₀ k₀ states left out k =
+    (k ≤ m) × (length out ≡ length out₀) × (length states ≡ length states₀) × (length left ≡ length left₀) × StatesBelow p m states
+    × ((A : Automaton) (b x : ℕ) (is : List ℕ) → Tabled A p table → HoldsRows A b n rows → length is ≡ m → AllBegun A x h is at (b + n) states₀ left₀ out₀
+        → Passed A x h is at n b k states left out × Past (length is * h) out₀ out)
 
 abbrev μ-loop : tie.MeasureT-loop
-μ-loop rows table p h at n m states₀ left₀ out₀ k₀ states left out k = ?
+μ-loop rows table p h at n m states₀ left₀ out₀ k₀ states left out k = m - k
 
--- src/lib.rt:54:5
 loop-holds : tie.Need-loop-holds Inv-loop μ-loop
-loop-holds c = search needs
+loop-holds c =
+    let st = c .before .before .before .before in
+    let a = st .args in (
+      omega arith,
+      refl,
+      refl,
+      refl,
+      st .pre .1 .2,
+      λ A b x is tabled holds e all. (passed-none A x (a .h) is (a .at) (a .n) b (a .states .now) (a .left .now) (a .out .now) all, past-refl _ (a .out .now)),
+    )
 
--- src/lib.rt:56:20
 mul-from : tie.Need-mul-from Inv-loop μ-loop
-mul-from c = search needs
+mul-from c =
+    let st = c .before .before .before .before .before .before in
+    omega (arith, place-below (c .before .loop .k) (st .args .m) (st .args .h) (c .loop-test .taken))
 
--- src/lib.rt:56:20
 add-from : tie.Need-add-from Inv-loop μ-loop
-add-from c = search needs
+add-from c =
+    let st = c .before .before .before .before .before .before in
+    omega (arith, place-below (c .before .loop .k) (st .args .m) (st .args .h) (c .loop-test .taken))
 
--- src/lib.rt:57:49
 mul-unrank : tie.Need-mul-unrank Inv-loop μ-loop
 mul-unrank c = search needs
 
--- src/lib.rt:57:49
-element-copy-out-unrank : tie.Need-element-copy-out-unrank Inv-loop μ-loop
-element-copy-out-unrank c = search needs
+slice-read-unrank : tie.Need-slice-read-unrank Inv-loop μ-loop
+slice-read-unrank c = search needs
 
--- src/lib.rt:57:60
 mul-unrank-2 : tie.Need-mul-unrank-2 Inv-loop μ-loop
 mul-unrank-2 c = search needs
 
--- src/lib.rt:57:60
-element-copy-out-unrank-2 : tie.Need-element-copy-out-unrank-2 Inv-loop μ-loop
-element-copy-out-unrank-2 c = search needs
+slice-read-unrank-2 : tie.Need-slice-read-unrank-2 Inv-loop μ-loop
+slice-read-unrank-2 c = search needs
 
--- src/lib.rt:57:84
 add-unrank : tie.Need-add-unrank Inv-loop μ-loop
-add-unrank c = search needs
+add-unrank c =
+    let st = c .before .before .before .before .before .before .before .before in
+    omega (arith, place-below (c .before .before .before .loop .k) (st .args .m) (st .args .h) (c .before .before .loop-test .taken))
 
--- src/lib.rt:57:69
 sub-unrank : tie.Need-sub-unrank Inv-loop μ-loop
 sub-unrank c = search needs
 
--- src/lib.rt:57:69
 part-unrank-start : tie.Need-part-unrank-start Inv-loop μ-loop
 part-unrank-start c = search needs
 
--- src/lib.rt:57:69
 part-unrank-end : tie.Need-part-unrank-end Inv-loop μ-loop
-part-unrank-end c = search needs
+part-unrank-end c =
+    let st = c .before .before .before .before .before .before .before .before in
+    omega (arith, place-below (c .before .before .before .loop .k) (st .args .m) (st .args .h) (c .before .before .loop-test .taken))
 
--- src/lib.rt:57:13
 unrank-requires : tie.Need-unrank-requires Inv-loop μ-loop
-unrank-requires c κs = search needs
+unfolding StatesBelow
+unrank-requires c κs =
+    let st = c .before .before .before .before .before .before .before .before .before in
+    let lp = c .before .before .before .before .loop in
+    let lt = c .before .before .before .loop-test .taken in
+    let own = place-below (lp .k) (st .args .m) (st .args .h) lt in
+    (omega arith, lp .inv .4 (lp .k) lt, rw (length-part (lp .out) (lp .k * st .args .h + st .args .at) (st .args .n) (omega arith)) (omega arith))
 
--- src/lib.rt:58:9
 mul-states : tie.Need-mul-states Inv-loop μ-loop
 mul-states c = search needs
 
--- src/lib.rt:58:9
-element-write-states : tie.Need-element-write-states Inv-loop μ-loop
-element-write-states c = search needs
+slice-write-states : tie.Need-slice-write-states Inv-loop μ-loop
+slice-write-states c = search needs
 
--- src/lib.rt:59:9
 mul-left : tie.Need-mul-left Inv-loop μ-loop
 mul-left c = search needs
 
--- src/lib.rt:59:9
-element-write-left : tie.Need-element-write-left Inv-loop μ-loop
-element-write-left c = search needs
+slice-write-left : tie.Need-slice-write-left Inv-loop μ-loop
+slice-write-left c = search needs
 
--- src/lib.rt:54:9
 add-k : tie.Need-add-k Inv-loop μ-loop
 add-k c = search needs
 
--- src/lib.rt:54:5
 loop-less : tie.Need-loop-less Inv-loop μ-loop
 loop-less c = search needs
 
--- src/lib.rt:54:5
 loop-again : tie.Need-loop-again Inv-loop μ-loop
-loop-again c = search needs
+loop-again c =
+    let st = c .before .before .before .before .before .before .before .before .before .before .before .before in
+    let a = st .args in
+    let lp = c .before .before .before .before .before .before .before .loop in
+    let lt : lp .k < a .m = c .before .before .before .before .before .before .loop-test .taken in
+    let own = place-below (lp .k) (a .m) (a .h) lt in
+    let u = c .before .before .unrank in
+    let from = lp .k * a .h + a .at in
+    let w : from + a .n - from ≡ a .n = omega arith in
+    let q = length-part (lp .out) from (a .n) (omega arith) in (
+      omega arith,
+      c .before .out .given .1 ∙ lp .inv .1,
+      simp length-set (lp .inv .2),
+      simp length-set (lp .inv .3),
+      states-set (a .p) (a .m) (lp .k) (u .result .state) (lp .states) (u .ensures .0) (omega arith) (lp .inv .4),
+      λ A b x is tabled holds e all.
+          let (passed, past) = lp .inv .5 A b x is tabled holds e all in
+          let here = passed .ahead (lp .k) (omega arith) (omega arith) in
+          let exact : Exact A (a .p) b (a .n) (getD (lp .states) (lp .k) 0) (a .table .now) (a .rows .now) = record { tabled = tabled; holds = holds; not-cut-off = here .not-cut-off } in
+          let told = u .ensures .1 A b (subst (λ (r : ℕ). Exact A (a .p) b r (getD (lp .states) (lp .k) 0) (a .table .now) (a .rows .now)) (sym q) exact) (subst (λ (r : ℕ). getD (lp .left) (lp .k) 0 < N A (b + r) (getD (lp .states) (lp .k) 0)) (sym q) (here .is-below)) in
+          passed-more A x (a .h) is (a .at) (a .n) b (lp .k) (lp .states) (lp .left) (lp .out) _ (u .result) (omega arith) (omega arith) (rw e (omega arith)) (omega arith) (omega arith) passed q w told (a .out .now) past,
+    )
 
--- src/lib.rt:38:1
 same-length : tie.Need-same-length Inv-loop μ-loop
 same-length c = search needs
 
--- src/lib.rt:38:1
+same-length-2 : tie.Need-same-length-2 Inv-loop μ-loop
+same-length-2 c = search needs
+
+same-length-3 : tie.Need-same-length-3 Inv-loop μ-loop
+same-length-3 c = search needs
+
 returns : tie.Need-returns Inv-loop μ-loop
-returns c = search needs
+returns c =
+    let a = c .before .before .before .before .before .before .args in
+    let lp = c .before .loop in (
+      lp .inv .4,
+      λ A b x is tabled holds e all.
+          let (passed, past) = lp .inv .5 A b x is tabled holds e all in
+          (passed-all A x (a .h) is (a .at) (a .n) b (lp .k) (lp .states) (lp .left) (lp .out) (omega arith) passed, subst (λ (j : ℕ). Past (j * a .h) (a .out .now) (lp .out)) e past),
+    )
 
 pub unrank-parts-spec : {M : Type 1} → statement M
 unrank-parts-spec =
@@ -105,20 +156,22 @@ unrank-parts-spec =
     mul-from
     add-from
     mul-unrank
-    element-copy-out-unrank
+    slice-read-unrank
     mul-unrank-2
-    element-copy-out-unrank-2
+    slice-read-unrank-2
     add-unrank
     sub-unrank
     part-unrank-start
     part-unrank-end
     unrank-requires
     mul-states
-    element-write-states
+    slice-write-states
     mul-left
-    element-write-left
+    slice-write-left
     add-k
     loop-less
     loop-again
     same-length
+    same-length-2
+    same-length-3
     returns)
