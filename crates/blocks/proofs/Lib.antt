@@ -3,3 +3,4 @@ pub mod Swaps
 pub mod Splices
 pub mod Places
 pub mod Parts
+pub mod Batches

@@ -137,3 +137,7 @@ states-set p m k v states lt some all j l = go (ℕ-discrete j k)
     go : Dec (j ≡ k) → getD (set states k v) j 0 < p
     go (yes e) = rw (e, getD-set-same states k v 0 some) lt
     go (no n) = rw (getD-set-other states k j v 0 n) (all j l)
+
+-- so many events are written, by another sum
+pub begun-at : (A : Automaton) (x h : ℕ) (is : List ℕ) (b : ℕ) (states left out : List ℕ) {at to : ℕ} → at ≡ to → AllBegun A x h is at b states left out → AllBegun A x h is to b states left out
+begun-at A x h is b states left out e all = subst (λ (n : ℕ). AllBegun A x h is n b states left out) e all
