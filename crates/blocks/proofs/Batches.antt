@@ -4,16 +4,15 @@ use mathlib.Core.Logic.{_⊎_, inl, inr}
 use mathlib.Core.List.{List, [], _∷_, _++_, append-nil, append-assoc}
 use Prim.Native.Nat.{ℕ, zero, suc, _+_, _-_, _*_, _≤_, _<_}
 use native.Mathlib.Omega.{arith}
-use native.Mathlib.Numerals.{add-one}
-use native.Mathlib.Nat.{suc-mul, zero-mul, eq-or-lt-of-le}
-use lib.ListN.{length, getD, take, drop, set, length-take, length-drop, length-append, take-append-drop}
-use lib.Seq.{take-add, take-at, drop-drop, ext-getD, getD-take, getD-drop, getD-set-same, getD-set-other}
+use native.Mathlib.Nat.{suc-mul, zero-mul, add-mul, mul-le-mul-right, eq-or-lt-of-le}
+use lib.ListN.{length, getD, take, drop, set, length-take, length-drop, take-append-drop, drop-of-length-le}
+use lib.Seq.{take-add, take-at, drop-at, drop-drop, ext-getD, getD-take, getD-drop, getD-set-same, getD-set-other}
 use Rattle.lists.specs.Lists.{concatMap}
 use Rattle.automaton.specs.Automaton.{Automaton}
 use Rattle.automaton.specs.Counting.{N, most}
 use Rattle.automaton.specs.Ranking.{unrank}
 use Rattle.ranking.specs.Ranks.{IndicesBelow, withScenarios}
-use Rattle.ranking.proofs.Walk.{length-unrank}
+use Rattle.ranking.proofs.Walk.{length-unrank, length-concatMap-sized}
 use Rattle.blocks.specs.Blocks.{Begun, AllBegun, Copied, Past}
 use Rattle.blocks.proofs.Places.{place-below}
 
@@ -63,3 +62,55 @@ module _ (A : Automaton) (x h : ℕ) (is : List ℕ) (below : IndicesBelow (N A 
         ∙ ap (λ (l : List ℕ). l ++ drop (length is * h) after) (blocks-are (unrank A h x) h is after block)
         ∙ ap (λ (l : List ℕ). concatMap (unrank A h x) is ++ l) (ext-getD 0 (drop (length is * h) after) (drop (length is * h) out) (rw (length-drop (length is * h) after, length-drop (length is * h) out, long))
         (λ j l. getD-drop (length is * h) after j 0 ∙ past (length is * h + j) (omega arith) ∙ sym (getD-drop (length is * h) out j 0)))
+
+-- ---- batches one after the other
+
+concatMap-append : (f : ℕ → List ℕ) (l m : List ℕ) → concatMap f (l ++ m) ≡ concatMap f l ++ concatMap f m
+concatMap-append f [] m = refl
+concatMap-append f (i ∷ l) m = ap (λ (w : List ℕ). f i ++ w) (concatMap-append f l m) ∙ sym (append-assoc (f i) (concatMap f l) (concatMap f m))
+
+module _ (A : Automaton) (x h : ℕ) (is : List ℕ) (below : IndicesBelow (N A h x) is) where
+  part-below : (n m : ℕ) → n + m ≤ length is → IndicesBelow (N A h x) (take m (drop n is))
+  unfolding IndicesBelow
+  part-below n m le k lt =
+      let few : length (take m (drop n is)) ≡ m = simp (length-take, length-drop) (omega arith) in
+      rw (getD-take m (drop n is) k 0 (omega arith), getD-drop n is k 0) (below (n + k) (omega arith))
+
+  -- the indices n up to `to` are a batch: its indices are below the count too
+  module _ (n to : ℕ) (le : n ≤ to) (within : to ≤ length is) where
+    abbrev part : List ℕ
+    part = take (to - n) (drop n is)
+
+    pub batch-below : IndicesBelow (N A h x) part
+    batch-below = part-below n (to - n) (omega arith)
+
+    part-long : length part ≡ to - n
+    part-long = simp (length-take, length-drop) (omega arith)
+
+    written-long : (l : List ℕ) → IndicesBelow (N A h x) l → length (concatMap (unrank A h x) l) ≡ length l * h
+    unfolding IndicesBelow
+    written-long l b = length-concatMap-sized (unrank A h x) h l (λ k lt. length-unrank A h x (getD l k 0) (b k lt))
+
+    -- its scenarios follow those before it
+    pub batch-more : (d out last : List ℕ) → to * h ≤ length d → out ≡ concatMap (unrank A h x) (take n is) ++ drop (n * h) d
+        → last ≡ withScenarios A h x part (take (to * h - n * h) (drop (n * h) out))
+        → take (n * h) out ++ (last ++ drop (to * h - n * h) (drop (n * h) out)) ≡ concatMap (unrank A h x) (take to is) ++ drop (to * h) d
+    unfolding withScenarios
+    batch-more d out last room now back =
+        let f = unrank A h x in
+        let few : length (take n is) ≡ n = simp length-take (omega arith) in
+        let len : length (concatMap f (take n is)) ≡ n * h = written-long (take n is) (part-below 0 n (omega arith)) ∙ ap (λ (k : ℕ). k * h) few in
+        let w : take (n * h) out ≡ concatMap f (take n is) = ap (take (n * h)) now ∙ take-at (concatMap f (take n is)) (drop (n * h) d) (n * h) len in
+        let r : drop (n * h) out ≡ drop (n * h) d = ap (drop (n * h)) now ∙ drop-at (concatMap f (take n is)) (drop (n * h) d) (n * h) len in
+        let order : n * h ≤ to * h = mul-le-mul-right h le in
+        let sub : (to - n) * h ≡ to * h - n * h = omega (arith, add-mul n (to - n) h, ap (λ (k : ℕ). k * h) (split-to)) in
+        let none : drop (length part * h) (take (to * h - n * h) (drop (n * h) out)) ≡ [] =
+        drop-of-length-le (take (to * h - n * h) (drop (n * h) out)) {i = length part * h} (rw (part-long, sub, length-take) (omega arith)) in
+        let past : n * h + (to * h - n * h) ≡ to * h = omega arith in
+        let tail : drop (to * h - n * h) (drop (n * h) out) ≡ drop (to * h) d = ap (drop (to * h - n * h)) r ∙ drop-drop (to * h - n * h) (n * h) d ∙ ap (λ (k : ℕ). drop k d) past in
+        let all : concatMap f (take to is) ≡ concatMap f (take n is) ++ concatMap f part =
+        ap (λ (k : ℕ). concatMap f (take k is)) (sym split-to) ∙ ap (concatMap f) (take-add n (to - n) is) ∙ concatMap-append f (take n is) part in
+        rw (back, none, append-nil, tail, w, all) (sym (append-assoc (concatMap f (take n is)) (concatMap f part) (drop (to * h) d)))
+      where
+        split-to : n + (to - n) ≡ to
+        split-to = omega arith
