@@ -56,7 +56,8 @@
  *       `open` where it is no `day`; no monitor by the end
  *    6  P over 1,024                                                             place: line of that monitor
  *    7  h over 1,000
- *    8  cells_len below (h + 1) * P; scratch_len below 2 * draws_len
+ *    8  cells_len below (h + 1) * P, for wandukhai_scenarios_small below
+ *       (h / 16 + 16) * P; scratch_len below 2 * draws_len
  *    9  N is 0: no scenario of this horizon
  *   10  N is 18,446,744,073,709,551,615 or more
  *   11  index not below N                                                        place: position in the list, from 0
@@ -84,6 +85,7 @@ extern "C" {
  * added. A thread needs some more for itself. */
 #define WANDUKHAI_COUNT_STACK 57344
 #define WANDUKHAI_SCENARIOS_STACK 98304
+#define WANDUKHAI_SCENARIOS_SMALL_STACK 98304
 #define WANDUKHAI_INDEX_STACK 57344
 #define WANDUKHAI_SHUFFLE_STACK 4096
 
@@ -101,6 +103,16 @@ uint64_t wandukhai_count(const uint8_t *text, size_t text_len, uint64_t h, uint6
  * place: 0 where served, else the place. */
 uint64_t wandukhai_scenarios(const uint8_t *text, size_t text_len, uint64_t h, const uint64_t *indices, size_t indices_len,
                              uint64_t *cells, size_t cells_len, uint8_t *out, size_t out_len, uint64_t *place);
+
+/* As wandukhai_scenarios, in fewer cells: for long horizons where there is too little memory for all rows. It keeps every sixteenth row and
+ * works the others out when they are wanted. At h 1,000 and P 1,024 it needs 79,872 cells, wandukhai_scenarios 1,025,024. Below h 15 it needs
+ * more than that one, at 15 and 16 as many. Apart from 8 it returns the number and the place, and writes the bytes, that wandukhai_scenarios
+ * does with cells enough.
+ * cells: at least (h / 16 + 16) * P numbers, h / 16 rounded down. Served or refused with 9, 10 or 11, the first (h / 16 + 16) * P hold
+ * anything; the others are kept. After every other refusal all cells are kept.
+ * out, place: as for wandukhai_scenarios. */
+uint64_t wandukhai_scenarios_small(const uint8_t *text, size_t text_len, uint64_t h, const uint64_t *indices, size_t indices_len,
+                                   uint64_t *cells, size_t cells_len, uint8_t *out, size_t out_len, uint64_t *place);
 
 /* Finds the index of a sequence of event bytes; its length is the horizon.
  * cells: as for wandukhai_count, filled after 14 too.

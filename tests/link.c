@@ -1,22 +1,33 @@
-/* Lists the scenarios of a rig in a shuffled order, each with its index and its events. */
+/* Lists the scenarios of a rig in a shuffled order, each with its index and its events; and one of a longer horizon, with fewer rows of cells. */
 #include <stdio.h>
 #include <string.h>
 #include "wandukhai.h"
 
 enum { HORIZON = 3, STATES = 2 * 3, CELLS = (HORIZON + 1) * STATES, MOST = 8 };
+enum { LONG = 40, FEW_CELLS = (LONG / 16 + 16) * STATES };
+
+static void print_scenario(uint64_t index, const uint8_t *events, int h)
+{
+    int k;
+
+    printf("%llu", (unsigned long long)index);
+    for (k = 0; k < h; k++)
+        printf("\t%d", events[k]);
+    printf("\n");
+}
 
 int main(void)
 {
-    /* Two 1s are at least two steps apart, and at most two come. link.rs has a rig of `mon` and `go` lines with the same scenarios. */
+    /* Two 1s are at least two steps apart, and at most two come. link.rs has a rig of `mon` and `go` lines with the same scenarios of three
+     * events, and the same first ones of more. */
     const char *rig = "rig\t2\ngap\t1\t2\nbal\t-2\t0\namp\t1\t-1\n";
     const uint8_t *text = (const uint8_t *)rig;
     const size_t len = strlen(rig);
     /* Draw i is from i to N-1; a real caller draws them at random. */
     const uint64_t draws[MOST] = {4, 2, 4, 3, 4};
-    uint64_t cells[CELLS], scratch[2 * MOST], order[MOST], answer[2], place, index, number;
-    uint8_t events[MOST * HORIZON];
+    uint64_t cells[CELLS], few_cells[FEW_CELLS], scratch[2 * MOST], order[MOST], answer[2], place, index, number;
+    uint8_t events[MOST * HORIZON], long_events[LONG];
     size_t i;
-    int k;
 
     number = wandukhai_count(text, len, HORIZON, cells, CELLS, answer);
     if (number != 0) {
@@ -31,10 +42,10 @@ int main(void)
     for (i = 0; i < answer[0]; i++) {
         if (wandukhai_index(text, len, events + i * HORIZON, HORIZON, cells, CELLS, &index) != 0 || index != order[i])
             return 1;
-        printf("%llu", (unsigned long long)index);
-        for (k = 0; k < HORIZON; k++)
-            printf("\t%d", events[i * HORIZON + k]);
-        printf("\n");
+        print_scenario(index, events + i * HORIZON, HORIZON);
     }
+    if (wandukhai_scenarios_small(text, len, LONG, order, 1, few_cells, FEW_CELLS, long_events, LONG, &place) != 0)
+        return 1;
+    print_scenario(order[0], long_events, LONG);
     return 0;
 }

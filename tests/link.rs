@@ -1,7 +1,11 @@
-//! Lists the scenarios of a rig in a shuffled order, each with its index and its events.
+//! Lists the scenarios of a rig in a shuffled order, each with its index and its events; and one of a longer horizon, with fewer rows of cells.
 extern "C" {
     fn wandukhai_count(text: *const u8, len: usize, h: u64, cells: *mut u64, cells_len: usize, answer: *mut u64) -> u64;
     fn wandukhai_scenarios(
+        text: *const u8, len: usize, h: u64, list: *const u64, list_len: usize,
+        cells: *mut u64, cells_len: usize, out: *mut u8, out_len: usize, place: *mut u64,
+    ) -> u64;
+    fn wandukhai_scenarios_small(
         text: *const u8, len: usize, h: u64, list: *const u64, list_len: usize,
         cells: *mut u64, cells_len: usize, out: *mut u8, out_len: usize, place: *mut u64,
     ) -> u64;
@@ -29,6 +33,17 @@ fn scenarios(text: &[u8], h: u64, list: &[u64], cells: &mut [u64], out: &mut [u8
     if number == 0 { Ok(()) } else { Err((number, place)) }
 }
 
+fn scenarios_small(text: &[u8], h: u64, list: &[u64], cells: &mut [u64], out: &mut [u8]) -> Result<(), (u64, u64)> {
+    let mut place = 0;
+    let number = unsafe {
+        wandukhai_scenarios_small(
+            text.as_ptr(), text.len(), h, list.as_ptr(), list.len(),
+            cells.as_mut_ptr(), cells.len(), out.as_mut_ptr(), out.len(), &mut place,
+        )
+    };
+    if number == 0 { Ok(()) } else { Err((number, place)) }
+}
+
 fn shuffle(n: u64, draws: &[u64], scratch: &mut [u64], out: &mut [u64]) -> Result<(), (u64, u64)> {
     let mut place = 0;
     let number = unsafe {
@@ -37,8 +52,12 @@ fn shuffle(n: u64, draws: &[u64], scratch: &mut [u64], out: &mut [u64]) -> Resul
     if number == 0 { Ok(()) } else { Err((number, place)) }
 }
 
+fn print_scenario(index: u64, events: &[u8]) {
+    println!("{index}{}", events.iter().map(|e| format!("\t{e}")).collect::<String>());
+}
+
 fn main() -> Result<(), (u64, u64)> {
-    // No two 1s together; link.c has a rig of `gap`, `bal` and `amp` lines with the same scenarios.
+    // No two 1s together; link.c has a rig of `gap`, `bal` and `amp` lines with the same scenarios of three events, and the same first ones of more.
     let rig = b"rig\t2\nmon\t2\ngo\t0\t0\t0\ngo\t0\t1\t1\ngo\t1\t0\t0\n";
     let (h, states) = (3, 2);
     let mut cells = vec![0; (h + 1) * states];
@@ -50,8 +69,12 @@ fn main() -> Result<(), (u64, u64)> {
     shuffle(n, &draws, &mut vec![0; 2 * draws.len()], &mut order)?;
     let mut events = vec![0; order.len() * h];
     scenarios(rig, h as u64, &order, &mut cells, &mut events)?;
-    for (index, scenario) in order.iter().zip(events.chunks(h)) {
-        println!("{index}{}", scenario.iter().map(|e| format!("\t{e}")).collect::<String>());
+    for (&index, scenario) in order.iter().zip(events.chunks(h)) {
+        print_scenario(index, scenario);
     }
+    let long = 40;
+    let mut events = vec![0; long];
+    scenarios_small(rig, long as u64, &order[..1], &mut vec![0; (long / 16 + 16) * states], &mut events)?;
+    print_scenario(order[0], &events);
     Ok(())
 }

@@ -8,13 +8,13 @@
 #include <sys/mman.h>
 #include "wandukhai.h"
 
-enum { EVENTS = 16, S = 32, HORIZON = 1000, CELLS = (HORIZON + 1) * S * S, INDICES = 3, DRAWS = 100000 };
+enum { EVENTS = 16, S = 32, HORIZON = 1000, CELLS = (HORIZON + 1) * S * S, FEW_CELLS = (HORIZON / 16 + 16) * S * S };
+enum { INDICES = 2100, DRAWS = 100000 };
 enum { GUARD = 1 << 16, STACK = 1 << 20, PATTERN = 0xA5 };
 
 static char text[65535];
-static uint64_t cells[CELLS], answer[2], draws[DRAWS], scratch[2 * DRAWS], out[DRAWS], number;
+static uint64_t cells[CELLS], answer[2], indices[INDICES], draws[DRAWS], scratch[2 * DRAWS], out[DRAWS], number;
 static uint8_t events[INDICES * HORIZON];
-static const uint64_t indices[INDICES] = {0, HORIZON / 2, HORIZON};
 static uint64_t n;
 
 /* Two monitors of 32 states that admit every event in every state, but none in the last of the first; all the others are marked. In the first
@@ -92,6 +92,12 @@ static void scenarios(void)
     number = wandukhai_scenarios((const uint8_t *)text, strlen(text), HORIZON, indices, INDICES, cells, CELLS, events, sizeof events, answer);
 }
 
+static void scenarios_small(void)
+{
+    number = wandukhai_scenarios_small((const uint8_t *)text, strlen(text), HORIZON, indices, INDICES, cells, FEW_CELLS, events, sizeof events,
+                                       answer);
+}
+
 static void index_of(void)
 {
     number = wandukhai_index((const uint8_t *)text, strlen(text), events, HORIZON, cells, CELLS, answer);
@@ -148,13 +154,16 @@ static int keeps(const char *name, long most, long stated)
 
 int main(void)
 {
-    long counted, listed, found, shuffled;
+    long counted, listed, listed_small, found, shuffled;
     int good = 1;
     size_t i;
 
     write_rig(0);
+    for (i = 0; i < INDICES; i++)
+        indices[i] = (i * 7919) % (HORIZON + 1);
     counted = used(count, 0);
     listed = used(scenarios, 0);
+    listed_small = used(scenarios_small, 0);
     found = used(index_of, 0);
     for (i = 0; i < DRAWS; i++)
         draws[i] = i + (i * 7919) % (DRAWS - i);
@@ -164,6 +173,7 @@ int main(void)
         full[i]();
         counted = more(counted, used(count, 10));
         listed = more(listed, used(scenarios, 10));
+        listed_small = more(listed_small, used(scenarios_small, 10));
         found = more(found, used(index_of, 10));
     }
     n = UINT64_MAX;
@@ -172,6 +182,7 @@ int main(void)
     shuffled = more(shuffled, used(shuffle, 0));
     good &= keeps("wandukhai_count", counted, WANDUKHAI_COUNT_STACK);
     good &= keeps("wandukhai_scenarios", listed, WANDUKHAI_SCENARIOS_STACK);
+    good &= keeps("wandukhai_scenarios_small", listed_small, WANDUKHAI_SCENARIOS_SMALL_STACK);
     good &= keeps("wandukhai_index", found, WANDUKHAI_INDEX_STACK);
     good &= keeps("wandukhai_shuffle", shuffled, WANDUKHAI_SHUFFLE_STACK);
     return good ? 0 : 1;

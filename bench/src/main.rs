@@ -1,9 +1,9 @@
 //! How long the calls take beside plain Rust and plain C on the same input, in the same run: the best of some rounds, taken in turn. Buffers are
-//! lent as the round before left them. Every answer is compared. And how long `gap`, `reply`, `bal` and `day` lines take to read beside the moves they
-//! stand for.
+//! lent as the round before left them. Every answer is compared. And how long the small scenarios call takes beside the other one, and `gap`, `reply`, `bal`
+//! and `day` lines to read beside the moves they stand for.
 mod plain;
 
-use outside::texts::{lower_first, written_out};
+use outside::texts::{lower_first, slow_growth, written_out};
 use outside::{calls, model, random::Random};
 use plain::{prune, read};
 use std::time::Instant;
@@ -14,7 +14,7 @@ fn timed(f: &mut dyn FnMut()) -> f64 {
     start.elapsed().as_secs_f64() * 1e3
 }
 
-/// Prints the best times of ours, plain Rust, plain C and C over our rows in milliseconds, and the ratios of ours to the others.
+/// Prints the best times in milliseconds, and the ratios of the first to the others: of ours, plain Rust, plain C and C over our rows, or of two calls.
 fn row(name: &str, rounds: usize, runs: &mut [&mut dyn FnMut()]) {
     let mut best = vec![f64::MAX; runs.len()];
     for _ in 0..rounds {
@@ -53,24 +53,6 @@ fn dead_path() -> Vec<u8> {
         t += &format!("go\t{s}\t0\t{}\n", s + 1);
     }
     (t + "go\t31\t1\t0\n").into_bytes()
-}
-
-/// Event 15 goes on, event 7 fewer than `levels` times in all; the other monitors turn round with both. Few counts are large.
-fn slow_growth(levels: u64, others: &[u64]) -> Vec<u8> {
-    let mut t = format!("rig\t16\nmon\t{levels}\n");
-    for s in 0..levels {
-        t += &format!("go\t{s}\t15\t{s}\n");
-        if s + 1 < levels {
-            t += &format!("go\t{s}\t7\t{}\n", s + 1);
-        }
-    }
-    for &states in others {
-        t += &format!("mon\t{states}\n");
-        for s in 0..states {
-            t += &format!("go\t{s}\t15\t{}\ngo\t{s}\t7\t{}\n", (s + 1) % states, (s + 5) % states);
-        }
-    }
-    t.into_bytes()
 }
 
 fn count(name: &str, rounds: usize, t: &[u8], h: usize) {
@@ -143,6 +125,32 @@ fn scenarios(name: &str, t: &[u8], h: usize, list: usize, rng: &mut Random) {
         ],
     );
     assert!(i == j && i == k);
+}
+
+/// The small scenarios call beside the one that keeps all rows.
+fn small(name: &str, rounds: usize, t: &[u8], list: usize, rng: &mut Random) {
+    let h = 1000;
+    let p = read(t).map(|r| prune(&r).states).unwrap();
+    let (mut few, mut all) = (vec![0; model::few_rows(h, p)], vec![0; model::all_rows(h, p)]);
+    let n = calls::count(t, h as u64, &mut all).words[0];
+    let indices: Vec<u64> = (0..list).map(|_| rng.below(n)).collect();
+    let [mut a, mut b] = [(); 2].map(|_| vec![0; list * h]);
+    row(
+        name,
+        rounds,
+        &mut [&mut || assert!(calls::scenarios_small(t, h as u64, &indices, &mut few, &mut a).number == 0), &mut || {
+            assert!(calls::scenarios(t, h as u64, &indices, &mut all, &mut b).number == 0)
+        }],
+    );
+    assert!(a == b);
+}
+
+fn smalls(rng: &mut Random) {
+    println!("\n{:62} {:>10} {:>10} {:21} {:>7}", "scenarios of 1,000 events", "small ms", "all ms", "", "/ all");
+    for (p, t) in [("6", slow_growth(6, &[])), ("192", slow_growth(6, &[32])), ("1,024", slow_growth(8, &[32, 4]))] {
+        small(&format!("20,000 scenarios, sparse, P {p}"), 5, &t, 20_000, rng);
+        small(&format!("one scenario, sparse, P {p}"), 50, &t, 1, rng);
+    }
 }
 
 /// Lines of a listing with the indices 0 to 999, again and again, each with h random events below `most`.
@@ -296,6 +304,7 @@ fn main() {
         false,
     );
     shuffle("shuffle, 10^5 equal draws, against a map", most, vec![most - 1; 100_000], false);
+    smalls(rng);
     readings();
     growths();
 }

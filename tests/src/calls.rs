@@ -1,9 +1,21 @@
-//! Safe wrappers of the four C functions of include/wandukhai.h, and of the line writer's in crate `line_capi`: slices are valid, non-null
+//! Safe wrappers of the five C functions of include/wandukhai.h, and of the line writer's in crate `line_capi`: slices are valid, non-null
 //! also when empty, and don't overlap.
 
 extern "C" {
     fn wandukhai_count(text: *const u8, text_len: usize, h: u64, cells: *mut u64, cells_len: usize, answer: *mut u64) -> u64;
     fn wandukhai_scenarios(
+        text: *const u8,
+        text_len: usize,
+        h: u64,
+        indices: *const u64,
+        indices_len: usize,
+        cells: *mut u64,
+        cells_len: usize,
+        out: *mut u8,
+        out_len: usize,
+        place: *mut u64,
+    ) -> u64;
+    fn wandukhai_scenarios_small(
         text: *const u8,
         text_len: usize,
         h: u64,
@@ -37,7 +49,7 @@ extern "C" {
     fn wandukhai_line(index: u64, events: *const u8, events_len: usize, out: *mut u8, out_len: usize) -> usize;
 }
 
-/// What a function returns and the words it writes beside. Scenarios, Index and Shuffle write one word: the second is 0.
+/// What a function returns and the words it writes beside. Both scenarios calls, Index and Shuffle write one word: the second is 0.
 #[derive(Clone, Copy, Debug, PartialEq, Eq)]
 pub struct Told {
     pub number: u64,
@@ -58,9 +70,11 @@ pub fn count(text: &[u8], h: u64, cells: &mut [u64]) -> Told {
     told::<2>(|answer| unsafe { wandukhai_count(text.as_ptr(), text.len(), h, cells.as_mut_ptr(), cells.len(), answer) })
 }
 
-pub fn scenarios(text: &[u8], h: u64, indices: &[u64], cells: &mut [u64], out: &mut [u8]) -> Told {
+type Scenarios = unsafe extern "C" fn(*const u8, usize, u64, *const u64, usize, *mut u64, usize, *mut u8, usize, *mut u64) -> u64;
+
+fn listed(call: Scenarios, text: &[u8], h: u64, indices: &[u64], cells: &mut [u64], out: &mut [u8]) -> Told {
     told::<1>(|place| unsafe {
-        wandukhai_scenarios(
+        call(
             text.as_ptr(),
             text.len(),
             h,
@@ -73,6 +87,14 @@ pub fn scenarios(text: &[u8], h: u64, indices: &[u64], cells: &mut [u64], out: &
             place,
         )
     })
+}
+
+pub fn scenarios(text: &[u8], h: u64, indices: &[u64], cells: &mut [u64], out: &mut [u8]) -> Told {
+    listed(wandukhai_scenarios, text, h, indices, cells, out)
+}
+
+pub fn scenarios_small(text: &[u8], h: u64, indices: &[u64], cells: &mut [u64], out: &mut [u8]) -> Told {
+    listed(wandukhai_scenarios_small, text, h, indices, cells, out)
 }
 
 pub fn index(text: &[u8], sequence: &[u8], cells: &mut [u64]) -> Told {

@@ -8,7 +8,7 @@ use outside::model::{self, Kind, Monitor};
 use outside::random::Random;
 use outside::rules::{self, admitted, all_marked, in_hours, intervals, steps, within, Chosen, Rule};
 use outside::texts::{self, damage, endless, from_state_0, lower_first, other_bal, other_day, other_marks, other_order, other_rules};
-use outside::texts::{other_start, ruled, text, written_out, wrong_signs, Shape};
+use outside::texts::{other_start, ruled, slow_growth, text, written_out, wrong_signs, Shape};
 use std::collections::{BTreeMap, BTreeSet, HashSet};
 use std::slice::from_ref;
 
@@ -89,20 +89,57 @@ fn count(tally: &mut Tally, rng: &mut Random, t: &[u8], h: u64, cells: usize) ->
     want
 }
 
-fn scenarios(tally: &mut Tally, rng: &mut Random, t: &[u8], h: u64, list: &[u64], cells: usize, out: usize) -> model::Expected {
+/// What a scenarios call tells of a text, a horizon and a list, with cells and output to write to; and what is expected of it, by what they hold before.
+type Listing = fn(&[u8], u64, &[u64], &mut [u64], &mut [u8]) -> Told;
+type Expecting = fn(&[u8], u64, &[u64], &[u64], &[u8]) -> model::Expected;
+
+/// A scenarios call of the library, and what is expected of it.
+struct Call {
+    name: &'static str,
+    library: Listing,
+    expected: Expecting,
+}
+
+const ALL_ROWS: Call = Call { name: "scenarios", library: calls::scenarios, expected: model::scenarios };
+const FEW_ROWS: Call = Call { name: "scenarios_small", library: calls::scenarios_small, expected: model::scenarios_small };
+/// The small scenarios call beside the other one of the library.
+const BESIDE: Call = Call { name: "beside all rows", library: calls::scenarios_small, expected: with_all_rows };
+
+/// What the library tells and writes with cells enough for all rows; the cells as the small scenarios call leaves them.
+fn with_all_rows(t: &[u8], h: u64, list: &[u64], cells: &[u64], out: &[u8]) -> model::Expected {
+    let (rows, states) = (h as usize, model::read(t).expect("a readable text").joint_states());
+    let mut out = out.to_vec();
+    let Told { number, words } = calls::scenarios(t, h, list, &mut vec![0; model::all_rows(rows, states)], &mut out);
+    model::Expected { number, words, cells: cells.to_vec(), free: model::left_free(number, rows, states), out }
+}
+
+/// What a scenarios call is lent: a text, a horizon, a list, and how many cells and bytes of output.
+type Lent<'a> = (&'a [u8], u64, &'a [u64], usize, usize);
+
+/// Compares one scenarios call, and gives back what is expected of it.
+fn listed(tally: &mut Tally, rng: &mut Random, call: &Call, (t, h, list, cells, out): Lent) -> model::Expected {
     let (t, list, was, out_was) = (bytes(t, rng), words(list, rng), noise_words(cells, rng), noise_bytes(out, rng));
     let (t0, list0, mut now, mut out_now) = (t.clone(), list.clone(), was.clone(), out_was.clone());
-    let told = calls::scenarios(t.lent(), h, list.lent(), now.lend(), out_now.lend());
-    let want = model::scenarios(t.lent(), h, list.lent(), was.lent(), out_was.lent());
+    let told = (call.library)(t.lent(), h, list.lent(), now.lend(), out_now.lend());
+    let want = (call.expected)(t.lent(), h, list.lent(), was.lent(), out_was.lent());
     let wrong = told_differs(told, want.number, want.words)
-        .or(named("cells", &now, &was, &want.cells, 0))
+        .or(named("cells", &now, &was, &want.cells, want.free))
         .or(named("output", &out_now, &out_was, &want.out, 0))
         .or(named("list", &list, &list0, list0.lent(), 0))
         .or(named("text", &t, &t0, t0.lent(), 0));
-    tally.note("scenarios", want.number, wrong, || {
-        format!("h {h}, list {:?}, {cells} cells, {out} bytes, {}", list.lent(), shown(t.lent()))
+    tally.note(call.name, want.number, wrong, || {
+        let first = &list.lent()[..list.lent().len().min(20)];
+        format!("h {h}, list of {} {first:?}, {cells} cells, {out} bytes, {}", list.lent().len(), shown(t.lent()))
     });
     want
+}
+
+fn scenarios(tally: &mut Tally, rng: &mut Random, t: &[u8], h: u64, list: &[u64], cells: usize, out: usize) -> model::Expected {
+    listed(tally, rng, &ALL_ROWS, (t, h, list, cells, out))
+}
+
+fn scenarios_small(tally: &mut Tally, rng: &mut Random, t: &[u8], h: u64, list: &[u64], cells: usize, out: usize) -> model::Expected {
+    listed(tally, rng, &FEW_ROWS, (t, h, list, cells, out))
 }
 
 fn index(tally: &mut Tally, rng: &mut Random, t: &[u8], sequence: &[u8], cells: usize) -> model::Expected {
@@ -672,6 +709,47 @@ fn worked(tally: &mut Tally, rng: &mut Random) {
     assert_eq!(model::shuffle(2, &[0, 0], 4, &[0, 0]).0, (15, 1));
 }
 
+/// Worked examples of the small scenarios call: its own need, also where that is more than all rows; 7 before 8, 8 before 12, 12 before the rest.
+fn worked_small(tally: &mut Tally, rng: &mut Random) {
+    use texts::{A, F, LAST, ONE};
+    let two = "rig\t1\nmon\t32\nmon\t32\n".to_string();
+    for (t, h, list, cells, out, number, place) in [
+        (A, 3, &[4, 2, 2][..], 32, 9, 0, 0),
+        (A, 3, &[4, 2, 2], 31, 9, 8, 0),
+        (A, 3, &[4, 2, 2], 8, 9, 8, 0),
+        (A, 0, &[0, 0], 32, 0, 0, 0),
+        (A, 0, &[0, 1], 32, 0, 11, 1),
+        (A, 3, &[], 32, 0, 0, 0),
+        (A, 3, &[], 31, 0, 8, 0),
+        (A, 3, &[0, 1], 32, 5, 12, 0),
+        (A, 3, &[0, 9], 31, 5, 8, 0),
+        (A, 3, &[4, 9, 5], 32, 9, 11, 1),
+        (A, 15, &[1], 32, 15, 0, 0),
+        (A, 16, &[1], 34, 16, 0, 0),
+        (A, 16, &[1], 33, 16, 8, 0),
+        (A, 31, &[1], 34, 31, 0, 0),
+        (A, 32, &[1], 35, 32, 8, 0),
+        (F, 63, &[u64::MAX >> 1], 19, 63, 0, 0),
+        (F, 63, &[1 << 63], 19, 63, 11, 0),
+        (F, 63, &[0], 18, 63, 8, 0),
+        (F, 64, &[u64::MAX], 20, 64, 10, 0),
+        (F, 64, &[u64::MAX], 20, 63, 12, 0),
+        (ONE, 1000, &[0], 78, 1000, 0, 0),
+        (ONE, 1000, &[0], 77, 1000, 8, 0),
+        (ONE, 1001, &[0], 77, 1000, 7, 0),
+        (LAST, 2, &[0], 32, 2, 9, 0),
+        (&two, 1000, &[0], 79_871, 1000, 8, 0),
+        (&two, 1000, &[0], 79_872, 999, 12, 0),
+        (&two, 1000, &[0], 79_872, 1000, 9, 0),
+        (&(two.clone() + "mon\t2\n"), 1001, &[0], 0, 0, 6, 4),
+    ] {
+        let want = scenarios_small(tally, rng, t.as_bytes(), h, list, cells, out);
+        assert_eq!((want.number, want.words[0]), (number, place), "the independent small scenarios of a worked example");
+    }
+    let want = scenarios_small(tally, rng, A.as_bytes(), 3, &[4, 2, 2], 32, 9);
+    assert_eq!(want.out, [1, 0, 1, 0, 1, 0, 0, 1, 0]);
+}
+
 /// A length at, below or above what is needed.
 fn about(rng: &mut Random, need: usize) -> usize {
     match rng.below(12) {
@@ -776,13 +854,13 @@ fn refused(tally: &mut Tally, t: &[u8], number: u64, place: u64) {
     }
 }
 
-/// The three calls on one text, readable or not.
+/// The four calls on one text, readable or not.
 fn calls_on(tally: &mut Tally, rng: &mut Random, t: &[u8]) {
     let h = horizon(rng);
     let rig = model::read(t);
     let states = rig.as_ref().map_or(3, |r| r.joint_states());
     let events = rig.as_ref().map_or(2, |r| r.events as u64);
-    let need = (h.min(1000) as usize + 1) * states;
+    let [need, small] = [model::all_rows, model::few_rows].map(|need| need(h.min(1000) as usize, states));
     let cells = about(rng, need);
     let counted = count(tally, rng, t, h, cells);
     match (&rig, counted.number) {
@@ -832,6 +910,10 @@ fn calls_on(tally: &mut Tally, rng: &mut Random, t: &[u8]) {
     }
     let (cells, out) = (about(rng, need), about(rng, list.len() * h.min(1001) as usize));
     let listed = scenarios(tally, rng, t, h, &list, cells, out);
+    // with numbers of its own, so that all others are as without it
+    let own = &mut rng.clone();
+    let (cells, out) = (about(own, small), about(own, list.len() * h.min(1001) as usize));
+    scenarios_small(tally, own, t, h, &list, cells, out);
     let length = h.min(1001) as usize;
     let mut sequence: Vec<u8> = (0..length).map(|_| rng.below(events) as u8).collect();
     if listed.number == 0 && !list.is_empty() && rng.chance(3, 4) {
@@ -1303,6 +1385,7 @@ fn limits(tally: &mut Tally, rng: &mut Random) {
         assert_eq!((want.number, want.words[0]), (number, word), "the independent count at the limit");
         for i in [0, 1 << 63, u64::MAX - 4, u64::MAX - 3, u64::MAX - 2, u64::MAX - 1, u64::MAX] {
             let want = scenarios(tally, rng, t, 16, &[i, 5], 17 * 17, 32);
+            scenarios_small(tally, rng, t, 16, &[i, 5], 17 * 17, 32);
             let sequence = if want.number == 0 { &want.out[..16] } else { &[15; 16] };
             index(tally, rng, t, sequence, 17 * 17);
         }
@@ -1348,6 +1431,7 @@ fn large(tally: &mut Tally, rng: &mut Random) {
         let n = counted.words[0].max(1);
         let list: Vec<u64> = (0..50).map(|_| rng.below(n)).collect();
         let listed = scenarios(tally, rng, &t, 12, &list, 13 * 1024, 50 * 12);
+        scenarios_small(tally, rng, &t, 12, &list, 16 * 1024, 50 * 12);
         index(tally, rng, &t, &listed.out[..12], 13 * 1024);
         as_moves(tally, rng, &t, 12);
     }
@@ -1375,14 +1459,95 @@ fn large(tally: &mut Tally, rng: &mut Random) {
     scenarios(tally, rng, one, 1000, &repeated[..20], 1001, 20_000);
     scenarios(tally, rng, one, 0, &repeated, 1, 0);
     scenarios(tally, rng, one, 1001, &repeated, 2000, 0);
+    scenarios_small(tally, rng, one, 1000, &repeated[..20], 78, 20_000);
+    scenarios_small(tally, rng, one, 0, &repeated, 16, 0);
+    scenarios_small(tally, rng, one, 1001, &repeated, 2000, 0);
     for over in [65_530usize, 65_535, 65_536, 70_000] {
         for fill in [b'\n', b'0', b'\t', b'g'] {
             let mut t = texts::A.as_bytes().to_vec();
             t.resize(over, fill);
             count(tally, rng, &t, 2, 6);
             scenarios(tally, rng, &t, 2, &[0], 6, 2);
+            scenarios_small(tally, rng, &t, 2, &[0], 32, 2);
             *t.last_mut().unwrap() = b'\n';
             index(tally, rng, &t, &[0, 0], 6);
+        }
+    }
+}
+
+/// Rigs of one to 1,024 joint states, of every kind of monitor, with and without `stop` lines. Many have scenarios at the horizon 1,000, and fewer than
+/// 2^64 - 1; others have too many from some horizon on, or none.
+fn any_rigs(rng: &mut Random) -> Vec<Vec<u8>> {
+    use texts::{A, A_ORDERED, B, B_STOPS, CLASH, DAY, EITHER, F, LAST, ONE, REPLY, SWING};
+    let mut rigs = [A, A_ORDERED, B, B_STOPS, CLASH, DAY, EITHER, F, LAST, ONE, REPLY, SWING].map(|t| t.as_bytes().to_vec()).to_vec();
+    // event 0 comes at most seven times, at least four steps apart, at some steps of the day, and is followed by event 1
+    rigs.push(b"rig\t2\nord\t1\t0\nbal\t-7\t0\namp\t0\t-1\ngap\t0\t4\nreply\t0\t1\t1\t2\nday\t8\nopen\t0\t1\t6\n".to_vec());
+    // the counts of the last state, which no scenario reaches, are soon full
+    let every: String = (0..16).map(|e| format!("go\t2\t{e}\t2\n")).collect();
+    rigs.push(format!("rig\t16\nmon\t3\ngo\t0\t15\t0\ngo\t0\t7\t1\ngo\t1\t15\t1\n{every}").into_bytes());
+    rigs.extend([slow_growth(6, &[]), slow_growth(6, &[32]), slow_growth(8, &[32, 4]), slow_growth(2, &[31, 16])]);
+    for (density, marks, rules) in [(90, 30, 50), (12, 0, 0), (0, 0, 100)] {
+        rigs.push(text(&Shape { events: 16, monitors: vec![32, 32], density, marks, rules }, rng));
+    }
+    for (density, marks, rules) in [(40, 0, 0), (40, 50, 0), (60, 50, 50), (0, 0, 100)] {
+        rigs.push(text(&Shape { events: 3, monitors: vec![5, 4, 3], density, marks, rules }, rng));
+    }
+    rigs
+}
+
+/// So many indices below n, in no order, about every fourth of them one of the earlier.
+fn indices(rng: &mut Random, n: u64, many: usize) -> Vec<u64> {
+    let mut list: Vec<u64> = vec![];
+    for k in 0..many {
+        let index = if k > 0 && rng.chance(1, 4) { *rng.pick(&list) } else { rng.below(n) };
+        list.push(index);
+    }
+    list
+}
+
+/// The lists of `beside`: how many indices they have, and the place of one that isn't below N.
+const LISTS: [(usize, Option<usize>); 16] = [
+    (2100, None),
+    (1025, None),
+    (0, None),
+    (1, None),
+    (512, None),
+    (1023, None),
+    (1024, None),
+    (2048, None),
+    (1, Some(0)),
+    (1024, Some(1023)),
+    (1025, Some(1024)),
+    (1100, Some(0)),
+    (1100, Some(1023)),
+    (1100, Some(1024)),
+    (2100, Some(1500)),
+    (2100, Some(2099)),
+];
+
+/// The small scenarios call beside the other one, at every horizon up to 70 and at 1,000: the same numbers, places and bytes. Most are lent just the cells
+/// needed. At the horizon 1,000 all the lists are tried, else the first two and every third of the others in turn.
+fn beside(tally: &mut Tally, rng: &mut Random) {
+    for t in any_rigs(rng) {
+        let states = model::read(&t).expect("a readable text").joint_states();
+        for h in (0..=70).chain([1000]) {
+            let need = model::few_rows(h, states);
+            let told = calls::count(&t, h as u64, &mut vec![0; model::all_rows(h, states)]);
+            let n = if told.number == 0 { told.words[0] } else { 1 };
+            for (k, (many, wrong)) in LISTS.into_iter().enumerate() {
+                if h == 1000 || k < 2 || (h + k) % 3 == 0 {
+                    let mut list = indices(rng, n, many);
+                    if let Some(at) = wrong {
+                        list[at] = *rng.pick(&[n, n.saturating_add(1), u64::MAX]);
+                    }
+                    listed(tally, rng, &BESIDE, (&t, h as u64, &list, need, many * h));
+                }
+            }
+            let list = indices(rng, n, 3);
+            let (cells, out) = (*rng.pick(&[1, states, 16 * states]), rng.below(40) as usize);
+            listed(tally, rng, &BESIDE, (&t, h as u64, &list, need + cells, 3 * h + out));
+            listed(tally, rng, &BESIDE, (&t, h as u64, &list, need, (3 * h).saturating_sub(1)));
+            scenarios_small(tally, rng, &t, h as u64, &list, need - 1, 3 * h);
         }
     }
 }
@@ -1492,10 +1657,14 @@ fn main() {
     shuffles(&mut tally, rng, 200_000);
     limits(&mut tally, rng);
     large(&mut tally, rng);
+    worked_small(&mut tally, rng);
+    beside(&mut tally, rng);
     lines(&mut tally, rng);
     for (call, numbers) in [
         ("count", &[0u64, 1, 2, 3, 4, 5, 6, 7, 8, 9, 10, 16, 17, 18][..]),
         ("scenarios", &[0, 1, 2, 3, 4, 5, 6, 7, 8, 9, 10, 11, 12, 16, 17, 18]),
+        ("scenarios_small", &[0, 1, 2, 3, 4, 5, 6, 7, 8, 9, 10, 11, 12, 16, 17, 18]),
+        ("beside all rows", &[0, 9, 10, 11, 12]),
         ("index", &[0, 1, 2, 3, 4, 5, 6, 7, 8, 9, 10, 13, 14, 16, 17, 18]),
         ("shuffle", &[0, 8, 12, 15]),
         ("line", &[0]),

@@ -1,5 +1,6 @@
 //! Pseudo-random numbers with a fixed seed (xorshift64*).
 
+#[derive(Clone)]
 pub struct Random(u64);
 
 impl Random {

@@ -112,6 +112,24 @@ pub fn ruled(rules: &[Rule], order: &[usize]) -> Vec<u8> {
     format!("rig\t{}\n{}{lines}", order.len(), ord(order)).into_bytes()
 }
 
+/// Event 15 goes on, event 7 fewer than `levels` times in all; the other monitors turn round with both. Few counts are large.
+pub fn slow_growth(levels: u64, others: &[u64]) -> Vec<u8> {
+    let mut t = format!("rig\t16\nmon\t{levels}\n");
+    for s in 0..levels {
+        t += &format!("go\t{s}\t15\t{s}\n");
+        if s + 1 < levels {
+            t += &format!("go\t{s}\t7\t{}\n", s + 1);
+        }
+    }
+    for &states in others {
+        t += &format!("mon\t{states}\n");
+        for s in 0..states {
+            t += &format!("go\t{s}\t15\t{}\ngo\t{s}\t7\t{}\n", (s + 1) % states, (s + 5) % states);
+        }
+    }
+    t.into_bytes()
+}
+
 /// The second field of a line, or 2 where that is no number.
 fn first_number(line: &[u8]) -> u64 {
     String::from_utf8_lossy(line).trim_end().split('\t').nth(1).and_then(|n| n.parse().ok()).unwrap_or(2)
