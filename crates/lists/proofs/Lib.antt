@@ -13,3 +13,4 @@ pub mod Permutations
 pub mod Blocks
 pub mod Fronts
 pub mod Decimal
+pub mod Splices

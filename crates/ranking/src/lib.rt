@@ -74,7 +74,14 @@ pub fn choose_event(cells: &[u64], table: &[u16; 16384], p: usize, x: usize, i: 
 
 // Writes the next events of the scenario of index i from x, as many as the part lent has bytes, and tells where it ended. The cells begin with
 // the rows of what is left after each of these events, the last event's first.
-pub fn unrank(cells: &[u64], table: &[u16; 16384], p: usize, x: usize, i: u64, out: &mut [u8]) -> Rest
+pub fn unrank(
+    cells: &[u64],
+    table: &[u16; 16384],
+    p: usize,
+    x: usize,
+    i: u64,
+    out: &mut [u8],
+) -> Rest
     requires { ⌜ (p ≤ 1024) × (x < p) × (length (now out) * p ≤ length (now cells)) ⌝ }
     ensures { λ e. ⌜ e .state < p ⌝ }
     ensures { λ e. ⌜ UnrankedBy (now (table .entry)) (now (cells .entry)) p x i (now (out .entry)) (now (out .exit)) e ⌝ }

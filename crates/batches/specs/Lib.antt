@@ -1,0 +1,2 @@
+-- How far a batch of scenarios is written.
+pub mod Batches

@@ -1,2 +1,0 @@
--- What is kept of the rows, and how far a batch of scenarios is written.
-pub mod Blocks

@@ -1,0 +1,2 @@
+-- What is kept of the rows.
+pub mod Keeping
