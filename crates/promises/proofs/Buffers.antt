@@ -26,7 +26,7 @@ use Rattle.automaton.proofs.Shuffle.{length-shuffle}
 use Rattle.promises.specs.Answer.{Answer, served, refused, Served, unless}
 use Rattle.promises.specs.Text.{Readable, Fault, Case7, Case8, Case12, jointStates}
 use Rattle.promises.specs.Rig.{rigAutomaton, start}
-use Rattle.promises.specs.Calls.{row, rows, filled, fills, cellsAfter, outputAfter, unlessAt, sized, total, counted, count, countCells, scenarios, scenariosCells, written, index, indexCells, shuffle, shuffled, ScratchKept}
+use Rattle.promises.specs.Calls.{row, rows, filled, fills, cellsAfter, outputAfter, unlessAt, sizedFor, sized, total, counted, count, countCells, scenarios, scenariosCells, written, index, indexCells, shuffle, shuffled, ScratchKept}
 use Rattle.promises.specs.Refusals.{Sized}
 use Rattle.promises.specs.Buffers.{Fills, CellsLeft, OutputLeft, ScratchLeft, Buffers}
 use Rattle.promises.proofs.Reading.{readable-said, fault-said, fault-number, readable-or-fault}
@@ -102,7 +102,7 @@ fault-fills t n p f = early-fills n p (⊎-elim (λ h. inl (omega arith)) (λ h.
 
 -- whoever fills the cells has passed rows 1 to 8 and 16 to 18
 pub sized-passed : (t : List ℕ) (h : ℕ) (cells : List ℕ) (a : Answer) → fills (sized t h cells a) ≡ true → Sized t h cells
-unfolding sized fills Case7 Case8
+unfolding sizedFor fills Case7 Case8
 sized-passed t h cells a f = go (readable-or-fault t)
   where
     go : Readable t ⊎ ((n : ℕ) × (p : ℕ) × Fault t n p) → Sized t h cells

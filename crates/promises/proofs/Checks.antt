@@ -19,7 +19,7 @@ use Rattle.lists.proofs.Tells.{tells-true, tells-false, tells-lt, tells-le, tel
 use Rattle.automaton.specs.Counting.{most}
 use Rattle.promises.specs.Answer.{Answer, refused, SaysNone, unless}
 use Rattle.promises.specs.Text.{Readable, Case7, Case8, jointStates}
-use Rattle.promises.specs.Calls.{notBelow, firstBadFrom, firstBad, unlessAt, sized, total, counted}
+use Rattle.promises.specs.Calls.{notBelow, firstBadFrom, firstBad, unlessAt, sizedFor, sized, total, counted}
 use Rattle.promises.proofs.Reading.{readable-said}
 
 -- ---- the first bad place of a list
@@ -100,7 +100,7 @@ check-failed n p bad a q = rw q
 -- ---- the rows of the table up to 8, and 9 and 10
 
 pub sized-on : (t : List ℕ) (h : ℕ) (cells : List ℕ) (a : Answer) → Readable t → (Case7 h → ⊥) → (Case8 t h cells → ⊥) → sized t h cells a ≡ a
-unfolding sized Case7 Case8
+unfolding sizedFor Case7 Case8
 sized-on t h cells a r c7 c8 =
     rw (readable-said t r)
     (check-passed 7 0 (ltb 1000 h) _ (tells-false (tells-lt 1000 h) c7)

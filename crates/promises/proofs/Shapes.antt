@@ -15,7 +15,7 @@ use Rattle.automaton.specs.Ranking.{rank, firstViolation}
 use Rattle.promises.specs.Text.{Line, monitors, decoded, unended, jointStates}
 use Rattle.promises.specs.Reading.{empty, lineCase, readingFrom, reading}
 use Rattle.promises.specs.Rig.{rigAutomaton, start}
-use Rattle.promises.specs.Calls.{firstBad, unlessAt, sized, total, counted, count, scenarios, index, badDraw, shuffle}
+use Rattle.promises.specs.Calls.{firstBad, unlessAt, sizedFor, sized, total, counted, count, scenarios, index, badDraw, shuffle}
 use Rattle.promises.specs.Generator.{generator}
 use Rattle.promises.specs.Shapes.{Shaped, Shapes}
 
@@ -45,7 +45,7 @@ reading-shaped t = checked 0 1 0 (ltb 65535 (length t)) (readingFrom [] (decoded
 
 module _ (m : ℕ) (a : Answer) (s : Shaped m a) where
   after-sizes : (t : List ℕ) (h : ℕ) (cells : List ℕ) → Shaped m (sized t h cells a)
-  unfolding sized
+  unfolding sizedFor
   after-sizes t h cells =
       following 0 m (reading t) _ (reading-shaped t)
       (checked m 7 0 (ltb 1000 h) _ (λ q e. omega arith) (checked m 8 0 (ltb (length cells) ((h + 1) * jointStates t)) a (λ q e. omega arith) s))
