@@ -83,7 +83,7 @@ at-14 : (A : Automaton) (x : ℕ) (s : List ℕ) → fills (sequenceRow A x s) �
 unfolding fills
 at-14 A x s = case (ltb (firstViolation A x s) (length s)) (λ p. rw p) (λ p. rw p)
 
-module _ (t : List ℕ) (h room : ℕ) (o : Loaded) (op : Loads t h room o) (cells : List ℕ) (l : length cells ≡ room) (e : o .checked ≡ Passed) (is out : List ℕ) where
+module _ (t : List ℕ) (h room : ℕ) (o : Loaded) (op : Loads t (h + 1) h room o) (cells : List ℕ) (l : length cells ≡ room) (e : o .checked ≡ Passed) (is out : List ℕ) where
   -- 12
   pub short-output : ltb (length out) (length is * h) ≡ true → refused 12 0 ≡ scenarios t h is cells out
   unfolding scenarios
@@ -111,7 +111,7 @@ module _ (t : List ℕ) (h room : ℕ) (o : Loaded) (op : Loads t h room o) (cel
     unfolding written
     written-are a after f q = rw (← f, ← op .ready e .automaton, ← op .ready e .starts) q
 
-module _ (t s : List ℕ) (room : ℕ) (o : Loaded) (op : Loads t (length s) room o) (cells : List ℕ) (l : length cells ≡ room) (e : o .checked ≡ Passed) where
+module _ (t s : List ℕ) (room : ℕ) (o : Loaded) (op : Loads t (length s + 1) (length s) room o) (cells : List ℕ) (l : length cells ≡ room) (e : o .checked ≡ Passed) where
   -- 13
   bad-event : (k : ℕ) (a : Answer) → k ≡ firstBad (notBelow (o .rig .events)) s → k < length s → refused 13 k ≡ unlessAt 13 (notBelow (eventsOf (decoded t))) s a
   unfolding unlessAt
