@@ -1,5 +1,6 @@
 // The four calls. Each reads what it is lent, refuses what it can't serve, and ends; none asks anything of its caller.
-use checks::{Checked, Rows};
+use checks::Checked;
+use checks::Rows;
 use ranking::Ranked;
 use rig::Rig;
 use shuffle::Shuffled;

@@ -1,5 +1,6 @@
 // The output of the program `scenarios`, line by line: a cursor that writes the first line with the cells filled once, then the line of each index.
-use checks::{Checked, Rows};
+use checks::Checked;
+use checks::Rows;
 use decoding::Decimal;
 use rig::Rig;
 ghost use mathlib.Core.Path.{_≡_};
