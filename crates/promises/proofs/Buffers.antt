@@ -3,7 +3,7 @@
 -- h bytes stand one after the other. Assumes nothing.
 use mathlib.Core.Path.{_≡_, refl, sym, ap, _∙_, subst}
 use mathlib.Core.Logic.{_⊎_, inl, inr, _↔_, ⊎-elim}
-use mathlib.Core.Bool.{true, false}
+use mathlib.Core.Bool.{Bool, true, false}
 use mathlib.Core.List.{List, [], _∷_, _++_, List·Memᴰ as In, List·Memᴰ·append-cases as in-append, Memᴰ·append-left as in-left}
 use Prim.Native.Nat.{ℕ, suc, _+_, _-_, _*_, _≤_, _<_}
 use native.Mathlib.Omega.{arith}
@@ -12,7 +12,7 @@ use lib.ListN.{length, getD, take, drop, length-append, length-drop, List·getD-
 use lib.Seq.{getD-append-add, getD-drop, ext-getD, take-at}
 use lib.Dec.{ltb, leb, eqb}
 use borrow.Author.Tests.{ltb-false, ne-eqb}
-use Rattle.lists.specs.Lists.{any, concatMap}
+use Rattle.lists.specs.Lists.{pick, any, concatMap}
 use Rattle.lists.proofs.Tests.{contra, case, split}
 use Rattle.lists.proofs.Tells.{tells-true, tells-false, tells-lt, tells-eq}
 use Rattle.lists.proofs.Members.{any-some, any-in}
@@ -153,16 +153,17 @@ fewer-numbers ns ms a never = (
 -- what is said of them is just this, where the answers that fill cells are those served and refused by ns
 pub cells-free : (need : ℕ) (ns : List ℕ) (a : Answer) (cells left : List ℕ) → (fills a ≡ true) ↔ ServedOr ns a → CellsFreed a need cells left ↔ CellsFree need ns a cells left
 unfolding CellsFreed Freed
-cells-free need ns a cells left (told, tell) =
-    case (fills a)
-    (λ q. rw q (
-      λ (long, past). record { long = long; past = past; untouched = λ u. absurd (u (told q)) },
+cells-free need ns a cells left told = go (fills a) told
+  where
+    go : (b : Bool) → (b ≡ true) ↔ ServedOr ns a → pick b ((length left ≡ length cells) × ((k : ℕ) → need ≤ k → getD left k 0 ≡ getD cells k 0)) (left ≡ cells) ↔ CellsFree need ns a cells left
+    go true t = (
+      λ (long, past). record { long = long; past = past; untouched = λ u. absurd (u (t .0 refl)) },
       λ f. (f .long, f .past),
-    ))
-    (λ q. rw q (
+    )
+    go false t = (
       λ e. record { long = ap length e; past = λ k le. ap (λ l. getD l k 0) e; untouched = λ u. e },
-      λ f. f .untouched (λ s. contra (tell s) q),
-    ))
+      λ f. f .untouched (λ s. contra (t .1 s) refl),
+    )
 
 -- ---- the outputs
 

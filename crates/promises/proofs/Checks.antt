@@ -110,6 +110,12 @@ pub sized-on : (t : List ℕ) (h : ℕ) (cells : List ℕ) (a : Answer) → Read
 unfolding Case8
 sized-on t h cells a r c7 c8 = sizedFor-on t (h + 1) h cells a r c7 c8
 
+-- the rows go on alike for two needs that are met
+pub sizedFor-alike : (t : List ℕ) (rows others h : ℕ) (cells enough : List ℕ) (a : Answer) → (length cells < rows * jointStates t → ⊥) → (length enough < others * jointStates t → ⊥)
+    → sizedFor t rows h cells a ≡ sizedFor t others h enough a
+unfolding sizedFor
+sizedFor-alike t rows others h cells enough a c d = rw (tells-false (tells-lt (length cells) (rows * jointStates t)) c, tells-false (tells-lt (length enough) (others * jointStates t)) d)
+
 -- ---- a number that is never said
 
 -- m is not the number of the refusal a

@@ -1,7 +1,7 @@
 -- The call of the small bench owes what its request says.
 -- Why: with cells enough for its own need it is Scenarios with cells enough for that call's, as both go on alike after row 8; and it never says 14.
 -- Assumes nothing.
-use mathlib.Core.Path.{_≡_, sym, subst}
+use mathlib.Core.Path.{_≡_, sym, ap, subst}
 use mathlib.Core.Logic.{_↔_}
 use mathlib.Core.Bool.{true}
 use mathlib.Core.List.{List, [], _∷_, List·Memᴰ·eq-of-singleton as in-one}
@@ -16,11 +16,11 @@ use Rattle.automaton.specs.Ranking.{unrank}
 use Rattle.promises.specs.Answer.{served, Served}
 use Rattle.promises.specs.Text.{Case7, Case8, jointStates}
 use Rattle.promises.specs.Rig.{rigAutomaton, start}
-use Rattle.promises.specs.Calls.{fills, firstBad, unlessAt, sizedFor, total, counted, listRows, scenarios, written}
+use Rattle.promises.specs.Calls.{fills, outputAfter, firstBad, unlessAt, sizedFor, total, counted, listRows, scenarios, written}
 use Rattle.promises.specs.Buffers.{ServedOr}
 use Rattle.promises.specs.Small.{smallRows, smallNeed, small, smallOutput, Case8·small, SmallOwed}
 use Rattle.promises.proofs.Reading.{readable-said, fault-said}
-use Rattle.promises.proofs.Checks.{Avoids, avoids-check, avoids-served, avoids-sized}
+use Rattle.promises.proofs.Checks.{check-failed, sizedFor-alike, Avoids, avoids-check, avoids-served, avoids-sized}
 use Rattle.promises.proofs.Buffers.{fills-told, served-fills, sizedFor-passed, fewer-numbers, cells-free, output-left, fresh-listed}
 use Rattle.promises.proofs.Shapes.{list-shaped}
 
@@ -46,8 +46,8 @@ module _ (t : List ℕ) (h : ℕ) (is cells out : List ℕ) where
       (λ q. fewer .0 (told .0 q), λ s. told .1 (fewer .1 s))
 
   same : (Case8·small t h cells → ⊥) → (enough : List ℕ) → (Case8 t h enough → ⊥) → small t h is cells out ≡ scenarios t h is enough out
-  unfolding small scenarios sizedFor smallRows Case8·small Case8
-  same c enough c8 = rw (tells-false (tells-lt (length cells) ((h / 16 + 16) * jointStates t)) c, tells-false (tells-lt (length enough) ((h + 1) * jointStates t)) c8)
+  unfolding small scenarios smallRows Case8·small Case8
+  same c enough c8 = sizedFor-alike t (smallRows h) (h + 1) h cells enough (listRows t h is out) c c8
 
   fresh : Served (small t h is cells out) → (length (concatMap (unrank (rigAutomaton t) h (start t)) is) ≡ length is * h) × (length is * h ≤ length out)
   unfolding Case8·small Case8
@@ -64,10 +64,10 @@ unfolding Case7 Case8·small
 small-owed t h is cells out = record {
   text = λ n p f. unfold small sizedFor in (rw (fault-said t n p f));
   seven = λ r c. unfold small sizedFor in (rw (readable-said t r, tells-true (tells-lt 1000 h) c));
-  eight = λ r c7 c. unfold small sizedFor smallRows in (rw (readable-said t r, tells-false (tells-lt 1000 h) c7, tells-true (tells-lt (length cells) ((h / 16 + 16) * jointStates t)) c));
+  eight = λ r c7 c. unfold small sizedFor smallRows in (rw (readable-said t r, tells-false (tells-lt 1000 h) c7) (check-failed 8 0 (ltb (length cells) (smallRows h * jointStates t)) _ (tells-true (tells-lt (length cells) (smallRows h * jointStates t)) c)));
   as-scenarios = same t h is cells out;
-  same-bytes = λ c enough c8. unfold smallOutput written in (rw (same t h is cells out c enough c8));
+  same-bytes = λ c enough c8. unfold smallOutput written in (ap (λ a. outputAfter a (concatMap (unrank (rigAutomaton t) h (start t)) is) out) (same t h is cells out c enough c8));
   output-left = unfold smallOutput in output-left (length is * h) (small t h is cells out) _ out (fresh t h is cells out);
-  cells-left = λ left. unfold smallNeed smallRows in cells-free ((h / 16 + 16) * jointStates t) (9 ∷ 10 ∷ 11 ∷ []) (small t h is cells out) cells left (frees t h is cells out);
+  cells-left = λ left. unfold smallNeed smallRows in cells-free (smallNeed t h) (9 ∷ 10 ∷ 11 ∷ []) (small t h is cells out) cells left (frees t h is cells out);
   shaped = unfold small in list-shaped t (smallRows h) h is cells out;
 }
