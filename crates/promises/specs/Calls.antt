@@ -3,7 +3,8 @@
 --   firstBad bad l     == the position of the first number of l that `bad` holds of, given the position too; the length where there is none
 --   row A r, rows A n  == the cells of one r, and of every r below n
 --   filled A h cells   == the cells filled for the horizon h, the others as they were
---   Freed need cells left, CellsFreed a need cells left == the first `need` cells are free, the others as they were; so after the answer a, else all are
+--   Freed need cells left        == the first `need` cells are left free, the others are as they were
+--   CellsFreed a need cells left == so after an answer that fills cells; after any other all are as they were
 --   sizeRows, countRows, indicesRow, sequenceRow == the rows 7 and 8; 9 and 10; 11; 14 of the table of refusals
 --   sizedFor t rows h cells a == a after the rows up to 8, with cells for so many rows; sized t h cells a == with cells for all rows up to h
 --   listRows t h is out == what a call that lists scenarios tells from row 12 on
@@ -67,7 +68,7 @@ cellsAfter a A h cells = pick (fills a) (filled A h cells) cells
 unfoldable pub Freed : ℕ → List ℕ → List ℕ → Type 0
 Freed need cells left = (length left ≡ length cells) × ((k : ℕ) → need ≤ k → getD left k 0 ≡ getD cells k 0)
 
--- 'The needed cells are left free when served and after 9, 10 and 11, untouched after others' (02 no. 8)
+-- 'The needed cells are left free when served and after 9, 10 and 11, untouched after others' (02 no. 8); a call that frees cells never says 14
 unfoldable pub CellsFreed : Answer → ℕ → List ℕ → List ℕ → Type 0
 CellsFreed a need cells left = pick (fills a) (Freed need cells left) (left ≡ cells)
 
