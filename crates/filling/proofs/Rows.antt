@@ -1,7 +1,7 @@
 -- Rows 1 to 10 as a whole call sees them: what a refusal up to 8 leaves, what the start's cell tells, and that what is counted of the record is
 -- counted of the text. Assumes nothing.
 use mathlib.Core.Path.{_≡_, refl, sym, ap, _∙_}
-use mathlib.Core.Bool.{true}
+use mathlib.Core.Bool.{true, false}
 use mathlib.Core.List.{List, [], _∷_}
 use Prim.Native.Nat.{ℕ, _+_, _*_, _≤_, _<_, min}
 use native.Mathlib.Omega.{arith}
@@ -16,7 +16,7 @@ use Rattle.automaton.specs.Counting.{N, most, cell}
 use Rattle.rig.specs.Record.{recordAutomaton}
 use Rattle.promises.specs.Answer.{Answer, served, refused}
 use Rattle.promises.specs.Rig.{rigAutomaton}
-use Rattle.promises.specs.Calls.{countRows, countFrom, filled, fills, cellsAfter, outputAfter, sized, total, counted, count, countCells}
+use Rattle.promises.specs.Calls.{countRows, countFrom, filled, fills, cellsAfter, Freed, CellsFreed, outputAfter, sizedFor, total, counted, count, countCells}
 use Rattle.promises.proofs.Buffers.{filled-at}
 use Rattle.checks.specs.Loading.{checkedOr, Ready, Loads}
 use Rattle.checks.specs.declared.Checked.{Checked}
@@ -83,32 +83,28 @@ cell-room h p x n lt le = omega (arith, suc-mul h p, ap (λ (i : ℕ). i * p) (a
 
 -- ---- rows 1 to 8 and 16 to 18, as the whole call sees them
 
-module _ (t : List ℕ) (h room : ℕ) (o : Loaded) (op : Loads t h room o) (cells : List ℕ) (l : length cells ≡ room) where
+module _ (t : List ℕ) {rows : ℕ} (h room : ℕ) (o : Loaded) (op : Loads t rows h room o) (cells : List ℕ) (l : length cells ≡ room) where
   -- one of them applied: its refusal is the answer, and the cells are as before
-  pub early-answer : (m p : ℕ) → o .checked ≡ Refused m p → (a : Answer) → refused m p ≡ sized t h cells a
+  pub early-answer : (m p : ℕ) → o .checked ≡ Refused m p → (a : Answer) → refused m p ≡ sizedFor t rows h cells a
   early-answer m p e a = sym (op .answer cells a l ∙ ap (λ (k : Checked). checkedOr k a) e)
 
-  pub early-cells : (m p : ℕ) → o .checked ≡ Refused m p → (a : Answer) (A : Automaton) → cells ≡ cellsAfter (sized t h cells a) A h cells
+  pub early-cells : (m p : ℕ) → o .checked ≡ Refused m p → (a : Answer) (A : Automaton) → cells ≡ cellsAfter (sizedFor t rows h cells a) A h cells
   unfolding cellsAfter
   early-cells m p e a A = rw (← early-answer m p e a, op .untouched m p e)
 
-  pub early-output : (m p : ℕ) → o .checked ≡ Refused m p → (a : Answer) (fresh out : List ℕ) → out ≡ outputAfter (sized t h cells a) fresh out
+  pub early-output : (m p : ℕ) → o .checked ≡ Refused m p → (a : Answer) (fresh out : List ℕ) → out ≡ outputAfter (sizedFor t rows h cells a) fresh out
   unfolding outputAfter
   early-output m p e a fresh out = rw (← early-answer m p e a)
 
-  pub early-count : (m p : ℕ) → o .checked ≡ Refused m p → refused m p ≡ count t h cells
-  unfolding count
-  early-count m p e = early-answer m p e _
-
-  pub early-count-cells : (m p : ℕ) → o .checked ≡ Refused m p → cells ≡ countCells t h cells
-  unfolding countCells count
-  early-count-cells m p e = early-cells m p e _ _
+  pub early-freed : (m p : ℕ) → o .checked ≡ Refused m p → (a : Answer) (need : ℕ) → CellsFreed (sizedFor t rows h cells a) need cells cells
+  unfolding CellsFreed
+  early-freed m p e a need = rw (← early-answer m p e a, op .untouched m p e)
 
   module _ (e : o .checked ≡ Passed) where
-    pub passed-answer : (a : Answer) → sized t h cells a ≡ a
+    pub passed-answer : (a : Answer) → sizedFor t rows h cells a ≡ a
     passed-answer a = op .answer cells a l ∙ ap (λ (k : Checked). checkedOr k a) e
 
-    ready : Ready t h room (o .rig) (o .states) (o .start)
+    ready : Ready t rows h room (o .rig) (o .states) (o .start)
     ready = op .ready e
 
     -- rows 9 and 10 on the record's automaton are those on the text's
@@ -121,17 +117,37 @@ module _ (t : List ℕ) (h room : ℕ) (o : Loaded) (op : Loads t h room o) (cel
     total-is = rw (ready .automaton, ready .starts)
 
     -- what fills the cells leaves them as promised
-    pub passed-cells : (a : Answer) (after : List ℕ) → fills a ≡ true → after ≡ filled (recordAutomaton (o .rig)) h cells → after ≡ cellsAfter (sized t h cells a) (rigAutomaton t) h cells
+    pub passed-cells : (a : Answer) (after : List ℕ) → fills a ≡ true → after ≡ filled (recordAutomaton (o .rig)) h cells → after ≡ cellsAfter (sizedFor t rows h cells a) (rigAutomaton t) h cells
     unfolding cellsAfter
     passed-cells a after f q = rw (passed-answer a, f, ← ready .automaton) q
 
+    -- and what leaves some free; a refusal that does not touches none
+    pub passed-freed : (a : Answer) (need : ℕ) (after : List ℕ) → fills a ≡ true → Freed need cells after → CellsFreed (sizedFor t rows h cells a) need cells after
+    unfolding CellsFreed
+    passed-freed a need after f w = rw (passed-answer a, f) w
+
+    pub passed-untouched : (a : Answer) (need : ℕ) → fills a ≡ false → CellsFreed (sizedFor t rows h cells a) need cells cells
+    unfolding CellsFreed
+    passed-untouched a need f = rw (passed-answer a, f)
+
+-- Count, with room for all rows up to h
+module _ (t : List ℕ) (h room : ℕ) (o : Loaded) (op : Loads t (h + 1) h room o) (cells : List ℕ) (l : length cells ≡ room) where
+  pub early-count : (m p : ℕ) → o .checked ≡ Refused m p → refused m p ≡ count t h cells
+  unfolding count
+  early-count m p e = early-answer t h room o op cells l m p e _
+
+  pub early-count-cells : (m p : ℕ) → o .checked ≡ Refused m p → cells ≡ countCells t h cells
+  unfolding countCells count
+  early-count-cells m p e = early-cells t h room o op cells l m p e _ _
+
+  module _ (e : o .checked ≡ Passed) where
     pub count-is : countFrom (recordAutomaton (o .rig)) h (o .start) ≡ count t h cells
     unfolding count
-    count-is = rw (passed-answer, ← ready .automaton, ← total-is) (counted-is _)
+    count-is = rw (passed-answer t h room o op cells l e, ← op .ready e .automaton, ← total-is t h room o op cells l e) (counted-is t h room o op cells l e _)
 
     pub count-cells-are : (after : List ℕ) → after ≡ filled (recordAutomaton (o .rig)) h cells → after ≡ countCells t h cells
     unfolding countCells count counted fills
-    count-cells-are after q = passed-cells (counted t h told) after (countRows-fills (total t h) told refl) q
+    count-cells-are after q = passed-cells t h room o op cells l e (counted t h told) after (countRows-fills (total t h) told refl) q
       where
         told : Answer
         told = served (total t h ∷ passes (rigAutomaton t) ∷ [])

@@ -53,7 +53,7 @@ fn prune_and_fill(rig: Rig, states: usize, h: usize, cells: &mut [u64], table: &
 }
 
 // Rows 9 and 10, by the cell of the start.
-fn check_count(n: u64) -> Checked
+pub fn check_count(n: u64) -> Checked
     ensures { λ c. ⌜ TellsRows n c ⌝ }
 {
     if n == 0 {

@@ -2,7 +2,7 @@
 use mathlib.Core.Path.{_≡_, refl, sym, ap, _∙_}
 use mathlib.Core.Bool.{Bool, true, false, not}
 use mathlib.Core.List.{List, [], _∷_}
-use Prim.Native.Nat.{ℕ, _*_, _≤_, _<_}
+use Prim.Native.Nat.{ℕ, _+_, _*_, _≤_, _<_}
 use native.Mathlib.Omega.{arith}
 use lib.ListN.{length}
 use lib.Dec.{ltb}
@@ -16,7 +16,7 @@ use Rattle.rig.specs.Record.{recordAutomaton}
 use Rattle.promises.specs.Answer.{Answer, served, refused}
 use Rattle.promises.specs.Text.{decoded, eventsOf}
 use Rattle.promises.specs.Rig.{rigAutomaton, start}
-use Rattle.promises.specs.Calls.{notBelow, indicesRow, sequenceRow, filled, fills, cellsAfter, outputAfter, unlessAt, firstBad, total, counted, scenarios, scenariosCells, written, index, indexCells}
+use Rattle.promises.specs.Calls.{notBelow, indicesRow, sequenceRow, filled, fills, cellsAfter, outputAfter, unlessAt, firstBad, sizedFor, total, counted, listRows, scenarios, scenariosCells, written, index, indexCells}
 use Rattle.ranking.specs.Ranks.{rankedAs, withScenarios}
 use Rattle.ranking.proofs.Premises.{served-fresh}
 use Rattle.ranking.proofs.Walk.{good-all}
@@ -83,11 +83,25 @@ at-14 : (A : Automaton) (x : ℕ) (s : List ℕ) → fills (sequenceRow A x s) �
 unfolding fills
 at-14 A x s = case (ltb (firstViolation A x s) (length s)) (λ p. rw p) (λ p. rw p)
 
-module _ (t : List ℕ) (h room : ℕ) (o : Loaded) (op : Loads t h room o) (cells : List ℕ) (l : length cells ≡ room) (e : o .checked ≡ Passed) (is out : List ℕ) where
+-- past 12, a call that lists scenarios fills the cells
+pub list-fills : (t : List ℕ) (h : ℕ) (is out : List ℕ) → length is * h ≤ length out → fills (listRows t h is out) ≡ true
+unfolding counted
+list-fills t h is out fit = rw (le-ltb (length out) (length is * h) fit) (countRows-fills (total t h) _ (at-11 (total t h) is))
+
+-- what it tells, with room for so many rows
+module _ (t : List ℕ) {rows : ℕ} (h room : ℕ) (o : Loaded) (op : Loads t rows h room o) (cells : List ℕ) (l : length cells ≡ room) (e : o .checked ≡ Passed) (is out : List ℕ) where
   -- 12
+  pub list-short : ltb (length out) (length is * h) ≡ true → refused 12 0 ≡ sizedFor t rows h cells (listRows t h is out)
+  list-short q = rw (passed-answer t h room o op cells l e, q)
+
+  module _ (fit : length is * h ≤ length out) where
+    pub list-are : listFrom (recordAutomaton (o .rig)) h (o .start) is ≡ sizedFor t rows h cells (listRows t h is out)
+    list-are = rw (passed-answer t h room o op cells l e, le-ltb (length out) (length is * h) fit, total-is t h room o op cells l e) (rw (← total-is t h room o op cells l e) (counted-is t h room o op cells l e _))
+
+module _ (t : List ℕ) (h room : ℕ) (o : Loaded) (op : Loads t (h + 1) h room o) (cells : List ℕ) (l : length cells ≡ room) (e : o .checked ≡ Passed) (is out : List ℕ) where
   pub short-output : ltb (length out) (length is * h) ≡ true → refused 12 0 ≡ scenarios t h is cells out
   unfolding scenarios
-  short-output q = rw (passed-answer t h room o op cells l e, q)
+  short-output q = list-short t h room o op cells l e is out q
 
   pub short-cells : ltb (length out) (length is * h) ≡ true → cells ≡ scenariosCells t h is cells out
   unfolding scenariosCells cellsAfter fills
@@ -100,18 +114,17 @@ module _ (t : List ℕ) (h room : ℕ) (o : Loaded) (op : Loads t h room o) (cel
   module _ (fit : length is * h ≤ length out) where
     pub scenarios-are : listFrom (recordAutomaton (o .rig)) h (o .start) is ≡ scenarios t h is cells out
     unfolding scenarios
-    scenarios-are = rw (passed-answer t h room o op cells l e, le-ltb (length out) (length is * h) fit, total-is t h room o op cells l e) (rw (← total-is t h room o op cells l e) (counted-is t h room o op cells l e _))
+    scenarios-are = list-are t h room o op cells l e is out fit
 
     pub scenarios-cells-are : (after : List ℕ) → after ≡ filled (recordAutomaton (o .rig)) h cells → after ≡ scenariosCells t h is cells out
-    unfolding scenariosCells scenarios counted
-    scenarios-cells-are after q =
-        passed-cells t h room o op cells l e _ after (rw (le-ltb (length out) (length is * h) fit) (countRows-fills (total t h) _ (at-11 (total t h) is))) q
+    unfolding scenariosCells scenarios
+    scenarios-cells-are after q = passed-cells t h room o op cells l e _ after (list-fills t h is out fit) q
 
     pub written-are : (a : Answer) (after : List ℕ) → a ≡ scenarios t h is cells out → after ≡ outputFrom (recordAutomaton (o .rig)) h (o .start) a is out → after ≡ written t h is cells out
     unfolding written
     written-are a after f q = rw (← f, ← op .ready e .automaton, ← op .ready e .starts) q
 
-module _ (t s : List ℕ) (room : ℕ) (o : Loaded) (op : Loads t (length s) room o) (cells : List ℕ) (l : length cells ≡ room) (e : o .checked ≡ Passed) where
+module _ (t s : List ℕ) (room : ℕ) (o : Loaded) (op : Loads t (length s + 1) (length s) room o) (cells : List ℕ) (l : length cells ≡ room) (e : o .checked ≡ Passed) where
   -- 13
   bad-event : (k : ℕ) (a : Answer) → k ≡ firstBad (notBelow (o .rig .events)) s → k < length s → refused 13 k ≡ unlessAt 13 (notBelow (eventsOf (decoded t))) s a
   unfolding unlessAt

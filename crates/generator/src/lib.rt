@@ -1,5 +1,6 @@
 // The four calls. Each reads what it is lent, refuses what it can't serve, and ends; none asks anything of its caller.
 use checks::Checked;
+use checks::Rows;
 use ranking::Ranked;
 use rig::Rig;
 use shuffle::Shuffled;
@@ -51,7 +52,7 @@ pub fn count(text: &[u8], h: u64, cells: &mut [u64]) -> Counted
     ensures { λ r. ⌜ countAnswer r ≡ promised.count (now (text .entry)) h (now (cells .entry)) ⌝ }
     ensures { λ _. ⌜ now (cells .exit) ≡ promised.countCells (now (text .entry)) h (now (cells .entry)) ⌝ }
 {
-    let o = checks::load(text, h, cells.len());
+    let o = checks::load(text, h, Rows::All, cells.len());
     let checked = o.checked;
     let rig = o.rig;
     match checked {
@@ -96,7 +97,7 @@ pub fn scenarios(text: &[u8], h: u64, list: &[u64], cells: &mut [u64], out: &mut
     ensures { λ _. ⌜ now (cells .exit) ≡ promised.scenariosCells (now (text .entry)) h (now (list .entry)) (now (cells .entry)) (now (out .entry)) ⌝ }
     ensures { λ _. ⌜ now (out .exit) ≡ promised.written (now (text .entry)) h (now (list .entry)) (now (cells .entry)) (now (out .entry)) ⌝ }
 {
-    let o = checks::load(text, h, cells.len());
+    let o = checks::load(text, h, Rows::All, cells.len());
     let checked = o.checked;
     let rig = o.rig;
     match checked {
@@ -138,7 +139,7 @@ pub fn index(text: &[u8], sequence: &[u8], cells: &mut [u64]) -> Indexed
     ensures { λ _. ⌜ now (cells .exit) ≡ promised.indexCells (now (text .entry)) (now (sequence .entry)) (now (cells .entry)) ⌝ }
 {
     let h = sequence.len();
-    let o = checks::load(text, h as u64, cells.len());
+    let o = checks::load(text, h as u64, Rows::All, cells.len());
     let checked = o.checked;
     let rig = o.rig;
     match checked {

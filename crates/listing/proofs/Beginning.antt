@@ -18,7 +18,7 @@ use Rattle.automaton.specs.Ranking.{unrank}
 use Rattle.promises.specs.Answer.{Answer, refused}
 use Rattle.promises.specs.Text.{bytes}
 use Rattle.promises.specs.Rig.{rigAutomaton, start}
-use Rattle.promises.specs.Calls.{countFrom, fills, cellsAfter, sized, count, countCells}
+use Rattle.promises.specs.Calls.{countFrom, fills, cellsAfter, sizedFor, count, countCells}
 use Rattle.ranking.specs.Ranks.{Exact, UnrankedBy}
 use Rattle.ranking.proofs.Premises.{filled-exact}
 use Rattle.ranking.proofs.Walk.{length-unrank}
@@ -116,7 +116,7 @@ given (some h) = 1
 
 -- Count reads of its cells only how many they are
 pub count-room : (t : List ℕ) (h : ℕ) (c d : List ℕ) → length c ≡ length d → count t h c ≡ count t h d
-unfolding count sized
+unfolding count sizedFor
 count-room t h c d q = rw q
 
 owned-long : length owned ≡ 8192

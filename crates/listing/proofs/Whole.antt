@@ -18,7 +18,7 @@ use Rattle.lists.proofs.Tests.{case, split}
 use Rattle.promises.specs.Answer.{refused}
 use Rattle.promises.specs.Text.{same}
 use Rattle.promises.specs.Reading.{reading}
-use Rattle.promises.specs.Calls.{sized, count}
+use Rattle.promises.specs.Calls.{sizedFor, count}
 use Rattle.decoding.proofs.Numbers.{number-long}
 use Rattle.listing.specs.Listing.{firstLine, askedIn, asked, text, owned, answer, headLine, follow, horizon, scenarioLine, listing}
 use Rattle.listing.specs.Printing.{lineAt}
@@ -99,7 +99,7 @@ asked-far input far = go (split (length input) (indexOf input 10))
 
 -- a text over 65,535 bytes
 count-long : (t : List ℕ) (h : ℕ) → 65535 < length t → count t h owned ≡ refused 1 0
-unfolding count sized reading
+unfolding count sizedFor reading
 count-long t h long = rw (lt-ltb 65535 (length t) long)
 
 answer-none : (k : List ℕ) → asked k ≡ none → answer k ≡ refused 2 0

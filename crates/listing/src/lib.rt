@@ -1,5 +1,6 @@
 // The output of the program `scenarios`, line by line: a cursor that writes the first line with the cells filled once, then the line of each index.
 use checks::Checked;
+use checks::Rows;
 use decoding::Decimal;
 use rig::Rig;
 ghost use mathlib.Core.Path.{_≡_};
@@ -139,7 +140,7 @@ fn begin_text(
     ensures { λ c. ⌜ BeginsText (now (text .entry)) h (now (cells .entry)) c (now (line .entry)) (now (line .exit)) (now (cells .exit)) (now (table .exit)) ⌝ }
     ensures { λ _. ⌜ now (cells .exit) ≡ promised.countCells (now (text .entry)) h (now (cells .entry)) ⌝ }
 {
-    let o = checks::load(text, h as u64, cells.len());
+    let o = checks::load(text, h as u64, Rows::All, cells.len());
     let checked = o.checked;
     let rig = o.rig;
     match checked {

@@ -3,8 +3,8 @@
 -- h bytes stand one after the other. Assumes nothing.
 use mathlib.Core.Path.{_≡_, refl, sym, ap, _∙_, subst}
 use mathlib.Core.Logic.{_⊎_, inl, inr, _↔_, ⊎-elim}
-use mathlib.Core.Bool.{true, false}
-use mathlib.Core.List.{List, [], _∷_, _++_, List·Memᴰ as In}
+use mathlib.Core.Bool.{Bool, true, false}
+use mathlib.Core.List.{List, [], _∷_, _++_, List·Memᴰ as In, List·Memᴰ·append-cases as in-append, Memᴰ·append-left as in-left}
 use Prim.Native.Nat.{ℕ, suc, _+_, _-_, _*_, _≤_, _<_}
 use native.Mathlib.Omega.{arith}
 use native.Mathlib.Nat.{suc-mul, mul-le-mul-right}
@@ -12,7 +12,7 @@ use lib.ListN.{length, getD, take, drop, length-append, length-drop, List·getD-
 use lib.Seq.{getD-append-add, getD-drop, ext-getD, take-at}
 use lib.Dec.{ltb, leb, eqb}
 use borrow.Author.Tests.{ltb-false, ne-eqb}
-use Rattle.lists.specs.Lists.{any, concatMap}
+use Rattle.lists.specs.Lists.{pick, any, concatMap}
 use Rattle.lists.proofs.Tests.{contra, case, split}
 use Rattle.lists.proofs.Tells.{tells-true, tells-false, tells-lt, tells-eq}
 use Rattle.lists.proofs.Members.{any-some, any-in}
@@ -26,12 +26,12 @@ use Rattle.automaton.proofs.Shuffle.{length-shuffle}
 use Rattle.promises.specs.Answer.{Answer, served, refused, Served, unless}
 use Rattle.promises.specs.Text.{Readable, Fault, Case7, Case8, Case12, jointStates}
 use Rattle.promises.specs.Rig.{rigAutomaton, start}
-use Rattle.promises.specs.Calls.{row, rows, filled, fills, cellsAfter, outputAfter, unlessAt, sized, total, counted, count, countCells, scenarios, scenariosCells, written, index, indexCells, shuffle, shuffled, ScratchKept}
+use Rattle.promises.specs.Calls.{row, rows, filled, fills, cellsAfter, Freed, CellsFreed, outputAfter, unlessAt, sizedFor, sized, total, counted, count, countCells, scenarios, scenariosCells, written, index, indexCells, shuffle, shuffled, ScratchKept}
 use Rattle.promises.specs.Refusals.{Sized}
-use Rattle.promises.specs.Buffers.{Fills, CellsLeft, OutputLeft, ScratchLeft, Buffers}
+use Rattle.promises.specs.Buffers.{ServedOr, Fills, CellsLeft, CellsFree, OutputLeft, ScratchLeft, Buffers}
 use Rattle.promises.proofs.Reading.{readable-said, fault-said, fault-number, readable-or-fault}
 use Rattle.promises.proofs.Meaning.{rig-states}
-use Rattle.promises.proofs.Checks.{sized-on, counted-none, counted-most}
+use Rattle.promises.proofs.Checks.{Avoids, sized-on, counted-none, counted-most}
 use Rattle.promises.proofs.Answers.{served-below, block-written, scenario-long}
 
 -- ---- the cells, filled
@@ -75,8 +75,8 @@ module _ (A : Automaton) (h : ℕ) (cells : List ℕ) where
 
 -- ---- the answers after which the cells are filled
 
-fills-told : (a : Answer) → (fills a ≡ true) ↔ Fills a
-unfolding fills Fills Served
+pub fills-told : (a : Answer) → (fills a ≡ true) ↔ Fills a
+unfolding fills ServedOr Served
 fills-told (served vs) = (λ q. inl (vs, refl), λ f. refl)
 fills-told (refused n p) = (λ q. inr (n, p, refl, told q), λ f. tell f)
   where
@@ -101,20 +101,24 @@ pub fault-fills : (t : List ℕ) (n p : ℕ) → Fault t n p → fills (refused 
 fault-fills t n p f = early-fills n p (⊎-elim (λ h. inl (omega arith)) (λ h. inr h) (fault-number t n p f))
 
 -- whoever fills the cells has passed rows 1 to 8 and 16 to 18
-pub sized-passed : (t : List ℕ) (h : ℕ) (cells : List ℕ) (a : Answer) → fills (sized t h cells a) ≡ true → Sized t h cells
-unfolding sized fills Case7 Case8
-sized-passed t h cells a f = go (readable-or-fault t)
+pub sizedFor-passed : (t : List ℕ) (rows h : ℕ) (cells : List ℕ) (a : Answer) → fills (sizedFor t rows h cells a) ≡ true → Readable t × (Case7 h → ⊥) × (length cells < rows * jointStates t → ⊥)
+unfolding sizedFor fills Case7
+sizedFor-passed t rows h cells a f = go (readable-or-fault t)
   where
-    go : Readable t ⊎ ((n : ℕ) × (p : ℕ) × Fault t n p) → Sized t h cells
+    go : Readable t ⊎ ((n : ℕ) × (p : ℕ) × Fault t n p) → Readable t × (1000 < h → ⊥) × (length cells < rows * jointStates t → ⊥)
     go (inr (n, p, q)) = contra (rw (fault-said t n p q) at f) (fault-fills t n p q)
     go (inl r) =
         let f₁ = rw (readable-said t r) at f in
         case (ltb 1000 h)
         (λ q. contra (rw q at f₁) refl)
         (λ q. let f₂ = rw q at f₁ in
-        case (ltb (length cells) ((h + 1) * jointStates t))
+        case (ltb (length cells) (rows * jointStates t))
         (λ e. contra (rw e at f₂) refl)
-        (λ e. record { readable = r; horizon = tells-lt 1000 h .no q; room = tells-lt (length cells) ((h + 1) * jointStates t) .no e }))
+        (λ e. (r, tells-lt 1000 h .no q, tells-lt (length cells) (rows * jointStates t) .no e)))
+
+pub sized-passed : (t : List ℕ) (h : ℕ) (cells : List ℕ) (a : Answer) → fills (sized t h cells a) ≡ true → Sized t h cells
+unfolding Case8
+sized-passed t h cells a f = let (r, c7, c8) = sizedFor-passed t (h + 1) h cells a f in record { readable = r; horizon = c7; room = c8 }
 
 cells-left : (t : List ℕ) (h : ℕ) (cells : List ℕ) (a : Answer) → CellsLeft t h (sized t h cells a) cells (cellsAfter (sized t h cells a) (rigAutomaton t) h cells)
 unfolding cellsAfter cell Case8
@@ -136,6 +140,31 @@ cells-left t h cells a =
     room : fills (sized t h cells a) ≡ true → (h + 1) * jointStates t ≤ length cells
     room q = ⊎-elim (λ k. k) (λ k. absurd (sized-passed t h cells a q .room k)) (split ((h + 1) * jointStates t) (length cells))
 
+-- ---- cells that are left free
+
+-- numbers that are never said need not be named
+pub fewer-numbers : (ns ms : List ℕ) (a : Answer) → ((m : ℕ) → In m ms → Avoids m a) → ServedOr (ns ++ ms) a ↔ ServedOr ns a
+unfolding ServedOr
+fewer-numbers ns ms a never = (
+  ⊎-elim (λ s. inl s) (λ (n, p, q, i). inr (n, p, q, ⊎-elim (λ j. j) (λ j. absurd (never n j p q)) (in-append ns i))),
+  ⊎-elim (λ s. inl s) (λ (n, p, q, i). inr (n, p, q, in-left ms i)),
+)
+
+-- what is said of them is just this, where the answers that fill cells are those served and refused by ns
+pub cells-free : (need : ℕ) (ns : List ℕ) (a : Answer) (cells left : List ℕ) → (fills a ≡ true) ↔ ServedOr ns a → CellsFreed a need cells left ↔ CellsFree need ns a cells left
+unfolding CellsFreed Freed
+cells-free need ns a cells left told = go (fills a) told
+  where
+    go : (b : Bool) → (b ≡ true) ↔ ServedOr ns a → pick b ((length left ≡ length cells) × ((k : ℕ) → need ≤ k → getD left k 0 ≡ getD cells k 0)) (left ≡ cells) ↔ CellsFree need ns a cells left
+    go true t = (
+      λ (long, past). record { long = long; past = past; untouched = λ u. absurd (u (t .0 refl)) },
+      λ f. (f .long, f .past),
+    )
+    go false t = (
+      λ e. record { long = ap length e; past = λ k le. ap (λ l. getD l k 0) e; untouched = λ u. e },
+      λ f. f .untouched (λ s. contra (t .1 s) refl),
+    )
+
 -- ---- the outputs
 
 pub refused-serves : (n p : ℕ) → Served (refused n p) → ⊥
@@ -148,10 +177,10 @@ served-or (served vs) = inl (vs, refl)
 served-or (refused n p) = inr (refused-serves n p)
 
 pub served-fills : (a : Answer) → Served a → fills a ≡ true
-unfolding Fills
+unfolding ServedOr
 served-fills a s = fills-told a .1 (inl s)
 
-output-left : (n : ℕ) (a : Answer) (fresh out : List ℕ) → (Served a → (length fresh ≡ n) × (n ≤ length out)) → OutputLeft n a out (outputAfter a fresh out)
+pub output-left : (n : ℕ) (a : Answer) (fresh out : List ℕ) → (Served a → (length fresh ≡ n) × (n ≤ length out)) → OutputLeft n a out (outputAfter a fresh out)
 unfolding outputAfter Served
 output-left n (served vs) fresh out f =
     let (q, le) = f (vs, refl) in
@@ -213,6 +242,12 @@ enough : (h : ℕ) (is out : List ℕ) → (Case12 h is out → ⊥) → length 
 unfolding Case12
 enough h is out c = ⊎-elim (λ k. k) (λ k. absurd (c k)) (split (length is * h) (length out))
 
+pub fresh-listed : (t : List ℕ) (h : ℕ) (is cells out : List ℕ) → Served (scenarios t h is cells out) → (length (concatMap (unrank (rigAutomaton t) h (start t)) is) ≡ length is * h) × (length is * h ≤ length out)
+fresh-listed t h is cells out s =
+    let l = listed t h is cells out s in
+    let below = served-below t h (l .passed .readable) (l .passed .horizon) (l .some) (l .few) is cells out (l .passed .room) (l .room) s in
+    (length-blocks (unrank (rigAutomaton t) h (start t)) h is (λ i m. scenario-long t h (l .passed .readable) (l .passed .horizon) (l .some) (l .few) i (below i m)), enough h is out (l .room))
+
 -- ---- the scratch
 
 scratch-left : (a : Answer) (ds scratch left : List ℕ) → ScratchKept a ds scratch left ↔ ScratchLeft (length ds) a scratch left
@@ -242,18 +277,12 @@ buffers = record {
   count-cells = λ t h cells. unfold countCells count in cells-left t h cells _;
   scenarios-cells = λ t h is cells out. unfold scenariosCells scenarios in cells-left t h cells _;
   index-cells = λ t s cells. unfold indexCells index in cells-left t (length s) cells _;
-  scenarios-output = λ t h is cells out. unfold written in output-left (length is * h) (scenarios t h is cells out) _ out (fresh t h is cells out);
+  scenarios-output = λ t h is cells out. unfold written in output-left (length is * h) (scenarios t h is cells out) _ out (fresh-listed t h is cells out);
   scenarios-written = λ t h is cells out s. let l = listed t h is cells out s in block-written t h (l .passed .readable) (l .passed .horizon) (l .some) (l .few) is cells out (l .passed .room) (l .room) s;
   shuffle-output = λ n ds scratch out. unfold shuffled in output-left (length ds) (shuffle n ds scratch out) (swapping.shuffle ds) out (λ s. (length-shuffle ds, shuffle-room n ds scratch out s));
   shuffle-written = λ n ds scratch out s. written-shuffle n ds scratch out s;
   shuffle-scratch = λ n ds scratch out left. scratch-left (shuffle n ds scratch out) ds scratch left;
 }
   where
-    fresh : (t : List ℕ) (h : ℕ) (is cells out : List ℕ) → Served (scenarios t h is cells out) → (length (concatMap (unrank (rigAutomaton t) h (start t)) is) ≡ length is * h) × (length is * h ≤ length out)
-    fresh t h is cells out s =
-        let l = listed t h is cells out s in
-        let below = served-below t h (l .passed .readable) (l .passed .horizon) (l .some) (l .few) is cells out (l .passed .room) (l .room) s in
-        (length-blocks (unrank (rigAutomaton t) h (start t)) h is (λ i m. scenario-long t h (l .passed .readable) (l .passed .horizon) (l .some) (l .few) i (below i m)), enough h is out (l .room))
-
     written-shuffle : (n : ℕ) (ds scratch out : List ℕ) → Served (shuffle n ds scratch out) → take (length ds) (shuffled n ds scratch out) ≡ swapping.shuffle ds
     written-shuffle n ds scratch out (vs, q) = unfold shuffled outputAfter in (rw q (take-at (swapping.shuffle ds) _ (length ds) (length-shuffle ds)))

@@ -1,6 +1,6 @@
 -- The checks that the answers are made of: which refusal is said, and when none is. Assumes nothing.
 use mathlib.Core.Path.{_≡_, sym, ap, _∙_}
-use mathlib.Core.Logic.{_⊎_, inl, inr, _↔_}
+use mathlib.Core.Logic.{_⊎_, inl, inr, _↔_, _≢_}
 use mathlib.Core.Bool.{Bool, true, false}
 use mathlib.Core.List.{List, [], _∷_}
 use Prim.Native.Nat.{ℕ, zero, suc, _+_, _*_, _≤_, _<_}
@@ -17,10 +17,10 @@ use Rattle.lists.proofs.Members.{any-some, any-in, getD-in}
 use Rattle.lists.proofs.Distinct.{in-place}
 use Rattle.lists.proofs.Tells.{tells-true, tells-false, tells-lt, tells-le, tells-eq}
 use Rattle.automaton.specs.Counting.{most}
-use Rattle.promises.specs.Answer.{Answer, refused, SaysNone, unless}
-use Rattle.promises.specs.Text.{Readable, Case7, Case8, jointStates}
-use Rattle.promises.specs.Calls.{notBelow, firstBadFrom, firstBad, unlessAt, sized, total, counted}
-use Rattle.promises.proofs.Reading.{readable-said}
+use Rattle.promises.specs.Answer.{Answer, served, refused, SaysNone, unless}
+use Rattle.promises.specs.Text.{Readable, Fault, Case7, Case8, jointStates}
+use Rattle.promises.specs.Calls.{notBelow, firstBadFrom, firstBad, unlessAt, sizedFor, sized, total, counted}
+use Rattle.promises.proofs.Reading.{readable-said, fault-said, OfText, fault-number, readable-or-fault}
 
 -- ---- the first bad place of a list
 
@@ -97,14 +97,52 @@ check-passed n p bad a q = rw q
 pub check-failed : (n p : ℕ) (bad : Bool) (a : Answer) → bad ≡ true → unless n p bad a ≡ refused n p
 check-failed n p bad a q = rw q
 
--- ---- the rows of the table up to 8, and 9 and 10
+-- ---- the rows of the table up to 8
 
-pub sized-on : (t : List ℕ) (h : ℕ) (cells : List ℕ) (a : Answer) → Readable t → (Case7 h → ⊥) → (Case8 t h cells → ⊥) → sized t h cells a ≡ a
-unfolding sized Case7 Case8
-sized-on t h cells a r c7 c8 =
+pub sizedFor-on : (t : List ℕ) (rows h : ℕ) (cells : List ℕ) (a : Answer) → Readable t → (Case7 h → ⊥) → (length cells < rows * jointStates t → ⊥) → sizedFor t rows h cells a ≡ a
+unfolding sizedFor Case7
+sizedFor-on t rows h cells a r c7 c8 =
     rw (readable-said t r)
     (check-passed 7 0 (ltb 1000 h) _ (tells-false (tells-lt 1000 h) c7)
-    ∙ check-passed 8 0 (ltb (length cells) ((h + 1) * jointStates t)) a (tells-false (tells-lt (length cells) ((h + 1) * jointStates t)) c8))
+    ∙ check-passed 8 0 (ltb (length cells) (rows * jointStates t)) a (tells-false (tells-lt (length cells) (rows * jointStates t)) c8))
+
+pub sized-on : (t : List ℕ) (h : ℕ) (cells : List ℕ) (a : Answer) → Readable t → (Case7 h → ⊥) → (Case8 t h cells → ⊥) → sized t h cells a ≡ a
+unfolding Case8
+sized-on t h cells a r c7 c8 = sizedFor-on t (h + 1) h cells a r c7 c8
+
+-- the rows go on alike for two needs that are met
+pub sizedFor-alike : (t : List ℕ) (rows others h : ℕ) (cells enough : List ℕ) (a : Answer) → (length cells < rows * jointStates t → ⊥) → (length enough < others * jointStates t → ⊥)
+    → sizedFor t rows h cells a ≡ sizedFor t others h enough a
+unfolding sizedFor
+sizedFor-alike t rows others h cells enough a c d = rw (tells-false (tells-lt (length cells) (rows * jointStates t)) c, tells-false (tells-lt (length enough) (others * jointStates t)) d)
+
+-- ---- a number that is never said
+
+-- m is not the number of the refusal a
+abbrev pub Avoids : ℕ → Answer → Type 0
+Avoids m a = (p : ℕ) → a ≡ refused m p → ⊥
+
+pub avoids-served : (m : ℕ) (vs : List ℕ) → Avoids m (served vs)
+avoids-served m vs p q = let z : _≡_ {A = ℕ} 0 1 = cc in omega arith
+
+pub avoids-check : (m n p : ℕ) (bad : Bool) (a : Answer) → n ≢ m → Avoids m a → Avoids m (unless n p bad a)
+avoids-check m n p true a ne v k q = ne cc
+avoids-check m n p false a ne v k q = v k q
+
+-- the rows up to 8 and from 16 on say no number between
+pub avoids-sized : (m : ℕ) (t : List ℕ) (rows h : ℕ) (cells : List ℕ) (a : Answer) → 8 < m → m < 16 → Avoids m a → Avoids m (sizedFor t rows h cells a)
+unfolding sizedFor
+avoids-sized m t rows h cells a ge lt v = go (readable-or-fault t)
+  where
+    other : (n : ℕ) → OfText n → n ≢ m
+    other n (inl le) q = omega arith
+    other n (inr le) q = omega arith
+
+    go : Readable t ⊎ ((n : ℕ) × (p : ℕ) × Fault t n p) → Avoids m (sizedFor t rows h cells a)
+    go (inl r) = rw (readable-said t r) (avoids-check m 7 0 (ltb 1000 h) _ (λ q. omega arith) (avoids-check m 8 0 (ltb (length cells) (rows * jointStates t)) a (λ q. omega arith) v))
+    go (inr (n, p, f)) = rw (fault-said t n p f) (λ k q. other n (fault-number t n p f) cc)
+
+-- ---- 9 and 10
 
 module _ (t : List ℕ) (h : ℕ) where
   pub counted-none : (a : Answer) → total t h ≡ 0 → counted t h a ≡ refused 9 0

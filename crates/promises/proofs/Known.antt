@@ -23,7 +23,7 @@ use Rattle.promises.specs.Text.{onto, splitOn, init, lastOf, lines, unen
 use Rattle.promises.specs.Reading.{leadsTo, marks, testBeginning, ofLatest, testContinuing, tests, lineCase, readingFrom, reading}
 use Rattle.promises.specs.Rig.{gapNext, replyNext, nextOf, markedOf, monitorOf, standing, linesAutomaton, linesStart, rigAutomaton, start}
 use Rattle.promises.specs.Answer.{served, refused, Served}
-use Rattle.promises.specs.Calls.{rows, fills, sized, total, counted, count, scenarios}
+use Rattle.promises.specs.Calls.{rows, fills, sizedFor, total, counted, count, scenarios}
 use Rattle.promises.specs.Demand3.{Calls, Whole, Demand}
 use Rattle.promises.specs.Demand2.{Endless, Traced, Demand2}
 use Rattle.promises.specs.Refusals.{Sized}
@@ -155,7 +155,7 @@ pub record Values : Type 0 where
   pub beside-1 : rigAutomaton full-cell .next 1 1 ≡ 1
 
 pub values : Values
-unfolding reading readingFrom lineCase tests testBeginning testContinuing ofLatest firstOf leadsTo marks orElse decoded lines unended splitOn onto init lastOf decode fields form one two three four oneOrTwo anyNumber field endOr end number numbers ahead digitsValue same monitors monitorsFrom extended addPart latest statesOf product eventsOf orderOf orderFrom reordered startOf jointStates gapNext replyNext nextOf markedOf bounded monitorOf standing linesAutomaton linesStart rigAutomaton start range both join idle joint sizes jointState keep prunedSet size passesFrom passes live N most choose unrank sized total counted count admitted without passWithin passesWithinFrom passesWithin
+unfolding reading readingFrom lineCase tests testBeginning testContinuing ofLatest firstOf leadsTo marks orElse decoded lines unended splitOn onto init lastOf decode fields form one two three four oneOrTwo anyNumber field endOr end number numbers ahead digitsValue same monitors monitorsFrom extended addPart latest statesOf product eventsOf orderOf orderFrom reordered startOf jointStates gapNext replyNext nextOf markedOf bounded monitorOf standing linesAutomaton linesStart rigAutomaton start range both join idle joint sizes jointState keep prunedSet size passesFrom passes live N most choose unrank sizedFor total counted count admitted without passWithin passesWithinFrom passesWithin
 values = record {
   numbers-0 = refl;
   numbers-4 = refl;

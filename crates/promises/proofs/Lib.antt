@@ -28,5 +28,6 @@ pub mod Hours
 pub mod Refusals
 pub mod Buffers
 pub mod Shapes
+pub mod Small
 pub mod Known
 pub mod Wrong

@@ -21,7 +21,7 @@ use Rattle.promises.specs.Answer.{Answer, served, refused}
 use Rattle.promises.specs.Text.{decoded, eventsOf, Readable, Case7, Case8, Case8·scratch, Case12, Case12·draws, Case13, jointStates}
 use Rattle.promises.specs.Meaning.{Belongs}
 use Rattle.promises.specs.Rig.{rigAutomaton, start}
-use Rattle.promises.specs.Calls.{unlessAt, sized, total, counted, count, scenarios, index, badDraw, shuffle}
+use Rattle.promises.specs.Calls.{unlessAt, sizedFor, sized, total, counted, count, scenarios, index, badDraw, shuffle}
 use Rattle.promises.specs.Demand3.{Once}
 use Rattle.promises.specs.Refusals.{Sized, EarlyRows, Many, Countable, Refusals}
 use Rattle.promises.specs.Generator.{generator}
@@ -43,7 +43,7 @@ first-at n bad l a p lt b good = ⊎-elim (λ (q, g). contra b (g p lt)) (λ (k,
 -- ---- rows 1 to 8 and 16 to 18
 
 early-rows : (t : List ℕ) (h : ℕ) (cells : List ℕ) (a : Answer) → EarlyRows t h cells (sized t h cells a)
-unfolding sized Case7 Case8
+unfolding sizedFor Case7 Case8
 early-rows t h cells a = record {
   text = λ n p f. rw (fault-said t n p f);
   seven = λ r c. rw (readable-said t r, tells-true (tells-lt 1000 h) c);

@@ -15,7 +15,7 @@ use Rattle.automaton.specs.Ranking.{rank, firstViolation}
 use Rattle.promises.specs.Text.{Line, monitors, decoded, unended, jointStates}
 use Rattle.promises.specs.Reading.{empty, lineCase, readingFrom, reading}
 use Rattle.promises.specs.Rig.{rigAutomaton, start}
-use Rattle.promises.specs.Calls.{firstBad, unlessAt, sized, total, counted, count, scenarios, index, badDraw, shuffle}
+use Rattle.promises.specs.Calls.{firstBad, unlessAt, sizedFor, listRows, total, counted, count, scenarios, index, badDraw, shuffle}
 use Rattle.promises.specs.Generator.{generator}
 use Rattle.promises.specs.Shapes.{Shaped, Shapes}
 
@@ -44,11 +44,11 @@ unfolding reading
 reading-shaped t = checked 0 1 0 (ltb 65535 (length t)) (readingFrom [] (decoded t) (unended t)) (λ q e. omega arith) (reading-from [] (decoded t) (unended t))
 
 module _ (m : ℕ) (a : Answer) (s : Shaped m a) where
-  after-sizes : (t : List ℕ) (h : ℕ) (cells : List ℕ) → Shaped m (sized t h cells a)
-  unfolding sized
-  after-sizes t h cells =
+  after-sizes : (t : List ℕ) (rows h : ℕ) (cells : List ℕ) → Shaped m (sizedFor t rows h cells a)
+  unfolding sizedFor
+  after-sizes t rows h cells =
       following 0 m (reading t) _ (reading-shaped t)
-      (checked m 7 0 (ltb 1000 h) _ (λ q e. omega arith) (checked m 8 0 (ltb (length cells) ((h + 1) * jointStates t)) a (λ q e. omega arith) s))
+      (checked m 7 0 (ltb 1000 h) _ (λ q e. omega arith) (checked m 8 0 (ltb (length cells) (rows * jointStates t)) a (λ q e. omega arith) s))
 
   after-counting : (t : List ℕ) (h : ℕ) → Shaped m (counted t h a)
   unfolding counted
@@ -58,14 +58,17 @@ module _ (m : ℕ) (a : Answer) (s : Shaped m a) where
   unfolding unlessAt
   after-list n ne bad l = checked m n (firstBad bad l) (ltb (firstBad bad l) (length l)) a (λ q. ne) s
 
+pub list-shaped : (t : List ℕ) (rows h : ℕ) (is cells out : List ℕ) → Shaped 0 (sizedFor t rows h cells (listRows t h is out))
+list-shaped t rows h is cells out =
+    after-sizes 0 _ (checked 0 12 0 (ltb (length out) (length is * h)) _ (λ q e. omega arith) (after-counting 0 _ (after-list 0 (served []) nothing 11 (λ e. omega arith) _ is) t h)) t rows h cells
+
 pub shapes : Shapes generator
 unfolding generator Shaped
 shapes = record {
-  of-count = λ t h cells. unfold count in after-sizes 2 _ (after-counting 2 _ refl t h) t h cells;
-  of-scenarios = λ t h is cells out. unfold scenarios in
-      after-sizes 0 _ (checked 0 12 0 (ltb (length out) (length is * h)) _ (λ q e. omega arith) (after-counting 0 _ (after-list 0 (served []) nothing 11 (λ e. omega arith) _ is) t h)) t h cells;
+  of-count = λ t h cells. unfold count in after-sizes 2 _ (after-counting 2 _ refl t h) t (h + 1) h cells;
+  of-scenarios = λ t h is cells out. unfold scenarios in list-shaped t (h + 1) h is cells out;
   of-index = λ t s cells. unfold index in
-      after-sizes 1 _ (after-list 1 _ (after-counting 1 _ (checked 1 14 _ (ltb (firstViolation (rigAutomaton t) (start t) s) (length s)) (served (rank (rigAutomaton t) (start t) s ∷ [])) (λ q e. omega arith) refl) t (length s)) 13 (λ e. omega arith) _ s) t (length s) cells;
+      after-sizes 1 _ (after-list 1 _ (after-counting 1 _ (checked 1 14 _ (ltb (firstViolation (rigAutomaton t) (start t) s) (length s)) (served (rank (rigAutomaton t) (start t) s ∷ [])) (λ q e. omega arith) refl) t (length s)) 13 (λ e. omega arith) _ s) t (length s + 1) (length s) cells;
   of-shuffle = λ n ds scratch out. unfold shuffle in
       checked 0 8 0 (ltb (length scratch) (2 * length ds)) _ (λ q e. omega arith) (checked 0 12 0 (ltb (length out) (length ds)) _ (λ q e. omega arith) (after-list 0 (served []) nothing 15 (λ e. omega arith) (badDraw n) ds));
 }

@@ -1,6 +1,8 @@
 -- What the buffers hold afterwards, cell by cell and byte by byte, on served and refused input alike.
+--   ServedOr ns a      == the answer is served, or a refusal by one of the numbers ns
 --   Fills a            == the answer is one after which the cells are filled
 --   CellsLeft          == what the cells hold after a call on a text
+--   CellsFree          == what they hold where a call leaves the first ones free
 --   OutputLeft         == what an output holds: the first numbers fresh where served, else as before
 --   ScratchLeft        == what the scratch holds after a shuffle
 --   Buffers            == each buffer of the four calls
@@ -19,9 +21,12 @@ use Rattle.promises.specs.Rig.{rigAutomaton, start}
 use Rattle.promises.specs.Demand3.{block}
 use Rattle.promises.specs.Calls.{count, countCells, scenarios, scenariosCells, written, index, indexCells, shuffle, shuffled, ScratchKept}
 
+unfoldable pub ServedOr : List ℕ → Answer → Type 0
+ServedOr ns a = Served a ⊎ ((n : ℕ) × (p : ℕ) × (a ≡ refused n p) × In n ns)
+
 -- 'After 9, 10, 11 and 14 the cells are filled'
-unfoldable pub Fills : Answer → Type 0
-Fills a = Served a ⊎ ((n : ℕ) × (p : ℕ) × (a ≡ refused n p) × In n (9 ∷ 10 ∷ 11 ∷ 14 ∷ []))
+abbrev pub Fills : Answer → Type 0
+Fills a = ServedOr (9 ∷ 10 ∷ 11 ∷ 14 ∷ []) a
 
 pub record CellsLeft (t : List ℕ) (h : ℕ) (a : Answer) (cells left : List ℕ) : Type 0 where
   pub long : length left ≡ length cells
@@ -31,6 +36,14 @@ pub record CellsLeft (t : List ℕ) (h : ℕ) (a : Answer) (cells left : List �
   pub past : Fills a → (k : ℕ) → (h + 1) * jointStates t ≤ k → getD left k 0 ≡ getD cells k 0
   -- 'after every other refusal they .. are untouched'
   pub untouched : (Fills a → ⊥) → left ≡ cells
+
+-- `need` cells are left free when served and after the refusals ns
+pub record CellsFree (need : ℕ) (ns : List ℕ) (a : Answer) (cells left : List ℕ) : Type 0 where
+  pub long : length left ≡ length cells
+  -- 'further ones keep theirs' (02 no. 8)
+  pub past : (k : ℕ) → need ≤ k → getD left k 0 ≡ getD cells k 0
+  -- 'untouched after others' (02 no. 8)
+  pub untouched : (ServedOr ns a → ⊥) → left ≡ cells
 
 -- n numbers are written where the answer serves
 pub record OutputLeft (n : ℕ) (a : Answer) (out left : List ℕ) : Type 0 where

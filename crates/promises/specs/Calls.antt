@@ -3,7 +3,11 @@
 --   firstBad bad l     == the position of the first number of l that `bad` holds of, given the position too; the length where there is none
 --   row A r, rows A n  == the cells of one r, and of every r below n
 --   filled A h cells   == the cells filled for the horizon h, the others as they were
+--   Freed need cells left        == the first `need` cells are left free, the others are as they were
+--   CellsFreed a need cells left == so after an answer that fills cells; after any other all are as they were
 --   sizeRows, countRows, indicesRow, sequenceRow == the rows 7 and 8; 9 and 10; 11; 14 of the table of refusals
+--   sizedFor t rows h cells a == a after the rows up to 8, with cells for so many rows; sized t h cells a == with cells for all rows up to h
+--   listRows t h is out == what a call that lists scenarios tells from row 12 on
 --   countFrom A h x    == what Count tells from row 9 on
 --   count, scenarios, index, shuffle           == the answers
 --   countCells, scenariosCells, indexCells     == the cells afterwards
@@ -13,8 +17,8 @@
 use mathlib.Core.Path.{_≡_}
 use mathlib.Core.Bool.{Bool, true, _||_}
 use mathlib.Core.List.{List, [], _∷_, _++_}
-use Prim.Native.Nat.{ℕ, suc, _+_, _*_}
-use lib.ListN.{length, drop}
+use Prim.Native.Nat.{ℕ, suc, _+_, _*_, _≤_}
+use lib.ListN.{length, getD, drop}
 use lib.Dec.{ltb, leb, eqb}
 use Rattle.lists.specs.Lists.{pick, any, concatMap, tabulate, stack}
 use Rattle.automaton.specs.Automaton.{Automaton}
@@ -60,6 +64,14 @@ fills (refused n p) = any (eqb n) (9 ∷ 10 ∷ 11 ∷ 14 ∷ [])
 unfoldable pub cellsAfter : Answer → Automaton → ℕ → List ℕ → List ℕ
 cellsAfter a A h cells = pick (fills a) (filled A h cells) cells
 
+-- '.. are left free ..; further ones keep theirs' (02 no. 8)
+unfoldable pub Freed : ℕ → List ℕ → List ℕ → Type 0
+Freed need cells left = (length left ≡ length cells) × ((k : ℕ) → need ≤ k → getD left k 0 ≡ getD cells k 0)
+
+-- 'The needed cells are left free when served and after 9, 10 and 11, untouched after others' (02 no. 8); a call that frees cells never says 14
+unfoldable pub CellsFreed : Answer → ℕ → List ℕ → List ℕ → Type 0
+CellsFreed a need cells left = pick (fills a) (Freed need cells left) (left ≡ cells)
+
 -- 'Output is untouched after each' refusal; 'outputs past what is filled, keep their contents'
 unfoldable pub outputAfter : Answer → List ℕ → List ℕ → List ℕ
 outputAfter (served vs) fresh out = fresh ++ drop (length fresh) out
@@ -67,9 +79,9 @@ outputAfter (refused n p) fresh out = out
 
 -- ---- the calls on a rig text
 
--- 7: 'h over 1,000'. 8: 'cells below (h+1) × P', for P joint states and so many cells
-abbrev pub sizeRows : ℕ → ℕ → ℕ → Answer → Answer
-sizeRows P h room a = unless 7 0 (ltb 1000 h) (unless 8 0 (ltb room ((h + 1) * P)) a)
+-- 7: 'h over 1,000'. 8: cells below rows × P, for P joint states and so many cells
+abbrev pub sizeRows : ℕ → ℕ → ℕ → ℕ → Answer → Answer
+sizeRows rows P h room a = unless 7 0 (ltb 1000 h) (unless 8 0 (ltb room (rows * P)) a)
 
 -- 9: 'N is 0'. 10: 'N is 18,446,744,073,709,551,615 or more'
 abbrev pub countRows : ℕ → Answer → Answer
@@ -92,8 +104,12 @@ abbrev pub sequenceRow : Automaton → ℕ → List ℕ → Answer
 sequenceRow A x s = unless 14 (firstViolation A x s) (ltb (firstViolation A x s) (length s)) (served (rank A x s ∷ []))
 
 module _ (t : List ℕ) where
-  unfoldable pub sized : ℕ → List ℕ → Answer → Answer
-  sized h cells a = after (reading t) (sizeRows (jointStates t) h (length cells) a)
+  unfoldable pub sizedFor : ℕ → ℕ → List ℕ → Answer → Answer
+  sizedFor rows h cells a = after (reading t) (sizeRows rows (jointStates t) h (length cells) a)
+
+  -- 8: 'cells below (h+1) × P'
+  abbrev pub sized : ℕ → List ℕ → Answer → Answer
+  sized h cells a = sizedFor (h + 1) h cells a
 
   -- 'N is N(h, start)'
   unfoldable pub total : ℕ → ℕ
@@ -109,13 +125,13 @@ module _ (t : List ℕ) where
   unfoldable pub countCells : ℕ → List ℕ → List ℕ
   countCells h cells = cellsAfter (count h cells) (rigAutomaton t) h cells
 
-  -- 'Scenarios: text, h, a list of indices, cells, output bytes.' 12: 'output shorter than list length × h'
+  -- 12: 'output shorter than list length × h'; then 9, 10, 11
+  abbrev pub listRows : ℕ → List ℕ → List ℕ → Answer
+  listRows h is out = unless 12 0 (ltb (length out) (length is * h)) (counted h (indicesRow (total h) is))
+
+  -- 'Scenarios: text, h, a list of indices, cells, output bytes.'
   unfoldable pub scenarios : ℕ → List ℕ → List ℕ → List ℕ → Answer
-  scenarios h is cells out =
-      sized h cells
-      (unless 12 0 (ltb (length out) (length is * h))
-      (counted h
-      (indicesRow (total h) is)))
+  scenarios h is cells out = sized h cells (listRows h is out)
 
   unfoldable pub scenariosCells : ℕ → List ℕ → List ℕ → List ℕ → List ℕ
   scenariosCells h is cells out = cellsAfter (scenarios h is cells out) (rigAutomaton t) h cells

@@ -13,6 +13,7 @@ pub mod Refusals
 pub mod Buffers
 pub mod Generator
 pub mod Shapes
+pub mod Small
 pub mod Examples
 pub mod Starred
 pub mod Starts

@@ -7,6 +7,7 @@ use lib.ListN.{replicate}
 use Rattle.promises.specs.Answer.{served, refused}
 use Rattle.promises.specs.Rig.{start}
 use Rattle.promises.specs.Calls.{count, scenarios, written, index, shuffle, shuffled}
+use Rattle.promises.specs.Small.{small, smallOutput}
 use Rattle.promises.specs.Examples.{A, B, A-from-1, A-exchanged, two-starts, A-ordered, closes, one-unmarked, both-marked, may-close, gap-alone, reply-alone, unanswerable, meters, meters-table, no-difference, depot-hours, hours-table, always-open}
 
 -- n numbers to lend
@@ -87,3 +88,11 @@ pub record Starred : Type 0 where
   pub hours-table-4 : count hours-table 4 (lent 15) ≡ served (8 ∷ 1 ∷ [])
   -- 'an event with none is always admitted'
   pub always-open-3 : count always-open 3 (lent 8) ≡ served (1 ∷ 1 ∷ [])
+  -- 02 no. 8. '(⌊h/16⌋ + 16) × P cells': of A at h 3 that is 32, where Scenarios needs 8
+  pub small-3 : small A 3 (4 ∷ 2 ∷ 2 ∷ []) (lent 32) (lent 9) ≡ served []
+  pub small-bytes : smallOutput A 3 (4 ∷ 2 ∷ 2 ∷ []) (lent 32) (lent 9) ≡ 1 ∷ 0 ∷ 1 ∷ 0 ∷ 1 ∷ 0 ∷ 0 ∷ 1 ∷ 0 ∷ []
+  pub small-short : small A 3 (4 ∷ 2 ∷ 2 ∷ []) (lent 31) (lent 9) ≡ refused 8 0
+  -- a row more from h 16 on: 32 cells for 15 events, 34 for 16
+  pub small-15 : small always-open 15 (0 ∷ []) (lent 32) (lent 15) ≡ served []
+  pub small-16 : small always-open 16 (0 ∷ []) (lent 34) (lent 16) ≡ served []
+  pub small-16-short : small always-open 16 (0 ∷ []) (lent 33) (lent 16) ≡ refused 8 0

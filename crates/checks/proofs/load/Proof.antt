@@ -3,6 +3,7 @@
 use mathlib.Core.Path.{sym, ap, _∙_}
 use borrow.Author.Needs.{needs}
 use Rattle.reader.specs.Reading.{answerOf}
+use Rattle.checks.specs.Loading.{rowsFor}
 use Rattle.checks.proofs.Laws.{loads-refused, loads-readable, read-well-formed}
 use Rattle.checks.proofs.load.Statement.{statement}
 use Rattle.checks.proofs.load.Tie as tie
@@ -31,13 +32,13 @@ returns c =
     let st = c .before .before .before .before .before .before .args in
     let r = c .before .before .before .before .read in
     let v = c .before .verdict .given in
-    loads-refused (st .text .now) (st .h) (st .room) (v .0 .0) (v .0 .1 .0) (r .result .rig) (sym (ap answerOf (v .1)) ∙ r .ensures .0) (r .ensures .1)
+    loads-refused (st .text .now) (rowsFor (st .rows) (st .h)) (st .h) (st .room) (v .0 .0) (v .0 .1 .0) (r .result .rig) (sym (ap answerOf (v .1)) ∙ r .ensures .0) (r .ensures .1)
 
 returns-2 : tie.Need-returns-2
 returns-2 c =
     let st = c .before .before .before .before .before .before .args in
     let r = c .before .before .before .before .read in
-    loads-readable (st .text .now) (st .h) (st .room) (r .result .rig) (c .check-sizes .result) (sym (ap answerOf (c .before .enum-told .given .1)) ∙ r .ensures .0) (r .ensures .1) (c .check-sizes .ensures)
+    loads-readable (st .text .now) (rowsFor (st .rows) (st .h)) (st .h) (st .room) (r .result .rig) (c .check-sizes .result) (sym (ap answerOf (c .before .enum-told .given .1)) ∙ r .ensures .0) (r .ensures .1) (c .check-sizes .ensures)
 
 pub load-spec : {M : Type 1} → statement M
 load-spec =
