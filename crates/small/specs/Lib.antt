@@ -1,0 +1,2 @@
+-- What is in the cells before the scenarios are written.
+pub mod Cells
