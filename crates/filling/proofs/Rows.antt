@@ -40,10 +40,8 @@ start-cell A h x cells after p q lt e =
 pub fills-told : (A : Automaton) (p x h s : ℕ) (k : Checked) (cells left table : List ℕ) → p ≡ A .states → x < p → left ≡ filled A h cells → TellsRows (getD left (h * p + x) 0) k
     → s ≡ passes A → Tabled A p table → FilledBy A p x h (record { checked = k; count = getD left (h * p + x) 0; passes = s }) cells left table
 fills-told A p x h s k cells left table q lt e t r n = record {
-  answer = λ a. t .answer (N A h x) a (start-cell A h x cells left p q lt e);
+  rows = t;
   counted = start-cell A h x cells left p q lt e;
-  some = t .some;
-  few = t .few;
   passed = r;
   cells-filled = e;
   tabled = n;
@@ -54,25 +52,41 @@ pub countRows-fills : (n : ℕ) (a : Answer) → fills a ≡ true → fills (cou
 unfolding fills
 countRows-fills n a f = case (eqb n 0) (λ q. rw q) (λ q. rw q (case (leb most n) (λ r. rw r) (λ r. rw r f)))
 
+-- ---- what the start's cell tells of N
+
+module _ (n c : ℕ) (k : Checked) (tells : TellsRows c k) (cell-is : c ≡ min n most) where
+  pub cell-refused : (m q : ℕ) → k ≡ Refused m q → (a : Answer) → refused m q ≡ countRows n a
+  cell-refused m q e a = sym (tells .answer n a cell-is ∙ ap (λ (j : Checked). checkedOr j a) e)
+
+  module _ (e : k ≡ Passed) where
+    pub cell-passed : (a : Answer) → a ≡ countRows n a
+    cell-passed a = sym (tells .answer n a cell-is ∙ ap (λ (j : Checked). checkedOr j a) e)
+
+    pub cell-exact : c ≡ n
+    cell-exact = omega (arith, tells .few e)
+
+    pub cell-few : n < most
+    cell-few = omega (arith, tells .few e, cell-exact)
+
 -- ---- what filling tells
 
 module _ (A : Automaton) (p x h : ℕ) (f : Filled) (cells left table : List ℕ) (fs : FilledBy A p x h f cells left table) where
   pub told-refused : (m q : ℕ) → f .checked ≡ Refused m q → (a : Answer) → refused m q ≡ countRows (N A h x) a
-  told-refused m q e a = sym (fs .answer a ∙ ap (λ (k : Checked). checkedOr k a) e)
+  told-refused = cell-refused (N A h x) (f .count) (f .checked) (fs .rows) (fs .counted)
 
   module _ (e : f .checked ≡ Passed) where
     pub told-passed : (a : Answer) → a ≡ countRows (N A h x) a
-    told-passed a = sym (fs .answer a ∙ ap (λ (k : Checked). checkedOr k a) e)
+    told-passed = cell-passed (N A h x) (f .count) (f .checked) (fs .rows) (fs .counted) e
 
     -- the count told is N
     pub told-exact : f .count ≡ N A h x
-    told-exact = omega (arith, fs .few e, fs .counted)
+    told-exact = cell-exact (N A h x) (f .count) (f .checked) (fs .rows) (fs .counted) e
 
     pub told-few : N A h x < most
-    told-few = rw (← told-exact) (fs .few e)
+    told-few = cell-few (N A h x) (f .count) (f .checked) (fs .rows) (fs .counted) e
 
     pub told-some : 1 ≤ N A h x
-    told-some = rw (← told-exact) (fs .some e)
+    told-some = rw (← told-exact) (fs .rows .some e)
 
     -- N and the passes, told
     pub told-count : served (f .count ∷ f .passes ∷ []) ≡ countRows (N A h x) (served (N A h x ∷ passes A ∷ []))

@@ -22,10 +22,8 @@ pub record TellsRows (c : ℕ) (k : Checked) : Type 0 where
   pub few : k ≡ Passed → c < most
 
 pub record FilledBy (A : Automaton) (p x h : ℕ) (f : Filled) (cells left table : List ℕ) : Type 0 where
-  pub answer : (a : Answer) → countRows (N A h x) a ≡ checkedOr (f .checked) a
+  pub rows : TellsRows (f .count) (f .checked)
   pub counted : f .count ≡ min (N A h x) most
-  pub some : f .checked ≡ Passed → 1 ≤ f .count
-  pub few : f .checked ≡ Passed → f .count < most
   pub passed : f .passes ≡ passes A
   pub cells-filled : left ≡ filled A h cells
   pub tabled : Tabled A p table

@@ -15,7 +15,14 @@ ghost use Rattle.generator.specs.Outcomes.{listAnswer, listFrom, outputFrom};
 ghost use Rattle.small.specs.Cells.{CellsBy};
 
 // Prunes the rig, fills the table, keeps every sixteenth row, and gives the cell of the start in row h.
-fn keep_cells(rig: Rig, states: usize, start: usize, h: usize, cells: &mut [u64], table: &mut [u16]) -> u64
+fn keep_cells(
+    rig: Rig,
+    states: usize,
+    start: usize,
+    h: usize,
+    cells: &mut [u64],
+    table: &mut [u16],
+) -> u64
     requires { ⌜ FitsFor rig states start (smallRows h) h (length (now cells)) × (length (now table) ≡ 16384) ⌝ }
     ensures { λ n. ⌜ CellsBy (recordAutomaton rig) states start h n (now (cells .entry)) (now (cells .exit)) (now (table .exit)) ⌝ }
 {
@@ -57,7 +64,13 @@ fn list_cells(
 }
 
 // 'Beside the scenarios call we want one that needs (⌊h/16⌋ + 16) × P cells'.
-pub fn scenarios_small(text: &[u8], h: u64, list: &[u64], cells: &mut [u64], out: &mut [u8]) -> Listed
+pub fn scenarios_small(
+    text: &[u8],
+    h: u64,
+    list: &[u64],
+    cells: &mut [u64],
+    out: &mut [u8],
+) -> Listed
     ensures { λ r. ⌜ listAnswer r ≡ small (now (text .entry)) h (now (list .entry)) (now (cells .entry)) (now (out .entry)) ⌝ }
     ensures { λ _. ⌜ SmallKeeps (now (text .entry)) h (now (list .entry)) (now (cells .entry)) (now (out .entry)) (now (cells .exit)) ⌝ }
     ensures { λ _. ⌜ now (out .exit) ≡ smallOutput (now (text .entry)) h (now (list .entry)) (now (cells .entry)) (now (out .entry)) ⌝ }
