@@ -9,6 +9,7 @@ use Rattle.promises.specs.Answer.{Answer, served, refused, Served, Refuses}
 use Rattle.promises.specs.Generator.{generator}
 use Rattle.promises.specs.Shapes.{Shaped}
 use Rattle.promises.proofs.Shapes.{shapes}
+use Rattle.promises.proofs.Small.{small-owed}
 use Rattle.capi.specs.Words.{numberOf}
 use Rattle.capi.specs.Told.{CountTold, IndexTold, PlaceTold, Told}
 
@@ -43,6 +44,7 @@ unfolding generator
 told = record {
   of-count = λ t h cells. count-told _ (shapes .of-count t h cells);
   of-scenarios = λ t h is cells out. place-told _ (shapes .of-scenarios t h is cells out);
+  of-small = λ t h is cells out. place-told _ (small-owed t h is cells out .shaped);
   of-index = λ t s cells. index-told _ (shapes .of-index t s cells);
   of-shuffle = λ n ds scratch out. place-told _ (shapes .of-shuffle n ds scratch out);
 }

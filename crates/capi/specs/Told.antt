@@ -1,7 +1,7 @@
 -- What a C caller reads in the numbers that it is told, by the words of include/wandukhai.h, and that it reads the call's answer.
 --   readCount n ws   == the answer of Count that was told by the number n and the words ws
 --   readIndex n w    == the answer of Index that was told by the number n and the word w
---   readPlace n w    == the answer of Scenarios or Shuffle that was told by the number n and the place w
+--   readPlace n w    == the answer of Scenarios, on either bench, or Shuffle that was told by the number n and the place w
 --   Told             == 0 is returned exactly where a call is served, and what is told is the answer
 -- Assumes nothing.
 use mathlib.Core.Path.{_≡_}
@@ -11,6 +11,7 @@ use Prim.Native.Nat.{ℕ, zero, suc}
 use lib.ListN.{length, getD}
 use Rattle.promises.specs.Answer.{Answer, served, refused, Served, Refuses}
 use Rattle.promises.specs.Calls.{count, scenarios, index, shuffle}
+use Rattle.promises.specs.Small.{small}
 use Rattle.capi.specs.Words.{numberOf, wordsOf, wordOf}
 
 -- 'Returned: 0 where the call is served, else the number of refusal, with a place'
@@ -47,5 +48,6 @@ pub record PlaceTold (a : Answer) : Type 0 where
 pub record Told : Type 0 where
   pub of-count : (t : List ℕ) (h : ℕ) (cells : List ℕ) → CountTold (count t h cells)
   pub of-scenarios : (t : List ℕ) (h : ℕ) (is cells out : List ℕ) → PlaceTold (scenarios t h is cells out)
+  pub of-small : (t : List ℕ) (h : ℕ) (is cells out : List ℕ) → PlaceTold (small t h is cells out)
   pub of-index : (t s cells : List ℕ) → IndexTold (index t s cells)
   pub of-shuffle : (n : ℕ) (ds scratch out : List ℕ) → PlaceTold (shuffle n ds scratch out)

@@ -1,4 +1,4 @@
-// The four calls for C and Rust: each answers in numbers, 0 where it serves and else the number of refusal, and writes what else it tells to `answer` or `place`.
+// The calls for C and Rust: each answers in numbers, 0 where it serves and else the number of refusal, and writes what else it tells to `answer` or `place`.
 use generator::Counted;
 use generator::Indexed;
 use generator::Listed;
@@ -6,6 +6,8 @@ use shuffle::Shuffled;
 ghost use mathlib.Core.Path.{_≡_};
 ghost use Rattle.promises.specs.Calls.{ShuffleKeeps};
 ghost use Rattle.promises.specs.Calls as promised;
+ghost use Rattle.promises.specs.Small.{small, smallOutput, SmallKeeps};
+ghost use Rattle.generator.specs.Outcomes.{listAnswer};
 ghost use Rattle.capi.specs.Words.{numberOf, wordsOf, wordOf};
 
 // Count. The answer is N and the passes, or the place and 0.
@@ -49,6 +51,33 @@ pub extern "C" fn wandukhai_scenarios(
     ensures { λ _. ⌜ now (out .exit) ≡ promised.written (now (text .entry)) h (now (list .entry)) (now (cells .entry)) (now (out .entry)) ⌝ }
 {
     let listed = generator::scenarios(text, h, list, cells, out);
+    tell_listed(listed, place)
+}
+
+// Scenarios on the small bench. The place is 0 where served.
+#[no_mangle]
+pub extern "C" fn wandukhai_scenarios_small(
+    text: &[u8],
+    h: u64,
+    list: &[u64],
+    cells: &mut [u64],
+    out: &mut [u8],
+    place: &mut u64,
+) -> u64
+    ensures { λ r. ⌜ r ≡ numberOf (small (now (text .entry)) h (now (list .entry)) (now (cells .entry)) (now (out .entry))) ⌝ }
+    ensures { λ _. ⌜ now (place .exit) ≡ wordOf (small (now (text .entry)) h (now (list .entry)) (now (cells .entry)) (now (out .entry))) ⌝ }
+    ensures { λ _. ⌜ SmallKeeps (now (text .entry)) h (now (list .entry)) (now (cells .entry)) (now (out .entry)) (now (cells .exit)) ⌝ }
+    ensures { λ _. ⌜ now (out .exit) ≡ smallOutput (now (text .entry)) h (now (list .entry)) (now (cells .entry)) (now (out .entry)) ⌝ }
+{
+    let listed = small::scenarios_small(text, h, list, cells, out);
+    tell_listed(listed, place)
+}
+
+// Tells the answer of a call that lists scenarios: its number, and the place.
+fn tell_listed(listed: Listed, place: &mut u64) -> u64
+    ensures { λ r. ⌜ r ≡ numberOf (listAnswer listed) ⌝ }
+    ensures { λ _. ⌜ now (place .exit) ≡ wordOf (listAnswer listed) ⌝ }
+{
     match listed {
         Listed::Served => {
             *place = 0;

@@ -1,19 +1,15 @@
--- `wandukhai_scenarios` meets its contract: the call's answer is the one promised, and each arm tells that answer's number and words. Assumes nothing.
-use mathlib.Core.Path.{ap, sym, _∙_}
-use borrow.Author.Needs.{needs}
-use Rattle.generator.specs.Outcomes.{listAnswer}
+-- The call's answer is the one promised, and its number and place are told. Assumes nothing.
+use mathlib.Core.Path.{ap, _∙_}
 use Rattle.capi.specs.Words.{numberOf, wordOf}
+use borrow.Author.Needs.{needs}
 use Rattle.capi.proofs.wandukhai_scenarios.Statement.{statement}
 use Rattle.capi.proofs.wandukhai_scenarios.Tie as tie
 
 scenarios-requires : tie.Need-scenarios-requires
 scenarios-requires c κs = search needs
 
-enum-told : tie.Need-enum-told
-enum-told c = search needs
-
-enum-known-listed : tie.Need-enum-known-listed
-enum-known-listed c = search needs
+tell-listed-requires : tie.Need-tell-listed-requires
+tell-listed-requires c κs = search needs
 
 same-length : tie.Need-same-length
 same-length c = search needs
@@ -24,31 +20,9 @@ same-length-2 c = search needs
 returns : tie.Need-returns
 returns c =
     let k = c .before .before .before .before .before .before .scenarios in
-    let q = sym (k .ensures .0) ∙ ap listAnswer (c .enum-told .given .1) in
-    (sym (ap numberOf q), (sym (ap wordOf q), k .ensures .1))
-
-same-length-3 : tie.Need-same-length-3
-same-length-3 c = search needs
-
-same-length-4 : tie.Need-same-length-4
-same-length-4 c = search needs
-
-returns-2 : tie.Need-returns-2
-returns-2 c =
-    let k = c .before .before .before .before .before .before .before .scenarios in
-    let q = sym (k .ensures .0) ∙ ap listAnswer (c .before .listed .given .1) in
-    (sym (ap numberOf q), (sym (ap wordOf q), k .ensures .1))
+    let t = c .tell-listed in
+    (t .ensures .0 ∙ ap numberOf (k .ensures .0), (t .ensures .1 ∙ ap wordOf (k .ensures .0), k .ensures .1))
 
 pub wandukhai-scenarios-spec : {M : Type 1} → statement M
 wandukhai-scenarios-spec =
-    tie.close
-    (tie.spec
-    scenarios-requires
-    enum-told
-    enum-known-listed
-    same-length
-    same-length-2
-    returns
-    same-length-3
-    same-length-4
-    returns-2)
+    tie.close (tie.spec scenarios-requires tell-listed-requires same-length same-length-2 returns)
