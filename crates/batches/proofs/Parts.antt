@@ -13,7 +13,6 @@ use Rattle.lists.proofs.Tests.{split}
 use Rattle.automaton.specs.Automaton.{Automaton}
 use Rattle.automaton.specs.Counting.{N, most}
 use Rattle.automaton.specs.Ranking.{unrank}
-use Rattle.ranking.specs.declared.Rest.{Rest}
 use Rattle.ranking.specs.Ranks.{Unranked}
 use Rattle.ranking.proofs.Walk.{length-unrank}
 use Rattle.keeping.specs.Keeping.{Past}
@@ -32,15 +31,15 @@ module _ (A : Automaton) (x h : ℕ) where
   }
 
   -- n events more: the part from o + at was lent, and came back as `last`
-  module _ (i at b n s l o : ℕ) (out last : List ℕ) (e : Rest) (long : length last ≡ n) (room : o + at + n ≤ length out)
-      (is : Begun A x h i at (b + n) s l o out) (part : Unranked A b n s l last e) where
+  module _ (i at b n s l o : ℕ) (out last : List ℕ) (s' l' : ℕ) (long : length last ≡ n) (room : o + at + n ≤ length out)
+      (is : Begun A x h i at (b + n) s l o out) (part : Unranked A b n s l last s' l') where
     abbrev after : List ℕ
     after = take (o + at) out ++ (last ++ drop n (drop (o + at) out))
 
     new : (k : ℕ) → k < n → getD after (o + at + k) 0 ≡ getD (unrank A h x i) (at + k) 0
     new k lt =
         splice-in out last (o + at) n 0 room long k lt
-        ∙ sym (List·getD-append last (unrank A b (e .state) (e .left)) 0 k (omega arith)) ∙ ap (λ (w : List ℕ). getD w k 0) (part .written ∙ sym (is .rest)) ∙ getD-drop at (unrank A h x i) k 0
+        ∙ sym (List·getD-append last (unrank A b s' l') 0 k (omega arith)) ∙ ap (λ (w : List ℕ). getD w k 0) (part .written ∙ sym (is .rest)) ∙ getD-drop at (unrank A h x i) k 0
 
     written-more : (j : ℕ) → j < at + n → (at ≤ j) ⊎ (j < at) → getD after (o + j) 0 ≡ getD (unrank A h x i) j 0
     written-more j lt (inl le) =
@@ -49,12 +48,12 @@ module _ (A : Automaton) (x h : ℕ) where
         ap (λ (m : ℕ). getD after m 0) q ∙ new (j - at) (omega arith) ∙ ap (λ (m : ℕ). getD (unrank A h x i) m 0) r
     written-more j lt (inr h) = splice-before out last (o + at) n 0 room long (o + j) (omega arith) ∙ is .written j h
 
-    begun-more : Begun A x h i (at + n) b (e .state) (e .left) o after
+    begun-more : Begun A x h i (at + n) b s' l' o after
     begun-more = record {
       not-cut-off = omega (arith, part .no-more, is .not-cut-off);
       is-below = part .is-below;
       written = λ j lt. written-more j lt (split at j);
-      rest = sym (drop-drop n at (unrank A h x i)) ∙ ap (drop n) (is .rest ∙ sym (part .written)) ∙ drop-at last (unrank A b (e .state) (e .left)) n long;
+      rest = sym (drop-drop n at (unrank A h x i)) ∙ ap (drop n) (is .rest ∙ sym (part .written)) ∙ drop-at last (unrank A b s' l') n long;
     }
 
 -- the first k scenarios have the next part too
@@ -71,18 +70,18 @@ module _ (A : Automaton) (x h : ℕ) (is : List ℕ) (at n b : ℕ) where
   unfolding AllBegun
   passed-all k states left out e p j lt = p .done j (omega arith)
 
-  module _ (k : ℕ) (states left out last : List ℕ) (e : Rest) (lt : k < length is) (within : at + n ≤ h) (fits : length is * h ≤ length out)
+  module _ (k : ℕ) (states left out last : List ℕ) (s' l' : ℕ) (lt : k < length is) (within : at + n ≤ h) (fits : length is * h ≤ length out)
       (some : k < length states) (some-left : k < length left) (p : Passed A x h is at n b k states left out)
-      {m w : ℕ} (m-is : m ≡ n) (w-is : w ≡ n) (told : Unranked A b m (getD states k 0) (getD left k 0) last e) where
-    part : Unranked A b n (getD states k 0) (getD left k 0) last e
-    part = subst (λ (j : ℕ). Unranked A b j (getD states k 0) (getD left k 0) last e) m-is told
+      {m w : ℕ} (m-is : m ≡ n) (w-is : w ≡ n) (told : Unranked A b m (getD states k 0) (getD left k 0) last s' l') where
+    part : Unranked A b n (getD states k 0) (getD left k 0) last s' l'
+    part = subst (λ (j : ℕ). Unranked A b j (getD states k 0) (getD left k 0) last s' l') m-is told
 
     long : length last ≡ n
     long =
         let all = ap length (part .written) in
-        let rest : length (unrank A b (e .state) (e .left)) ≡ b = length-unrank A b (e .state) (e .left) (part .is-below) in
+        let rest : length (unrank A b s' l') ≡ b = length-unrank A b s' l' (part .is-below) in
         let whole : length (unrank A (b + n) (getD states k 0) (getD left k 0)) ≡ b + n = length-unrank A (b + n) (getD states k 0) (getD left k 0) (p .ahead k (omega arith) lt .is-below) in
-        let sum : length last + length (unrank A b (e .state) (e .left)) ≡ length (last ++ unrank A b (e .state) (e .left)) = sym (length-append last (unrank A b (e .state) (e .left))) in
+        let sum : length last + length (unrank A b s' l') ≡ length (last ++ unrank A b s' l') = sym (length-append last (unrank A b s' l')) in
         omega arith
 
     abbrev from : ℕ
@@ -98,9 +97,9 @@ module _ (A : Automaton) (x h : ℕ) (is : List ℕ) (at n b : ℕ) where
     room = omega (arith, own-end)
 
     beside : (j : ℕ) → j ≢ k → (i at b : ℕ) → at ≤ h → Begun A x h i at b (getD states j 0) (getD left j 0) (j * h) out
-        → Begun A x h i at b (getD (set states k (e .state)) j 0) (getD (set left k (e .left)) j 0) (j * h) written
+        → Begun A x h i at b (getD (set states k s') j 0) (getD (set left k l') j 0) (j * h) written
     beside j ne i at' b' le is' =
-        rw (getD-set-other states k j (e .state) 0 ne, getD-set-other left k j (e .left) 0 ne) (begun-beside A x h i at' b' (getD states j 0) (getD left j 0) (j * h) out written (λ m l. same m l (split k j)) is')
+        rw (getD-set-other states k j s' 0 ne, getD-set-other left k j l' 0 ne) (begun-beside A x h i at' b' (getD states j 0) (getD left j 0) (j * h) out written (λ m l. same m l (split k j)) is')
       where
         same : (m : ℕ) → m < at' → (k ≤ j) ⊎ (j < k) → getD written (j * h + m) 0 ≡ getD out (j * h + m) 0
         same m l (inl kj) = splice-past out last from n 0 room long (j * h + m) (omega (arith, place-below k j h (next kj ne)))
@@ -113,19 +112,19 @@ module _ (A : Automaton) (x h : ℕ) (is : List ℕ) (at n b : ℕ) where
                 go (inr q) = q
         same m l (inr jk) = splice-before out last from n 0 room long (j * h + m) (omega (arith, place-below j k h jk))
 
-    done-more : (j : ℕ) → (j ≡ k) ⊎ (j < k) → Begun A x h (getD is j 0) (at + n) b (getD (set states k (e .state)) j 0) (getD (set left k (e .left)) j 0) (j * h) written
+    done-more : (j : ℕ) → (j ≡ k) ⊎ (j < k) → Begun A x h (getD is j 0) (at + n) b (getD (set states k s') j 0) (getD (set left k l') j 0) (j * h) written
     done-more j (inl q) =
-        rw (q, getD-set-same states k (e .state) 0 some, getD-set-same left k (e .left) 0 some-left)
-        (begun-more A x h (getD is k 0) at b n (getD states k 0) (getD left k 0) (k * h) out last e long room (p .ahead k (omega arith) lt) part)
+        rw (q, getD-set-same states k s' 0 some, getD-set-same left k l' 0 some-left)
+        (begun-more A x h (getD is k 0) at b n (getD states k 0) (getD left k 0) (k * h) out last s' l' long room (p .ahead k (omega arith) lt) part)
     done-more j (inr l) = beside j (λ q. omega arith) (getD is j 0) (at + n) b within (p .done j l)
 
-    next : Passed A x h is at n b (k + 1) (set states k (e .state)) (set left k (e .left)) written
+    next : Passed A x h is at n b (k + 1) (set states k s') (set left k l') written
     next = record {
       done = λ j l. done-more j (eq-or-lt-of-le (omega arith));
       ahead = λ j le l. beside j (λ q. omega arith) (getD is j 0) at (b + n) (omega arith) (p .ahead j (omega arith) l);
     }
 
-    pub passed-more : (d : List ℕ) → Past (length is * h) d out → Passed A x h is at n b (k + 1) (set states k (e .state)) (set left k (e .left)) (take from out ++ (last ++ drop w (drop from out)))
+    pub passed-more : (d : List ℕ) → Past (length is * h) d out → Passed A x h is at n b (k + 1) (set states k s') (set left k l') (take from out ++ (last ++ drop w (drop from out)))
         × Past (length is * h) d (take from out ++ (last ++ drop w (drop from out)))
     unfolding Past
     passed-more d past = rw w-is (next, λ i le. splice-past out last from n 0 room long i (omega (arith, place-below k (length is) h lt)) ∙ past i le)

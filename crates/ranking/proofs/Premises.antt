@@ -15,7 +15,6 @@ use Rattle.automaton.proofs.Counting.{N-live}
 use Rattle.promises.specs.Calls.{filled}
 use Rattle.counting.specs.Tabled.{Tabled, HoldsRow}
 use Rattle.ranking.specs.declared.Choice.{Choice}
-use Rattle.ranking.specs.declared.Rest.{Rest}
 use Rattle.ranking.specs.Ranks.{HoldsRows, Exact, Chosen, Unranked, IndicesBelow, withScenarios}
 use Rattle.ranking.proofs.Steps.{chosen-unrank, chosen-least}
 use Rattle.ranking.proofs.Rows.{rows-fewer, row-lent, filled-rows, rest-back}
@@ -42,18 +41,18 @@ module _ (A : Automaton) where
       }
 
   -- the step's event is stored, and the rest of the part comes back with what follows it
-  pub unranked-step : (b k x i : ℕ) (out : List ℕ) (c : Choice) → Chosen A (b + k) x i c → (last : List ℕ) (e : Rest) → length out ≡ k + 1 → i < N A (b + length out) x
-      → {m : ℕ} → m ≡ k → Unranked A b m (c .state) (c .left) last e
-      → Unranked A b (length out) x i (take 1 (set out 0 (c .event)) ++ (last ++ drop (length (set out 0 (c .event)) - 1) (drop 1 (set out 0 (c .event))))) e
-  unranked-step b k x i out c is last e n below {m} q on =
-      let s : b + length out ≡ b + k + 1 = omega arith in
-      let l : live A x ≡ true = N-live A (b + length out) x (omega arith) in
+  pub unranked-step : (b k x i : ℕ) (out : List ℕ) (c : Choice) → Chosen A (b + k) x i c → (last : List ℕ) (s l : ℕ) → length out ≡ k + 1 → i < N A (b + length out) x
+      → {m : ℕ} → m ≡ k → Unranked A b m (c .state) (c .left) last s l
+      → Unranked A b (length out) x i (take 1 (set out 0 (c .event)) ++ (last ++ drop (length (set out 0 (c .event)) - 1) (drop 1 (set out 0 (c .event))))) s l
+  unranked-step b k x i out c is last s l n below {m} q on =
+      let more : b + length out ≡ b + k + 1 = omega arith in
+      let here : live A x ≡ true = N-live A (b + length out) x (omega arith) in
       record {
         written =
-            ap (λ (w : List ℕ). w ++ unrank A b (e .state) (e .left)) (rest-back out (c .event) last (omega arith))
-            ∙ ap (λ (w : List ℕ). c .event ∷ w) (on .written ∙ ap (λ (j : ℕ). unrank A (b + j) (c .state) (c .left)) q) ∙ sym (chosen-unrank A (b + k) x i c is) ∙ ap (λ (m : ℕ). unrank A m x i) (sym s);
+            ap (λ (w : List ℕ). w ++ unrank A b s l) (rest-back out (c .event) last (omega arith))
+            ∙ ap (λ (w : List ℕ). c .event ∷ w) (on .written ∙ ap (λ (j : ℕ). unrank A (b + j) (c .state) (c .left)) q) ∙ sym (chosen-unrank A (b + k) x i c is) ∙ ap (λ (m : ℕ). unrank A m x i) (sym more);
         is-below = on .is-below;
-        no-more = omega (arith, on .no-more, ap (λ (j : ℕ). N A (b + j) (c .state)) q, chosen-least A (b + k) x i c is l, ap (λ (j : ℕ). N A j x) s);
+        no-more = omega (arith, on .no-more, ap (λ (j : ℕ). N A (b + j) (c .state)) q, chosen-least A (b + k) x i c is here, ap (λ (j : ℕ). N A j x) more);
       }
 
   -- of all rows: each stands at its place, and the count is that of all events
@@ -65,9 +64,9 @@ module _ (A : Automaton) where
     whole-few = subst (λ (k : ℕ). N A k x < most) (zero-add n) (exact .not-cut-off)
 
   -- with no events left after it, what is written is the scenario
-  pub unranked-whole : (n x i : ℕ) (after : List ℕ) (e : Rest) → Unranked A 0 n x i after e → after ≡ unrank A n x i
+  pub unranked-whole : (n x i : ℕ) (after : List ℕ) (s l : ℕ) → Unranked A 0 n x i after s l → after ≡ unrank A n x i
   unfolding unrank
-  unranked-whole n x i after e is = sym (append-nil after) ∙ is .written ∙ rw (zero-add n)
+  unranked-whole n x i after s l is = sym (append-nil after) ∙ is .written ∙ rw (zero-add n)
 
   -- the scenarios fill as many bytes as they have
   pub served-fresh : (h x : ℕ) (is out : List ℕ) → IndicesBelow (N A h x) is

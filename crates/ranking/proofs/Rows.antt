@@ -72,6 +72,6 @@ rest-back (o ∷ os) v last h =
     rw (n, drop-length, append-nil)
 
 -- a part of no bytes is the scenario's first no events
-pub rest-none : (A : Automaton) (b x i : ℕ) (out : List ℕ) → length out ≡ 0 → i < N A (b + length out) x → Unranked A b (length out) x i out (record { state = x; left = i })
+pub rest-none : (A : Automaton) (b x i : ℕ) (out : List ℕ) → length out ≡ 0 → i < N A (b + length out) x → Unranked A b (length out) x i out x i
 rest-none A b x i [] h below = let z : b + 0 ≡ b = omega arith in record { written = rw z; is-below = rw z at below; no-more = rw z (omega arith) }
 rest-none A b x i (o ∷ os) h below = absurd (omega arith)

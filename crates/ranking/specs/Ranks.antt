@@ -8,8 +8,8 @@
 --   FoundEvent A r x e f              == f is how a scenario from x begins with the event e, with r events left after it
 --   FoundOrNot A p r x e f            == f is that, or its state is p where e isn't admitted or leads to a state not live
 --   FoundBy t cells p x e f           == the same, whatever automaton the table and the row of cells are those of
---   Unranked A b n x i a e            == a is the first n events of the scenario of index i from x, of b events more, and e is where they end
---   UnrankedBy t cells p x i out a e  == the same for as many events as the output has bytes, whatever automaton the table and the rows are those of
+--   Unranked A b n x i a s l          == a is the first n events of the scenario of index i from x; the b events after them are the scenario of index l from s
+--   UnrankedBy t cells p x i out a s l == the same for as many events as the output has bytes, whatever automaton the table and the rows are those of
 --   rankedAs A x s                    == what is told of the sequence s from x: its index, or the place where it is no scenario
 --   RankedBy t cells p x s k          == k is that
 --   IndicesBelow n is                 == every index of the list is below n
@@ -30,7 +30,6 @@ use Rattle.automaton.specs.Counting.{N, most}
 use Rattle.automaton.specs.Ranking.{before, unrank, rank, firstViolation}
 use Rattle.counting.specs.Tabled.{Tabled, HoldsRow, rowsFrom}
 use Rattle.ranking.specs.declared.Choice.{Choice}
-use Rattle.ranking.specs.declared.Rest.{Rest}
 use Rattle.ranking.specs.declared.Found.{Found}
 use Rattle.ranking.specs.declared.Ranked.{Ranked}
 use Rattle.ranking.specs.declared.Ranked.the-variants.{Index, Violation}
@@ -78,14 +77,14 @@ FoundBy t cells p x e f = (A : Automaton) (r : ℕ) → Tabled A p t → HoldsRo
 
 -- ---- whole sequences
 
-pub record Unranked (A : Automaton) (b n x i : ℕ) (after : List ℕ) (e : Rest) : Type 0 where
-  pub written : after ++ unrank A b (e .state) (e .left) ≡ unrank A (b + n) x i
-  pub is-below : e .left < N A b (e .state)
-  pub no-more : N A b (e .state) ≤ N A (b + n) x
+pub record Unranked (A : Automaton) (b n x i : ℕ) (after : List ℕ) (s l : ℕ) : Type 0 where
+  pub written : after ++ unrank A b s l ≡ unrank A (b + n) x i
+  pub is-below : l < N A b s
+  pub no-more : N A b s ≤ N A (b + n) x
 
-abbrev pub UnrankedBy : List ℕ → List ℕ → ℕ → ℕ → ℕ → List ℕ → List ℕ → Rest → Type 0
-UnrankedBy t cells p x i out after e =
-    (A : Automaton) (b : ℕ) → Exact A p b (length out) x t cells → i < N A (b + length out) x → Unranked A b (length out) x i after e
+abbrev pub UnrankedBy : List ℕ → List ℕ → ℕ → ℕ → ℕ → List ℕ → List ℕ → ℕ → ℕ → Type 0
+UnrankedBy t cells p x i out after s l =
+    (A : Automaton) (b : ℕ) → Exact A p b (length out) x t cells → i < N A (b + length out) x → Unranked A b (length out) x i after s l
 
 -- refusal 14: the place is that of the 'first event that isn't admitted or leads to a state not live'
 unfoldable pub rankedAs : Automaton → ℕ → List ℕ → Ranked

@@ -16,12 +16,6 @@ pub struct Choice {
     pub state: usize,
 }
 
-// Where an unranking ended: the state, and what is left of the index there.
-pub struct Rest {
-    pub state: usize,
-    pub left: u64,
-}
-
 // One step of ranking: how many indices lie before those that begin with the event, and the state that the event leads to.
 struct Found {
     before: u64,
@@ -72,8 +66,8 @@ pub fn choose_event(cells: &[u64], table: &[u16; 16384], p: usize, x: usize, i: 
     }
 }
 
-// Writes the next events of the scenario of index i from x, as many as the part lent has bytes, and tells where it ended. The cells begin with
-// the rows of what is left after each of these events, the last event's first.
+// Writes the next events of the scenario of index i from x, as many as the part lent has bytes. Gives what is left of the index and, in `end`, the state that
+// they lead to. The cells begin with the rows of what is left after each of these events, the last event's first.
 pub fn unrank(
     cells: &[u64],
     table: &[u16; 16384],
@@ -81,19 +75,21 @@ pub fn unrank(
     x: usize,
     i: u64,
     out: &mut [u8],
-) -> Rest
+    end: &mut usize,
+) -> u64
     requires { ⌜ (p ≤ 1024) × (x < p) × (length (now out) * p ≤ length (now cells)) ⌝ }
-    ensures { λ e. ⌜ e .state < p ⌝ }
-    ensures { λ e. ⌜ UnrankedBy (now (table .entry)) (now (cells .entry)) p x i (now (out .entry)) (now (out .exit)) e ⌝ }
+    ensures { λ _. ⌜ now (end .exit) < p ⌝ }
+    ensures { λ l. ⌜ UnrankedBy (now (table .entry)) (now (cells .entry)) p x i (now (out .entry)) (now (out .exit)) (now (end .exit)) l ⌝ }
 {
     let r = out.len();
     if r == 0 {
-        return Rest { state: x, left: i };
+        *end = x;
+        return i;
     }
     let from = (r - 1) * p;
     let c = choose_event(&cells[from..], table, p, x, i);
     out[0] = c.event;
-    unrank(cells, table, p, c.state, c.left, &mut out[1..])
+    unrank(cells, table, p, c.state, c.left, &mut out[1..], end)
 }
 
 // a + b, or the largest 64-bit number where that is more.
@@ -184,7 +180,8 @@ fn unrank_all(
     for n in 0..list.len() {
         let at = n * h;
         let k = n;
-        unrank(cells, table, p, x, list[k], &mut out[at..at + h]);
+        let mut end = x;
+        unrank(cells, table, p, x, list[k], &mut out[at..at + h], &mut end);
     }
 }
 

@@ -80,9 +80,9 @@ part-unrank-end c =
 unrank-requires : tie.Need-unrank-requires Inv-loop μ-loop
 unfolding StatesBelow
 unrank-requires c κs =
-    let st = c .before .before .before .before .before .before .before .before .before in
-    let lp = c .before .before .before .before .loop in
-    let lt = c .before .before .before .loop-test .taken in
+    let st = c .before .before .before .before .before .before .before .before .before .before in
+    let lp = c .before .before .before .before .before .loop in
+    let lt = c .before .before .before .before .loop-test .taken in
     let own = place-below (lp .k) (st .args .m) (st .args .h) lt in
     (omega arith, lp .inv .4 (lp .k) lt, rw (length-part (lp .out) (lp .k * st .args .h + st .args .at) (st .args .n) (omega arith)) (omega arith))
 
@@ -106,10 +106,10 @@ loop-less c = search needs
 
 loop-again : tie.Need-loop-again Inv-loop μ-loop
 loop-again c =
-    let st = c .before .before .before .before .before .before .before .before .before .before .before .before in
+    let st = c .before .before .before .before .before .before .before .before .before .before .before .before .before in
     let a = st .args in
-    let lp = c .before .before .before .before .before .before .before .loop in
-    let lt : lp .k < a .m = c .before .before .before .before .before .before .loop-test .taken in
+    let lp = c .before .before .before .before .before .before .before .before .loop in
+    let lt : lp .k < a .m = c .before .before .before .before .before .before .before .loop-test .taken in
     let own = place-below (lp .k) (a .m) (a .h) lt in
     let u = c .before .before .unrank in
     let from = lp .k * a .h + a .at in
@@ -119,13 +119,13 @@ loop-again c =
       c .before .out .given .1 ∙ lp .inv .1,
       simp length-set (lp .inv .2),
       simp length-set (lp .inv .3),
-      states-set (a .p) (a .m) (lp .k) (u .result .state) (lp .states) (u .ensures .0) (omega arith) (lp .inv .4),
+      states-set (a .p) (a .m) (lp .k) _ (lp .states) (u .ensures .0) (omega arith) (lp .inv .4),
       λ A b x is tabled holds e all.
           let (passed, past) = lp .inv .5 A b x is tabled holds e all in
           let here = passed .ahead (lp .k) (omega arith) (omega arith) in
           let exact : Exact A (a .p) b (a .n) (getD (lp .states) (lp .k) 0) (a .table .now) (a .rows .now) = record { tabled = tabled; holds = holds; not-cut-off = here .not-cut-off } in
           let told = u .ensures .1 A b (subst (λ (r : ℕ). Exact A (a .p) b r (getD (lp .states) (lp .k) 0) (a .table .now) (a .rows .now)) (sym q) exact) (subst (λ (r : ℕ). getD (lp .left) (lp .k) 0 < N A (b + r) (getD (lp .states) (lp .k) 0)) (sym q) (here .is-below)) in
-          passed-more A x (a .h) is (a .at) (a .n) b (lp .k) (lp .states) (lp .left) (lp .out) _ (u .result) (omega arith) (omega arith) (rw e (omega arith)) (omega arith) (omega arith) passed q w told (a .out .now) past,
+          passed-more A x (a .h) is (a .at) (a .n) b (lp .k) (lp .states) (lp .left) (lp .out) _ _ (u .result) (omega arith) (omega arith) (rw e (omega arith)) (omega arith) (omega arith) passed q w told (a .out .now) past,
     )
 
 same-length : tie.Need-same-length Inv-loop μ-loop

@@ -18,14 +18,14 @@ use Rattle.ranking.proofs.choose_event.Reads as choose-event-reads
 use Rattle.ranking.proofs.+unrank.{statement}
 use Rattle.ranking.proofs.+unrank.Tie.{close}
 
-abbrev μ-unrank : Measures 3 unrank-kinds.ps ℕ
+abbrev μ-unrank : Measures 4 unrank-kinds.ps ℕ
 μ-unrank κs a = length (a .1 .1 .1 .1 .1 .0 .now)
 
-abbrev unrank-at : ℕ → In 3 unrank-kinds.ps
-unrank-at t = and 3 unrank-kinds.ps (is 3 unrank-kinds.ps μ-unrank t) unrank.Pre
+abbrev unrank-at : ℕ → In 4 unrank-kinds.ps
+unrank-at t = and 4 unrank-kinds.ps (is 4 unrank-kinds.ps μ-unrank t) unrank.Pre
 
-abbrev unrank-below : ℕ → In 3 unrank-kinds.ps
-unrank-below t = and 3 unrank-kinds.ps (falls 3 unrank-kinds.ps _<_ μ-unrank t) unrank.Pre
+abbrev unrank-below : ℕ → In 4 unrank-kinds.ps
+unrank-below t = and 4 unrank-kinds.ps (falls 4 unrank-kinds.ps _<_ μ-unrank t) unrank.Pre
 
 unrank-returns : (t : ℕ) → unrank-lts.Need-returns (
   choose-event-reads.Asked,
@@ -144,11 +144,11 @@ unrank-unrank-requires : (t : ℕ) → unrank-lts.Need-unrank-requires (
   unrank.Post,
 ) (unrank-at t) unrank.Post
 unrank-unrank-requires t c κs =
-    let st = c .before .before .before .before .before .before in
+    let st = c .before .before .before .before .before .before .before in
     let a = st .args in
-    let v = c .before .choose-event .result .event in (
+    let v = c .before .before .choose-event .result .event in (
       simp (length-take, length-drop, length-set) (omega arith),
-      (omega arith, c .before .choose-event .ensures .0, rest-within (a .out .now) v (omega arith) (a .p) (length (a .cells .now)) (st .pre .1 .2)),
+      (omega arith, c .before .before .choose-event .ensures .0, rest-within (a .out .now) v (omega arith) (a .p) (length (a .cells .now)) (st .pre .1 .2)),
     )
 
 unrank-same-length : (t : ℕ) → unrank-lts.Need-same-length (
@@ -166,12 +166,12 @@ unrank-returns-2 : (t : ℕ) → unrank-lts.Need-returns-2 (
   unrank.Post,
 ) (unrank-at t) unrank.Post
 unrank-returns-2 t c =
-    let st = c .before .before .before .before .before .before .before .before .before in
+    let st = c .before .before .before .before .before .before .before .before .before .before in
     let a = st .args in
     let cells = a .cells .now in
     let r = length (a .out .now) in
     let k = r - 1 in
-    let ch = c .before .before .before .before .choose-event in
+    let ch = c .before .before .before .before .before .choose-event in
     let on = c .before .before .unrank in
     let e : r ≡ k + 1 = omega arith in (
       on .ensures .0,
@@ -183,7 +183,7 @@ unrank-returns-2 t c =
           let rest : Exact A (a .p) b k (ch .result .state) (a .table .now) cells = exact-on A (a .p) b k (a .x) (a .i) (a .table .now) cells (ch .result) is below e exact in
           let q = sym (length-rest (a .out .now) (ch .result .event) (omega arith)) in
           let back = on .ensures .1 A b (subst (λ (n : ℕ). Exact A (a .p) b n (ch .result .state) (a .table .now) cells) q rest) (subst (λ (n : ℕ). ch .result .left < N A (b + n) (ch .result .state)) q (is .is-below)) in
-          unranked-step A b k (a .x) (a .i) (a .out .now) (ch .result) is _ (on .result) e below (sym q) back,
+          unranked-step A b k (a .x) (a .i) (a .out .now) (ch .result) is _ _ (on .result) e below (sym q) back,
     )
 
 pub +unrank-spec : {M : Type 1} → statement M

@@ -71,10 +71,10 @@ part-unrank-end c =
 
 unrank-requires : tie.Need-unrank-requires Inv-loop μ-loop
 unrank-requires c κs =
-    let st = c .before .before .before .before .before .before .before in
+    let st = c .before .before .before .before .before .before .before .before in
     let a = st .args in
-    let lp = c .before .before .before .loop in
-    let room : lp .n * a .h + a .h ≤ length (a .out .now) = row-within (lp .n) (length (a .list .now)) (a .h) (length (a .out .now)) (c .before .before .loop-test .taken) (st .pre .3) in
+    let lp = c .before .before .before .before .loop in
+    let room : lp .n * a .h + a .h ≤ length (a .out .now) = row-within (lp .n) (length (a .list .now)) (a .h) (length (a .out .now)) (c .before .before .before .loop-test .taken) (st .pre .3) in
     (omega arith, omega arith, rw (length-part (lp .out) (lp .n * a .h) (a .h) (omega arith)) (omega arith))
 
 add-n : tie.Need-add-n Inv-loop μ-loop
@@ -86,10 +86,10 @@ loop-less c = search needs
 loop-again : tie.Need-loop-again Inv-loop μ-loop
 unfolding IndicesBelow
 loop-again c =
-    let st = c .before .before .before .before .before .before .before .before .before .before in
+    let st = c .before .before .before .before .before .before .before .before .before .before .before in
     let a = st .args in
-    let lp = c .before .before .before .before .before .before .loop in
-    let lt : lp .n < length (a .list .now) = c .before .before .before .before .before .loop-test .taken in
+    let lp = c .before .before .before .before .before .before .before .loop in
+    let lt : lp .n < length (a .list .now) = c .before .before .before .before .before .before .loop-test .taken in
     let room : lp .n * a .h + a .h ≤ length (a .out .now) = row-within (lp .n) (length (a .list .now)) (a .h) (length (a .out .now)) lt (st .pre .3) in
     let i = getD (a .list .now) (lp .n) 0 in
     let q = sym (length-part (lp .out) (lp .n * a .h) (a .h) (omega arith)) in (
@@ -98,7 +98,7 @@ loop-again c =
       λ A exact below.
           let back = c .before .before .unrank .ensures .1 A 0 (subst (λ (r : ℕ). Exact A (a .p) 0 r (a .x) (a .table .now) (a .cells .now)) q exact) (subst (λ (r : ℕ). i < N A r (a .x)) (sym (zero-add (a .h)) ∙ ap (λ (r : ℕ). 0 + r) q) (below (lp .n) lt)) in
           walk-step (unrank A (a .h) (a .x)) (a .h) (a .list .now) (λ k h. length-unrank A (a .h) (a .x) (getD (a .list .now) k 0) (below k h)) (a .out .now) (lp .out) (lp .n) _ lt
-          (lp .inv .2 A exact below) (unranked-whole A _ (a .x) i _ _ back ∙ ap (λ (r : ℕ). unrank A r (a .x) i) (sym q)),
+          (lp .inv .2 A exact below) (unranked-whole A _ (a .x) i _ _ _ back ∙ ap (λ (r : ℕ). unrank A r (a .x) i) (sym q)),
     )
 
 same-length : tie.Need-same-length Inv-loop μ-loop
