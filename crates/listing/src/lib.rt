@@ -174,8 +174,8 @@ fn write_events(
     requires { ⌜ (states ≤ 1024) × (start < states) × (h * states ≤ length (now cells)) × (h ≤ length (now events)) ⌝ }
     ensures { λ _. ⌜ EventsBy (now (table .entry)) (now (cells .entry)) states start h i (now (events .entry)) (now (events .exit)) ⌝ }
 {
-    let mut end = start;
-    ranking::unrank(cells, table, states, start, i, &mut events[..h], &mut end);
+    let mut left = i;
+    ranking::unrank(cells, table, states, start, &mut left, &mut events[..h]);
 }
 
 // Writes the line of the index that comes next at the front of `line`. Gives the line's length.

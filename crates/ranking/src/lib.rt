@@ -66,30 +66,29 @@ pub fn choose_event(cells: &[u64], table: &[u16; 16384], p: usize, x: usize, i: 
     }
 }
 
-// Writes the next events of the scenario of index i from x, as many as the part lent has bytes. Gives what is left of the index and, in `end`, the state that
-// they lead to. The cells begin with the rows of what is left after each of these events, the last event's first.
+// Writes the next events of the scenario of index i from x, as many as the part lent has bytes. Gives the state that they lead to, and leaves what is left of
+// the index. The cells begin with the rows of what is left after each of these events, the last event's first.
 pub fn unrank(
     cells: &[u64],
     table: &[u16; 16384],
     p: usize,
     x: usize,
-    i: u64,
+    i: &mut u64,
     out: &mut [u8],
-    end: &mut usize,
-) -> u64
+) -> usize
     requires { ⌜ (p ≤ 1024) × (x < p) × (length (now out) * p ≤ length (now cells)) ⌝ }
-    ensures { λ _. ⌜ now (end .exit) < p ⌝ }
-    ensures { λ l. ⌜ UnrankedBy (now (table .entry)) (now (cells .entry)) p x i (now (out .entry)) (now (out .exit)) (now (end .exit)) l ⌝ }
+    ensures { λ s. ⌜ s < p ⌝ }
+    ensures { λ s. ⌜ UnrankedBy (now (table .entry)) (now (cells .entry)) p x (now (i .entry)) (now (out .entry)) (now (out .exit)) s (now (i .exit)) ⌝ }
 {
     let r = out.len();
     if r == 0 {
-        *end = x;
-        return i;
+        return x;
     }
     let from = (r - 1) * p;
-    let c = choose_event(&cells[from..], table, p, x, i);
+    let c = choose_event(&cells[from..], table, p, x, *i);
     out[0] = c.event;
-    unrank(cells, table, p, c.state, c.left, &mut out[1..], end)
+    *i = c.left;
+    unrank(cells, table, p, c.state, i, &mut out[1..])
 }
 
 // a + b, or the largest 64-bit number where that is more.
@@ -179,9 +178,8 @@ fn unrank_all(
 {
     for n in 0..list.len() {
         let at = n * h;
-        let k = n;
-        let mut end = x;
-        unrank(cells, table, p, x, list[k], &mut out[at..at + h], &mut end);
+        let mut i = list[n];
+        unrank(cells, table, p, x, &mut i, &mut out[at..at + h]);
     }
 }
 

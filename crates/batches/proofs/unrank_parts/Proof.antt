@@ -49,22 +49,22 @@ add-from c =
     let st = c .before .before .before .before .before .before in
     omega (arith, place-below (c .before .loop .k) (st .args .m) (st .args .h) (c .loop-test .taken))
 
+mul-i : tie.Need-mul-i Inv-loop μ-loop
+mul-i c = search needs
+
+slice-read-i : tie.Need-slice-read-i Inv-loop μ-loop
+slice-read-i c = search needs
+
 mul-unrank : tie.Need-mul-unrank Inv-loop μ-loop
 mul-unrank c = search needs
 
 slice-read-unrank : tie.Need-slice-read-unrank Inv-loop μ-loop
 slice-read-unrank c = search needs
 
-mul-unrank-2 : tie.Need-mul-unrank-2 Inv-loop μ-loop
-mul-unrank-2 c = search needs
-
-slice-read-unrank-2 : tie.Need-slice-read-unrank-2 Inv-loop μ-loop
-slice-read-unrank-2 c = search needs
-
 add-unrank : tie.Need-add-unrank Inv-loop μ-loop
 add-unrank c =
-    let st = c .before .before .before .before .before .before .before .before in
-    omega (arith, place-below (c .before .before .before .loop .k) (st .args .m) (st .args .h) (c .before .before .loop-test .taken))
+    let st = c .before .before .before .before .before .before .before .before .before in
+    omega (arith, place-below (c .before .before .before .before .loop .k) (st .args .m) (st .args .h) (c .before .before .before .loop-test .taken))
 
 sub-unrank : tie.Need-sub-unrank Inv-loop μ-loop
 sub-unrank c = search needs
@@ -74,8 +74,8 @@ part-unrank-start c = search needs
 
 part-unrank-end : tie.Need-part-unrank-end Inv-loop μ-loop
 part-unrank-end c =
-    let st = c .before .before .before .before .before .before .before .before in
-    omega (arith, place-below (c .before .before .before .loop .k) (st .args .m) (st .args .h) (c .before .before .loop-test .taken))
+    let st = c .before .before .before .before .before .before .before .before .before in
+    omega (arith, place-below (c .before .before .before .before .loop .k) (st .args .m) (st .args .h) (c .before .before .before .loop-test .taken))
 
 unrank-requires : tie.Need-unrank-requires Inv-loop μ-loop
 unfolding StatesBelow
@@ -119,13 +119,13 @@ loop-again c =
       c .before .out .given .1 ∙ lp .inv .1,
       simp length-set (lp .inv .2),
       simp length-set (lp .inv .3),
-      states-set (a .p) (a .m) (lp .k) _ (lp .states) (u .ensures .0) (omega arith) (lp .inv .4),
+      states-set (a .p) (a .m) (lp .k) (u .result) (lp .states) (u .ensures .0) (omega arith) (lp .inv .4),
       λ A b x is tabled holds e all.
           let (passed, past) = lp .inv .5 A b x is tabled holds e all in
           let here = passed .ahead (lp .k) (omega arith) (omega arith) in
           let exact : Exact A (a .p) b (a .n) (getD (lp .states) (lp .k) 0) (a .table .now) (a .rows .now) = record { tabled = tabled; holds = holds; not-cut-off = here .not-cut-off } in
           let told = u .ensures .1 A b (subst (λ (r : ℕ). Exact A (a .p) b r (getD (lp .states) (lp .k) 0) (a .table .now) (a .rows .now)) (sym q) exact) (subst (λ (r : ℕ). getD (lp .left) (lp .k) 0 < N A (b + r) (getD (lp .states) (lp .k) 0)) (sym q) (here .is-below)) in
-          passed-more A x (a .h) is (a .at) (a .n) b (lp .k) (lp .states) (lp .left) (lp .out) _ _ (u .result) (omega arith) (omega arith) (rw e (omega arith)) (omega arith) (omega arith) passed q w told (a .out .now) past,
+          passed-more A x (a .h) is (a .at) (a .n) b (lp .k) (lp .states) (lp .left) (lp .out) _ (u .result) _ (omega arith) (omega arith) (rw e (omega arith)) (omega arith) (omega arith) passed q w told (a .out .now) past,
     )
 
 same-length : tie.Need-same-length Inv-loop μ-loop
@@ -156,10 +156,10 @@ unrank-parts-spec =
     loop-holds
     mul-from
     add-from
+    mul-i
+    slice-read-i
     mul-unrank
     slice-read-unrank
-    mul-unrank-2
-    slice-read-unrank-2
     add-unrank
     sub-unrank
     part-unrank-start

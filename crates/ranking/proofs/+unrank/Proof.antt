@@ -36,7 +36,7 @@ unrank-returns : (t : ℕ) → unrank-lts.Need-returns (
 unrank-returns t c =
     let st = c .before .before .before in
     let a = st .args in
-    (st .pre .1 .1, λ A b exact below. rest-none A b (a .x) (a .i) (a .out .now) (c .if1 .taken) below)
+    (st .pre .1 .1, λ A b exact below. rest-none A b (a .x) (a .i .now) (a .out .now) (c .if1 .taken) below)
 
 unrank-sub-from : (t : ℕ) → unrank-lts.Need-sub-from (
   choose-event-reads.Asked,
@@ -101,7 +101,7 @@ unrank-choose-event-requires : (t : ℕ) → unrank-lts.Need-choose-event-requir
   unrank.Post,
 ) (unrank-at t) unrank.Post
 unrank-choose-event-requires t c κs =
-    let st = c .before .before .before .before in
+    let st = c .before .before .before .before .before in
     let fits : (length (st .args .out .now) - 1) * st .args .p + st .args .p ≤ length (st .args .cells .now) = row-within (length (st .args .out .now) - 1) (length (st .args .out .now)) (st .args .p) (length (st .args .cells .now)) (omega arith) (st .pre .1 .2) in
     (omega arith, omega arith, simp (length-take, length-drop) (omega arith))
 
@@ -144,7 +144,7 @@ unrank-unrank-requires : (t : ℕ) → unrank-lts.Need-unrank-requires (
   unrank.Post,
 ) (unrank-at t) unrank.Post
 unrank-unrank-requires t c κs =
-    let st = c .before .before .before .before .before .before .before in
+    let st = c .before .before .before .before .before .before .before .before in
     let a = st .args in
     let v = c .before .before .choose-event .result .event in (
       simp (length-take, length-drop, length-set) (omega arith),
@@ -166,24 +166,24 @@ unrank-returns-2 : (t : ℕ) → unrank-lts.Need-returns-2 (
   unrank.Post,
 ) (unrank-at t) unrank.Post
 unrank-returns-2 t c =
-    let st = c .before .before .before .before .before .before .before .before .before .before in
+    let st = c .before .before .before .before .before .before .before .before .before .before .before in
     let a = st .args in
     let cells = a .cells .now in
     let r = length (a .out .now) in
     let k = r - 1 in
     let ch = c .before .before .before .before .before .choose-event in
     let on = c .before .before .unrank in
-    let e : r ≡ k + 1 = omega arith in (
+    let e : r ≡ k + 1 = omega (arith, c .before .before .before .before .before .before .before .before .if1 .left) in (
       on .ensures .0,
       λ A b exact below.
           let s : b + r ≡ b + k + 1 = omega arith in
           let less : N A (b + k + 1) (a .x) < most = subst (λ (n : ℕ). N A n (a .x) < most) s (exact .not-cut-off) in
-          let is : Chosen A (b + k) (a .x) (a .i) (ch .result) =
-          ch .ensures .1 A (b + k) (exact .tabled) (row-lent A b cells (a .p) k r (exact .tabled .states) (exact .holds) (omega arith)) .some (subst (λ (n : ℕ). a .i < N A n (a .x)) s below) less in
-          let rest : Exact A (a .p) b k (ch .result .state) (a .table .now) cells = exact-on A (a .p) b k (a .x) (a .i) (a .table .now) cells (ch .result) is below e exact in
+          let is : Chosen A (b + k) (a .x) (a .i .now) (ch .result) =
+          ch .ensures .1 A (b + k) (exact .tabled) (row-lent A b cells (a .p) k r (exact .tabled .states) (exact .holds) (omega arith)) .some (subst (λ (n : ℕ). a .i .now < N A n (a .x)) s below) less in
+          let rest : Exact A (a .p) b k (ch .result .state) (a .table .now) cells = exact-on A (a .p) b k (a .x) (a .i .now) (a .table .now) cells (ch .result) is below e exact in
           let q = sym (length-rest (a .out .now) (ch .result .event) (omega arith)) in
           let back = on .ensures .1 A b (subst (λ (n : ℕ). Exact A (a .p) b n (ch .result .state) (a .table .now) cells) q rest) (subst (λ (n : ℕ). ch .result .left < N A (b + n) (ch .result .state)) q (is .is-below)) in
-          unranked-step A b k (a .x) (a .i) (a .out .now) (ch .result) is _ _ (on .result) e below (sym q) back,
+          unranked-step A b k (a .x) (a .i .now) (a .out .now) (ch .result) is _ (on .result) _ e below (sym q) back,
     )
 
 pub +unrank-spec : {M : Type 1} → statement M

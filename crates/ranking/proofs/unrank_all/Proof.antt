@@ -36,38 +36,38 @@ mul-at c =
     let a = st .args in
     omega (arith, row-within (c .before .loop .n) (length (a .list .now)) (a .h) (length (a .out .now)) (c .loop-test .taken) (st .pre .3))
 
-mul-unrank : tie.Need-mul-unrank Inv-loop μ-loop
-mul-unrank c =
+mul-i : tie.Need-mul-i Inv-loop μ-loop
+mul-i c =
     let st = c .before .before .before .before .before in
     let a = st .args in
     omega (arith, row-within (c .before .loop .n) (length (a .list .now)) (a .h) (length (a .out .now)) (c .loop-test .taken) (st .pre .3))
 
-shared-slice-read-unrank : tie.Need-shared-slice-read-unrank Inv-loop μ-loop
-shared-slice-read-unrank c = search needs
+shared-slice-read-i : tie.Need-shared-slice-read-i Inv-loop μ-loop
+shared-slice-read-i c = search needs
 
 add-unrank : tie.Need-add-unrank Inv-loop μ-loop
 add-unrank c =
-    let st = c .before .before .before .before .before .before in
+    let st = c .before .before .before .before .before .before .before in
     let a = st .args in
-    omega (arith, row-within (c .before .before .loop .n) (length (a .list .now)) (a .h) (length (a .out .now)) (c .before .loop-test .taken) (st .pre .3))
+    omega (arith, row-within (c .before .before .before .loop .n) (length (a .list .now)) (a .h) (length (a .out .now)) (c .before .before .loop-test .taken) (st .pre .3))
 
 sub-unrank : tie.Need-sub-unrank Inv-loop μ-loop
 sub-unrank c =
-    let st = c .before .before .before .before .before .before in
+    let st = c .before .before .before .before .before .before .before in
     let a = st .args in
-    omega (arith, row-within (c .before .before .loop .n) (length (a .list .now)) (a .h) (length (a .out .now)) (c .before .loop-test .taken) (st .pre .3))
+    omega (arith, row-within (c .before .before .before .loop .n) (length (a .list .now)) (a .h) (length (a .out .now)) (c .before .before .loop-test .taken) (st .pre .3))
 
 part-unrank-start : tie.Need-part-unrank-start Inv-loop μ-loop
 part-unrank-start c =
-    let st = c .before .before .before .before .before .before in
+    let st = c .before .before .before .before .before .before .before in
     let a = st .args in
-    omega (arith, row-within (c .before .before .loop .n) (length (a .list .now)) (a .h) (length (a .out .now)) (c .before .loop-test .taken) (st .pre .3))
+    omega (arith, row-within (c .before .before .before .loop .n) (length (a .list .now)) (a .h) (length (a .out .now)) (c .before .before .loop-test .taken) (st .pre .3))
 
 part-unrank-end : tie.Need-part-unrank-end Inv-loop μ-loop
 part-unrank-end c =
-    let st = c .before .before .before .before .before .before in
+    let st = c .before .before .before .before .before .before .before in
     let a = st .args in
-    omega (arith, row-within (c .before .before .loop .n) (length (a .list .now)) (a .h) (length (a .out .now)) (c .before .loop-test .taken) (st .pre .3))
+    omega (arith, row-within (c .before .before .before .loop .n) (length (a .list .now)) (a .h) (length (a .out .now)) (c .before .before .loop-test .taken) (st .pre .3))
 
 unrank-requires : tie.Need-unrank-requires Inv-loop μ-loop
 unrank-requires c κs =
@@ -123,8 +123,8 @@ unrank-all-spec =
     μ-loop
     loop-holds
     mul-at
-    mul-unrank
-    shared-slice-read-unrank
+    mul-i
+    shared-slice-read-i
     add-unrank
     sub-unrank
     part-unrank-start
