@@ -58,12 +58,12 @@ pub record Leads (s : List ℕ) (n : ℕ) (line left : List ℕ) : Type 0 where
 
 pub record Lists (A : Automaton) (x : ℕ) (c : Cursor) (cells table : List ℕ) : Type 0 where
   pub starts : c .start ≡ x
-  pub exact : Exact A (c .states) (c .horizon) x table cells
+  pub exact : Exact A (c .states) 0 (c .horizon) x table cells
   pub below : c .lines ≤ N A (c .horizon) x
 
 -- the scenario of index i is written over the first h bytes
 abbrev pub EventsBy : List ℕ → List ℕ → ℕ → ℕ → ℕ → ℕ → List ℕ → List ℕ → Type 0
-EventsBy table cells states x h i events left = (A : Automaton) → Exact A states h x table cells → i < N A h x → left ≡ unrank A h x i ++ drop h events
+EventsBy table cells states x h i events left = (A : Automaton) → Exact A states 0 h x table cells → i < N A h x → left ≡ unrank A h x i ++ drop h events
 
 abbrev pub Serves : List ℕ → Cursor → List ℕ → List ℕ → Type 0
 Serves t c cells table = Lists (rigAutomaton t) (start t) c cells table

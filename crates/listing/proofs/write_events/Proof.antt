@@ -13,21 +13,21 @@ slice-relend-prefix-unrank c = search needs
 
 slice-aggregate-unrank : tie.Need-slice-aggregate-unrank
 slice-aggregate-unrank c =
-    let st = c .before .before .before in
+    let st = c .before .before .before .before in
     sym (length-take-le (st .args .h) (st .args .events .now) (st .pre .3))
 
 unrank-requires : tie.Need-unrank-requires
 unrank-requires c κs =
-    let st = c .before .before .before in
-    (st .pre .0, omega (arith, st .pre .1), rw (length-take-le (st .args .h) (st .args .events .now) (st .pre .3)) (st .pre .2))
+    let st = c .before .before .before .before in
+    (st .pre .0, omega (arith, st .pre .1), rw (length-take-le (st .args .h) (st .args .events .now) (st .pre .3)) (st .pre .2), st .pre .4)
 
 same-length : tie.Need-same-length
 same-length c = search needs
 
 returns : tie.Need-returns
 returns c =
-    let st = c .before .before .before .before .before .before in
-    events-front (st .args .table .now) (st .args .cells .now) (st .args .states) (st .args .start) (st .args .h) (st .args .i) (take (st .args .h) (st .args .events .now)) _ _ (length-take-le (st .args .h) (st .args .events .now) (st .pre .3)) (c .before .before .unrank .ensures)
+    let st = c .before .before .before .before .before .before .before in
+    events-front (st .args .table .now) (st .args .cells .now) (st .args .states) (st .args .start) (st .args .h) (st .args .i) (take (st .args .h) (st .args .events .now)) _ _ _ _ (length-take-le (st .args .h) (st .args .events .now) (st .pre .3)) (c .before .before .unrank .ensures .1)
 
 pub write-events-spec : {M : Type 1} → statement M
 write-events-spec =
