@@ -14,7 +14,7 @@ use Rattle.automaton.specs.Ranking.{unrank}
 use Rattle.ranking.specs.Ranks.{IndicesBelow, withScenarios}
 use Rattle.ranking.proofs.Walk.{length-unrank, length-concatMap-sized}
 use Rattle.keeping.specs.Keeping.{Past}
-use Rattle.batches.specs.Batches.{Begun, AllBegun, Copied}
+use Rattle.batches.specs.Batches.{AllBegun, Copied}
 use Rattle.keeping.proofs.Places.{place-below}
 
 -- one index more is copied

@@ -13,11 +13,11 @@ use Rattle.lists.proofs.Tests.{split}
 use Rattle.automaton.specs.Automaton.{Automaton}
 use Rattle.automaton.specs.Counting.{N, most}
 use Rattle.automaton.specs.Ranking.{unrank}
-use Rattle.ranking.specs.Ranks.{Unranked}
-use Rattle.ranking.proofs.Walk.{length-unrank}
+use Rattle.ranking.specs.Ranks.{Unranked, Begun}
+use Rattle.ranking.proofs.Parts.{unranked-long, begun-more}
 use Rattle.keeping.specs.Keeping.{Past}
-use Rattle.batches.specs.Batches.{Begun, AllBegun, StatesBelow}
-use Rattle.lists.proofs.Splices.{splice-before, splice-in, splice-past}
+use Rattle.batches.specs.Batches.{AllBegun, StatesBelow}
+use Rattle.lists.proofs.Splices.{splice-before, splice-past}
 use Rattle.keeping.proofs.Places.{place-below}
 
 module _ (A : Automaton) (x h : ℕ) where
@@ -29,32 +29,6 @@ module _ (A : Automaton) (x h : ℕ) where
     written = λ j lt. same j lt ∙ is .written j lt;
     rest = is .rest;
   }
-
-  -- n events more: the part from o + at was lent, and came back as `last`
-  module _ (i at b n s l o : ℕ) (out last : List ℕ) (s' l' : ℕ) (long : length last ≡ n) (room : o + at + n ≤ length out)
-      (is : Begun A x h i at (b + n) s l o out) (part : Unranked A b n s l last s' l') where
-    abbrev after : List ℕ
-    after = take (o + at) out ++ (last ++ drop n (drop (o + at) out))
-
-    new : (k : ℕ) → k < n → getD after (o + at + k) 0 ≡ getD (unrank A h x i) (at + k) 0
-    new k lt =
-        splice-in out last (o + at) n 0 room long k lt
-        ∙ sym (List·getD-append last (unrank A b s' l') 0 k (omega arith)) ∙ ap (λ (w : List ℕ). getD w k 0) (part .written ∙ sym (is .rest)) ∙ getD-drop at (unrank A h x i) k 0
-
-    written-more : (j : ℕ) → j < at + n → (at ≤ j) ⊎ (j < at) → getD after (o + j) 0 ≡ getD (unrank A h x i) j 0
-    written-more j lt (inl le) =
-        let q : o + j ≡ o + at + (j - at) = omega arith in
-        let r : at + (j - at) ≡ j = omega arith in
-        ap (λ (m : ℕ). getD after m 0) q ∙ new (j - at) (omega arith) ∙ ap (λ (m : ℕ). getD (unrank A h x i) m 0) r
-    written-more j lt (inr h) = splice-before out last (o + at) n 0 room long (o + j) (omega arith) ∙ is .written j h
-
-    begun-more : Begun A x h i (at + n) b s' l' o after
-    begun-more = record {
-      not-cut-off = omega (arith, part .no-more, is .not-cut-off);
-      is-below = part .is-below;
-      written = λ j lt. written-more j lt (split at j);
-      rest = sym (drop-drop n at (unrank A h x i)) ∙ ap (drop n) (is .rest ∙ sym (part .written)) ∙ drop-at last (unrank A b s' l') n long;
-    }
 
 -- the first k scenarios have the next part too
 pub record Passed (A : Automaton) (x h : ℕ) (is : List ℕ) (at n b k : ℕ) (states left out : List ℕ) : Type 0 where
@@ -77,12 +51,7 @@ module _ (A : Automaton) (x h : ℕ) (is : List ℕ) (at n b : ℕ) where
     part = subst (λ (j : ℕ). Unranked A b j (getD states k 0) (getD left k 0) last s' l') m-is told
 
     long : length last ≡ n
-    long =
-        let all = ap length (part .written) in
-        let rest : length (unrank A b s' l') ≡ b = length-unrank A b s' l' (part .is-below) in
-        let whole : length (unrank A (b + n) (getD states k 0) (getD left k 0)) ≡ b + n = length-unrank A (b + n) (getD states k 0) (getD left k 0) (p .ahead k (omega arith) lt .is-below) in
-        let sum : length last + length (unrank A b s' l') ≡ length (last ++ unrank A b s' l') = sym (length-append last (unrank A b s' l')) in
-        omega arith
+    long = unranked-long A b n (getD states k 0) (getD left k 0) last s' l' (p .ahead k (omega arith) lt .is-below) part
 
     abbrev from : ℕ
     from = k * h + at
@@ -115,7 +84,7 @@ module _ (A : Automaton) (x h : ℕ) (is : List ℕ) (at n b : ℕ) where
     done-more : (j : ℕ) → (j ≡ k) ⊎ (j < k) → Begun A x h (getD is j 0) (at + n) b (getD (set states k s') j 0) (getD (set left k l') j 0) (j * h) written
     done-more j (inl q) =
         rw (q, getD-set-same states k s' 0 some, getD-set-same left k l' 0 some-left)
-        (begun-more A x h (getD is k 0) at b n (getD states k 0) (getD left k 0) (k * h) out last s' l' long room (p .ahead k (omega arith) lt) part)
+        (begun-more A x h (getD is k 0) at b n (getD states k 0) (getD left k 0) (k * h) out last s' l' room (p .ahead k (omega arith) lt) part)
     done-more j (inr l) = beside j (λ q. omega arith) (getD is j 0) (at + n) b within (p .done j l)
 
     next : Passed A x h is at n b (k + 1) (set states k s') (set left k l') written

@@ -1,7 +1,6 @@
 -- Scenarios that are written part by part.
 --   StatesBelow p m states       == each of the m states is below p
---   Begun A x h i at b s l o out == the first `at` events of the scenario of index i stand from o on; the rest, of b events, is that of index l from s
---   AllBegun A x h is at b ..    == so is every scenario of a list of indices, each in its h bytes
+--   AllBegun A x h is at b ..    == every scenario of a list of indices is begun, each in its h bytes
 --   PartsBy                      == n events more of each scenario are written, and nothing past them
 --   BlockBy                      == each scenario is written until 16 × q events are left, and every sixteenth row is still kept
 --   Copied is left               == the numbers at the front are the indices
@@ -11,22 +10,15 @@
 use mathlib.Core.Path.{_≡_}
 use mathlib.Core.List.{List}
 use Prim.Native.Nat.{ℕ, _+_, _-_, _*_, _/_, _<_}
-use lib.ListN.{length, getD, drop}
+use lib.ListN.{length, getD}
 use Rattle.automaton.specs.Automaton.{Automaton}
 use Rattle.automaton.specs.Counting.{N, most}
-use Rattle.automaton.specs.Ranking.{unrank}
 use Rattle.counting.specs.Tabled.{Tabled}
-use Rattle.ranking.specs.Ranks.{HoldsRows, IndicesBelow, withScenarios}
+use Rattle.ranking.specs.Ranks.{HoldsRows, Begun, IndicesBelow, withScenarios}
 use Rattle.keeping.specs.Keeping.{Sixteenths, Past}
 
 unfoldable pub StatesBelow : ℕ → ℕ → List ℕ → Type 0
 StatesBelow p m states = (k : ℕ) → k < m → getD states k 0 < p
-
-pub record Begun (A : Automaton) (x h i at b s l o : ℕ) (out : List ℕ) : Type 0 where
-  pub not-cut-off : N A b s < most
-  pub is-below : l < N A b s
-  pub written : (j : ℕ) → j < at → getD out (o + j) 0 ≡ getD (unrank A h x i) j 0
-  pub rest : drop at (unrank A h x i) ≡ unrank A b s l
 
 unfoldable pub AllBegun : Automaton → ℕ → ℕ → List ℕ → ℕ → ℕ → List ℕ → List ℕ → List ℕ → Type 0
 AllBegun A x h is at b states left out =

@@ -5,7 +5,7 @@ use mathlib.Core.List.{List, _++_}
 use mathlib.Core.Option.{Option, none, some}
 use Prim.Native.Nat.{ℕ, _+_, _-_, _*_, _≤_, _<_, min}
 use native.Mathlib.Omega.{arith}
-use native.Mathlib.Nat.{suc-mul, zero-add}
+use native.Mathlib.Nat.{suc-mul}
 use native.Mathlib.Numerals.{add-one}
 use lib.ListN.{length, take, drop, length-replicate, length-drop}
 use lib.Seq.{take-all, take-at}
@@ -19,8 +19,8 @@ use Rattle.promises.specs.Answer.{Answer, refused}
 use Rattle.promises.specs.Text.{bytes}
 use Rattle.promises.specs.Rig.{rigAutomaton, start}
 use Rattle.promises.specs.Calls.{countFrom, fills, cellsAfter, sizedFor, count, countCells}
-use Rattle.ranking.specs.Ranks.{Exact, UnrankedBy}
-use Rattle.ranking.proofs.Premises.{filled-exact, unranked-whole}
+use Rattle.ranking.specs.Ranks.{Exact, WholeBy}
+use Rattle.ranking.proofs.Premises.{filled-exact}
 use Rattle.ranking.proofs.Walk.{length-unrank}
 use Rattle.rig.specs.declared.Rig.{Rig}
 use Rattle.rig.specs.Record.{recordAutomaton}
@@ -204,8 +204,7 @@ leads-next t c cells table es d line l r ls lt u e w = rw (← events-are) (reco
         ∙ take-at (unrank A h x (c .index)) (drop h d) h (length-unrank A h x (c .index) is-below)
 
 -- what unranking wrote to the part lent, seen in the whole
-pub events-front : (table cells : List ℕ) (p x h i : ℕ) (part ys rest : List ℕ) (s l : ℕ) → length part ≡ h → UnrankedBy table cells p x i part ys s l
+pub events-front : (table cells : List ℕ) (p x h i : ℕ) (part ys rest : List ℕ) → length part ≡ h → WholeBy table cells p x i part ys
     → (A : Automaton) → Exact A p 0 h x table cells → i < N A h x → ys ++ rest ≡ unrank A h x i ++ rest
-events-front table cells p x h i part ys rest s l q u A e b =
-    let told = u A 0 (subst (λ (n : ℕ). Exact A p 0 n x table cells) (sym q) e) (subst (λ (n : ℕ). i < N A n x) (sym (zero-add h) ∙ ap (λ (n : ℕ). 0 + n) (sym q)) b) in
-    ap (λ (w : List ℕ). w ++ rest) (unranked-whole A (length part) x i ys s l told ∙ ap (λ (n : ℕ). unrank A n x i) q)
+events-front table cells p x h i part ys rest q u A e b =
+    ap (λ (l : List ℕ). l ++ rest) (subst (λ (n : ℕ). Exact A p 0 n x table cells → i < N A n x → ys ≡ unrank A n x i) q (u A) e b)

@@ -175,8 +175,7 @@ fn write_events(
     requires { ⌜ (states ≤ 1024) × (start < states) × (h * states ≤ length (now cells)) × (h ≤ length (now events)) × Bounded states (now table) ⌝ }
     ensures { λ _. ⌜ EventsBy (now (table .entry)) (now (cells .entry)) states start h i (now (events .entry)) (now (events .exit)) ⌝ }
 {
-    let mut left = i;
-    ranking::unrank(cells, table, states, start, &mut left, &mut events[..h]);
+    ranking::unrank_whole(cells, table, states, start, i, &mut events[..h]);
 }
 
 // Writes the line of the index that comes next at the front of `line`. Gives the line's length.

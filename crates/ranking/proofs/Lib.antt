@@ -4,3 +4,4 @@ pub mod Rows
 pub mod Walk
 pub mod Along
 pub mod Premises
+pub mod Parts

@@ -1,7 +1,7 @@
 -- What a caller has, in the form that the contracts ask for and give. Assumes nothing.
 use mathlib.Core.Path.{_≡_, sym, ap, _∙_, subst}
 use mathlib.Core.Bool.{true}
-use mathlib.Core.List.{List, _∷_, _++_, append-nil}
+use mathlib.Core.List.{List, _∷_, _++_}
 use Prim.Native.Nat.{ℕ, _+_, _-_, _*_, _<_}
 use native.Mathlib.Omega.{arith}
 use native.Mathlib.Nat.{zero-add}
@@ -62,11 +62,6 @@ module _ (A : Automaton) where
 
     pub whole-few : N A n x < most
     whole-few = subst (λ (k : ℕ). N A k x < most) (zero-add n) (exact .not-cut-off)
-
-  -- with no events left after it, what is written is the scenario
-  pub unranked-whole : (n x i : ℕ) (after : List ℕ) (s l : ℕ) → Unranked A 0 n x i after s l → after ≡ unrank A n x i
-  unfolding unrank
-  unranked-whole n x i after s l is = sym (append-nil after) ∙ is .written ∙ rw (zero-add n)
 
   -- the scenarios fill as many bytes as they have
   pub served-fresh : (h x : ℕ) (is out : List ℕ) → IndicesBelow (N A h x) is

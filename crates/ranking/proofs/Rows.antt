@@ -22,6 +22,12 @@ row-within r n p len l h =
     let b : suc r * p ≡ r * p + p = suc-mul r p in
     omega arith
 
+-- and so are fewer rows
+pub rows-within : (b n p len : ℕ) → b ≤ n → n * p ≤ len → b * p ≤ len
+rows-within b n p len le h =
+    let a : b * p ≤ n * p = mul-le-mul-right p le in
+    omega arith
+
 module _ (A : Automaton) (b : ℕ) (cells : List ℕ) where
   rows-back : (n : ℕ) → HoldsRows A b (suc n) cells → HoldsRows A b n cells
   unfolding HoldsRows rowsFrom stack

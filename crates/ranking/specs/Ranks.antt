@@ -10,6 +10,8 @@
 --   FoundBy t cells p x e f           == the same, whatever automaton the table and the row of cells are those of
 --   Unranked A b n x i a s l          == a is the first n events of the scenario of index i from x; the b events after them are the scenario of index l from s
 --   UnrankedBy t cells p x i out a s l == the same for as many events as the output has bytes, whatever automaton the table and the rows are those of
+--   WholeBy t cells p x i out a       == a is the scenario of index i from x, of as many events as the output has bytes
+--   Begun A x h i at b s l o out      == the first `at` events of the scenario of index i stand from o on, and the rest of it is still to be written
 --   rankedAs A x s                    == what is told of the sequence s from x: its index, or the place where it is no scenario
 --   RankedBy t cells p x s k          == k is that
 --   IndicesBelow n is                 == every index of the list is below n
@@ -85,6 +87,17 @@ pub record Unranked (A : Automaton) (b n x i : ℕ) (after : List ℕ) (s l : �
 abbrev pub UnrankedBy : List ℕ → List ℕ → ℕ → ℕ → ℕ → List ℕ → List ℕ → ℕ → ℕ → Type 0
 UnrankedBy t cells p x i out after s l =
     (A : Automaton) (b : ℕ) → Exact A p b (length out) x t cells → i < N A (b + length out) x → Unranked A b (length out) x i after s l
+
+abbrev pub WholeBy : List ℕ → List ℕ → ℕ → ℕ → ℕ → List ℕ → List ℕ → Type 0
+WholeBy t cells p x i out after =
+    (A : Automaton) → Exact A p 0 (length out) x t cells → i < N A (length out) x → after ≡ unrank A (length out) x i
+
+-- the first `at` events stand from o on; the rest, of b events, is the scenario of index l from s
+pub record Begun (A : Automaton) (x h i at b s l o : ℕ) (out : List ℕ) : Type 0 where
+  pub not-cut-off : N A b s < most
+  pub is-below : l < N A b s
+  pub written : (j : ℕ) → j < at → getD out (o + j) 0 ≡ getD (unrank A h x i) j 0
+  pub rest : drop at (unrank A h x i) ≡ unrank A b s l
 
 -- refusal 14: the place is that of the 'first event that isn't admitted or leads to a state not live'
 unfoldable pub rankedAs : Automaton → ℕ → List ℕ → Ranked

@@ -7,7 +7,7 @@ ghost use lib.ListN.{length};
 ghost use lib.Dec.{ltb};
 ghost use Rattle.promises.specs.Calls.{notBelow, firstBad};
 ghost use Rattle.counting.specs.Tabled.{Bounded};
-ghost use Rattle.ranking.specs.Ranks.{ChosenBy, FoundBy, UnrankedBy, RankedBy, WrittenBy, ListedBy};
+ghost use Rattle.ranking.specs.Ranks.{ChosenBy, FoundBy, UnrankedBy, WholeBy, RankedBy, WrittenBy, ListedBy};
 
 // One step of unranking: the event, what is left of the index, and the state that the event leads to.
 pub struct Choice {
@@ -81,6 +81,30 @@ pub fn unrank(
     out[0] = c.event;
     *i = c.left;
     unrank(cells, table, p, c.state, i, &mut out[1..])
+}
+
+// The smaller of two numbers.
+pub fn smaller(a: usize, b: usize) -> usize
+    ensures { λ n. ⌜ n ≡ min a b ⌝ }
+{
+    if a < b { a } else { b }
+}
+
+// Writes the scenario of index i from x to the part lent, sixty-four events at a time: so the recursion stays within the stack that is in reach.
+pub fn unrank_whole(cells: &[u64], table: &[u16; 16384], p: usize, x: usize, i: u64, out: &mut [u8])
+    requires { ⌜ (p ≤ 1024) × (x < p) × (length (now out) * p ≤ length (now cells)) × Bounded p (now table) ⌝ }
+    ensures { λ _. ⌜ WholeBy (now (table .entry)) (now (cells .entry)) p x i (now (out .entry)) (now (out .exit)) ⌝ }
+{
+    let h = out.len();
+    let mut state = x;
+    let mut left = i;
+    let mut at = 0;
+    while at < h {
+        let to = at + smaller(h - at, 64);
+        let from = (h - to) * p;
+        state = unrank(&cells[from..], table, p, state, &mut left, &mut out[at..to]);
+        at = to;
+    }
 }
 
 // a + b, or the largest 64-bit number where that is more.
@@ -170,8 +194,8 @@ fn unrank_all(
 {
     for n in 0..list.len() {
         let at = n * h;
-        let mut i = list[n];
-        unrank(cells, table, p, x, &mut i, &mut out[at..at + h]);
+        let k = n;
+        unrank_whole(cells, table, p, x, list[k], &mut out[at..at + h]);
     }
 }
 

@@ -8,17 +8,17 @@ use Rattle.listing.proofs.Beginning.{events-front}
 use Rattle.listing.proofs.write_events.Statement.{statement}
 use Rattle.listing.proofs.write_events.Tie as tie
 
-slice-relend-prefix-unrank : tie.Need-slice-relend-prefix-unrank
-slice-relend-prefix-unrank c = search needs
+slice-relend-prefix-unrank-whole : tie.Need-slice-relend-prefix-unrank-whole
+slice-relend-prefix-unrank-whole c = search needs
 
-slice-aggregate-unrank : tie.Need-slice-aggregate-unrank
-slice-aggregate-unrank c =
-    let st = c .before .before .before .before in
+slice-aggregate-unrank-whole : tie.Need-slice-aggregate-unrank-whole
+slice-aggregate-unrank-whole c =
+    let st = c .before .before .before in
     sym (length-take-le (st .args .h) (st .args .events .now) (st .pre .3))
 
-unrank-requires : tie.Need-unrank-requires
-unrank-requires c κs =
-    let st = c .before .before .before .before in
+unrank-whole-requires : tie.Need-unrank-whole-requires
+unrank-whole-requires c κs =
+    let st = c .before .before .before in
     (st .pre .0, omega (arith, st .pre .1), rw (length-take-le (st .args .h) (st .args .events .now) (st .pre .3)) (st .pre .2), st .pre .4)
 
 same-length : tie.Need-same-length
@@ -26,15 +26,15 @@ same-length c = search needs
 
 returns : tie.Need-returns
 returns c =
-    let st = c .before .before .before .before .before .before .before in
-    events-front (st .args .table .now) (st .args .cells .now) (st .args .states) (st .args .start) (st .args .h) (st .args .i) (take (st .args .h) (st .args .events .now)) _ _ _ _ (length-take-le (st .args .h) (st .args .events .now) (st .pre .3)) (c .before .before .unrank .ensures .1)
+    let st = c .before .before .before .before .before .before in
+    events-front (st .args .table .now) (st .args .cells .now) (st .args .states) (st .args .start) (st .args .h) (st .args .i) (take (st .args .h) (st .args .events .now)) _ _ (length-take-le (st .args .h) (st .args .events .now) (st .pre .3)) (c .before .before .unrank-whole .ensures)
 
 pub write-events-spec : {M : Type 1} → statement M
 write-events-spec =
     tie.close
     (tie.spec
-    slice-relend-prefix-unrank
-    slice-aggregate-unrank
-    unrank-requires
+    slice-relend-prefix-unrank-whole
+    slice-aggregate-unrank-whole
+    unrank-whole-requires
     same-length
     returns)

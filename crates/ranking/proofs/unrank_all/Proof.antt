@@ -4,7 +4,7 @@ use mathlib.Core.Path.{_≡_, refl, sym, ap, _∙_, subst}
 use mathlib.Core.List.{List, _++_}
 use Prim.Native.Nat.{ℕ, _+_, _-_, _*_, _≤_, _<_}
 use native.Mathlib.Omega.{arith}
-use native.Mathlib.Nat.{zero-add, zero-mul}
+use native.Mathlib.Nat.{zero-mul}
 use lib.ListN.{length, getD, take, drop}
 use lib.Seq.{take-length}
 use Rattle.lists.specs.Lists.{concatMap}
@@ -13,7 +13,6 @@ use Rattle.automaton.specs.Counting.{N}
 use Rattle.automaton.specs.Ranking.{unrank}
 use Rattle.ranking.specs.Ranks.{Exact, IndicesBelow, withScenarios}
 use Rattle.ranking.proofs.Rows.{row-within}
-use Rattle.ranking.proofs.Premises.{unranked-whole}
 use Rattle.ranking.proofs.Walk.{length-unrank, length-part, walk-step}
 use borrow.Author.Needs.{needs}
 use Rattle.ranking.proofs.unrank_all.Statement.{statement}
@@ -36,45 +35,45 @@ mul-at c =
     let a = st .args in
     omega (arith, row-within (c .before .loop .n) (length (a .list .now)) (a .h) (length (a .out .now)) (c .loop-test .taken) (st .pre .3))
 
-mul-i : tie.Need-mul-i Inv-loop μ-loop
-mul-i c =
+mul-unrank-whole : tie.Need-mul-unrank-whole Inv-loop μ-loop
+mul-unrank-whole c =
     let st = c .before .before .before .before .before in
     let a = st .args in
     omega (arith, row-within (c .before .loop .n) (length (a .list .now)) (a .h) (length (a .out .now)) (c .loop-test .taken) (st .pre .3))
 
-shared-slice-read-i : tie.Need-shared-slice-read-i Inv-loop μ-loop
-shared-slice-read-i c = search needs
+shared-slice-read-unrank-whole : tie.Need-shared-slice-read-unrank-whole Inv-loop μ-loop
+shared-slice-read-unrank-whole c = search needs
 
-add-unrank : tie.Need-add-unrank Inv-loop μ-loop
-add-unrank c =
+add-unrank-whole : tie.Need-add-unrank-whole Inv-loop μ-loop
+add-unrank-whole c =
+    let st = c .before .before .before .before .before .before in
+    let a = st .args in
+    omega (arith, row-within (c .before .before .loop .n) (length (a .list .now)) (a .h) (length (a .out .now)) (c .before .loop-test .taken) (st .pre .3))
+
+sub-unrank-whole : tie.Need-sub-unrank-whole Inv-loop μ-loop
+sub-unrank-whole c =
+    let st = c .before .before .before .before .before .before in
+    let a = st .args in
+    omega (arith, row-within (c .before .before .loop .n) (length (a .list .now)) (a .h) (length (a .out .now)) (c .before .loop-test .taken) (st .pre .3))
+
+part-unrank-whole-start : tie.Need-part-unrank-whole-start Inv-loop μ-loop
+part-unrank-whole-start c =
+    let st = c .before .before .before .before .before .before in
+    let a = st .args in
+    omega (arith, row-within (c .before .before .loop .n) (length (a .list .now)) (a .h) (length (a .out .now)) (c .before .loop-test .taken) (st .pre .3))
+
+part-unrank-whole-end : tie.Need-part-unrank-whole-end Inv-loop μ-loop
+part-unrank-whole-end c =
+    let st = c .before .before .before .before .before .before in
+    let a = st .args in
+    omega (arith, row-within (c .before .before .loop .n) (length (a .list .now)) (a .h) (length (a .out .now)) (c .before .loop-test .taken) (st .pre .3))
+
+unrank-whole-requires : tie.Need-unrank-whole-requires Inv-loop μ-loop
+unrank-whole-requires c κs =
     let st = c .before .before .before .before .before .before .before in
     let a = st .args in
-    omega (arith, row-within (c .before .before .before .loop .n) (length (a .list .now)) (a .h) (length (a .out .now)) (c .before .before .loop-test .taken) (st .pre .3))
-
-sub-unrank : tie.Need-sub-unrank Inv-loop μ-loop
-sub-unrank c =
-    let st = c .before .before .before .before .before .before .before in
-    let a = st .args in
-    omega (arith, row-within (c .before .before .before .loop .n) (length (a .list .now)) (a .h) (length (a .out .now)) (c .before .before .loop-test .taken) (st .pre .3))
-
-part-unrank-start : tie.Need-part-unrank-start Inv-loop μ-loop
-part-unrank-start c =
-    let st = c .before .before .before .before .before .before .before in
-    let a = st .args in
-    omega (arith, row-within (c .before .before .before .loop .n) (length (a .list .now)) (a .h) (length (a .out .now)) (c .before .before .loop-test .taken) (st .pre .3))
-
-part-unrank-end : tie.Need-part-unrank-end Inv-loop μ-loop
-part-unrank-end c =
-    let st = c .before .before .before .before .before .before .before in
-    let a = st .args in
-    omega (arith, row-within (c .before .before .before .loop .n) (length (a .list .now)) (a .h) (length (a .out .now)) (c .before .before .loop-test .taken) (st .pre .3))
-
-unrank-requires : tie.Need-unrank-requires Inv-loop μ-loop
-unrank-requires c κs =
-    let st = c .before .before .before .before .before .before .before .before in
-    let a = st .args in
-    let lp = c .before .before .before .before .loop in
-    let room : lp .n * a .h + a .h ≤ length (a .out .now) = row-within (lp .n) (length (a .list .now)) (a .h) (length (a .out .now)) (c .before .before .before .loop-test .taken) (st .pre .3) in
+    let lp = c .before .before .before .loop in
+    let room : lp .n * a .h + a .h ≤ length (a .out .now) = row-within (lp .n) (length (a .list .now)) (a .h) (length (a .out .now)) (c .before .before .loop-test .taken) (st .pre .3) in
     (omega arith, omega arith, rw (length-part (lp .out) (lp .n * a .h) (a .h) (omega arith)) (omega arith), st .pre .4)
 
 add-n : tie.Need-add-n Inv-loop μ-loop
@@ -86,19 +85,19 @@ loop-less c = search needs
 loop-again : tie.Need-loop-again Inv-loop μ-loop
 unfolding IndicesBelow
 loop-again c =
-    let st = c .before .before .before .before .before .before .before .before .before .before .before in
+    let st = c .before .before .before .before .before .before .before .before .before .before in
     let a = st .args in
-    let lp = c .before .before .before .before .before .before .before .loop in
-    let lt : lp .n < length (a .list .now) = c .before .before .before .before .before .before .loop-test .taken in
+    let lp = c .before .before .before .before .before .before .loop in
+    let lt : lp .n < length (a .list .now) = c .before .before .before .before .before .loop-test .taken in
     let room : lp .n * a .h + a .h ≤ length (a .out .now) = row-within (lp .n) (length (a .list .now)) (a .h) (length (a .out .now)) lt (st .pre .3) in
     let i = getD (a .list .now) (lp .n) 0 in
     let q = sym (length-part (lp .out) (lp .n * a .h) (a .h) (omega arith)) in (
       omega arith,
       c .before .out .given .1 ∙ lp .inv .1,
       λ A exact below.
-          let back = c .before .before .unrank .ensures .1 A 0 (subst (λ (r : ℕ). Exact A (a .p) 0 r (a .x) (a .table .now) (a .cells .now)) q exact) (subst (λ (r : ℕ). i < N A r (a .x)) (sym (zero-add (a .h)) ∙ ap (λ (r : ℕ). 0 + r) q) (below (lp .n) lt)) in
+          let back = c .before .before .unrank-whole .ensures A (subst (λ (r : ℕ). Exact A (a .p) 0 r (a .x) (a .table .now) (a .cells .now)) q exact) (subst (λ (r : ℕ). i < N A r (a .x)) q (below (lp .n) lt)) in
           walk-step (unrank A (a .h) (a .x)) (a .h) (a .list .now) (λ k h. length-unrank A (a .h) (a .x) (getD (a .list .now) k 0) (below k h)) (a .out .now) (lp .out) (lp .n) _ lt
-          (lp .inv .2 A exact below) (unranked-whole A _ (a .x) i _ _ _ back ∙ ap (λ (r : ℕ). unrank A r (a .x) i) (sym q)),
+          (lp .inv .2 A exact below) (back ∙ ap (λ (r : ℕ). unrank A r (a .x) i) (sym q)),
     )
 
 same-length : tie.Need-same-length Inv-loop μ-loop
@@ -123,13 +122,13 @@ unrank-all-spec =
     μ-loop
     loop-holds
     mul-at
-    mul-i
-    shared-slice-read-i
-    add-unrank
-    sub-unrank
-    part-unrank-start
-    part-unrank-end
-    unrank-requires
+    mul-unrank-whole
+    shared-slice-read-unrank-whole
+    add-unrank-whole
+    sub-unrank-whole
+    part-unrank-whole-start
+    part-unrank-whole-end
+    unrank-whole-requires
     add-n
     loop-less
     loop-again
