@@ -84,8 +84,8 @@ extern "C" {
 /* Bytes of stack that each function uses at most: measured at the horizon 1,000 with the largest rig (tests/stack.c), and an eighth or more
  * added. A thread needs some more for itself. */
 #define WANDUKHAI_COUNT_STACK 57344
-#define WANDUKHAI_SCENARIOS_STACK 98304
-#define WANDUKHAI_SCENARIOS_SMALL_STACK 98304
+#define WANDUKHAI_SCENARIOS_STACK 57344
+#define WANDUKHAI_SCENARIOS_SMALL_STACK 73728
 #define WANDUKHAI_INDEX_STACK 57344
 #define WANDUKHAI_SHUFFLE_STACK 4096
 

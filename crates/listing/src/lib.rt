@@ -12,7 +12,6 @@ ghost use Rattle.promises.specs.Text.{bytes, same};
 ghost use Rattle.promises.specs.Calls.{filled};
 ghost use Rattle.promises.specs.Calls as promised;
 ghost use Rattle.decoding.specs.Forms.{valueOf};
-ghost use Rattle.counting.specs.Tabled.{Bounded};
 ghost use Rattle.checks.specs.Loading.{Fits};
 ghost use Rattle.listing.specs.Listing.{askedIn, asked, cellsLeft};
 ghost use Rattle.listing.specs.Printing.{askedAs, OwnedBuffers, WithinLimits, EventsBy, BeginsRefused, BeginsCounted, BeginsText, LeadsNext, StandsAt, Stands, Moves};
@@ -172,7 +171,7 @@ fn write_events(
     i: u64,
     events: &mut [u8],
 )
-    requires { ⌜ (states ≤ 1024) × (start < states) × (h * states ≤ length (now cells)) × (h ≤ length (now events)) × Bounded states (now table) ⌝ }
+    requires { ⌜ (states ≤ 1024) × (start < states) × (h * states ≤ length (now cells)) × (h ≤ length (now events)) ⌝ }
     ensures { λ _. ⌜ EventsBy (now (table .entry)) (now (cells .entry)) states start h i (now (events .entry)) (now (events .exit)) ⌝ }
 {
     ranking::unrank_whole(cells, table, states, start, i, &mut events[..h]);
@@ -180,7 +179,7 @@ fn write_events(
 
 // Writes the line of the index that comes next at the front of `line`. Gives the line's length.
 fn write_next(c: Cursor, cells: &[u64], table: &[u16; 16384], line: &mut [u8]) -> usize
-    requires { ⌜ WithinLimits c (length (now cells)) × Bounded (c .states) (now table) × (4021 ≤ length (now line)) ⌝ }
+    requires { ⌜ WithinLimits c (length (now cells)) × (4021 ≤ length (now line)) ⌝ }
     ensures { λ r. ⌜ LeadsNext c (now (cells .entry)) (now (table .entry)) r (now (line .entry)) (now (line .exit)) ⌝ }
 {
     let h = c.horizon;

@@ -3,15 +3,16 @@
 -- Assumes nothing.
 use mathlib.Core.Path.{_≡_, refl, sym, ap, _∙_, subst}
 use mathlib.Core.Logic.{_≢_, _⊎_, inl, inr}
-use mathlib.Core.Bool.{true, false}
+use mathlib.Core.Bool.{Bool, true, false}
 use mathlib.Core.List.{List, [], _∷_, List·Memᴰ as In}
 use Prim.Native.Nat.{ℕ, zero, suc, _+_, _*_, _/_, _%_, _^_, _-_, _≤_, _<_, min}
 use native.Mathlib.Omega.{arith}
 use native.Mathlib.Numerals.{add-one}
 use native.Mathlib.Nat.{eq-or-lt-of-le}
 use lib.ListN.{length, getD, take}
-use borrow.Author.Tests.{eq-eqb, ne-eqb}
-use Rattle.lists.specs.Lists.{sum, Pairwise, more}
+use lib.Dec.{ltb}
+use borrow.Author.Tests.{ltb-true, lt-ltb, eq-eqb, ne-eqb}
+use Rattle.lists.specs.Lists.{pick, sum, Pairwise, more}
 use Rattle.lists.proofs.Tests.{case}
 use Rattle.lists.proofs.Members.{getD-in}
 use Rattle.lists.proofs.Distinct.{in-place}
@@ -27,6 +28,10 @@ use Rattle.counting.specs.Tabled.{Tabled, HoldsRow}
 use Rattle.counting.proofs.Sums.{upTo, upTo-suc, upTo-total, upTo-least, tabled-few, tabled-some, tabled-none, entry-state, beside}
 use Rattle.ranking.specs.declared.Choice.{Choice}
 use Rattle.ranking.specs.Ranks.{Chosen, ChosenOrNone, noChoice, FoundOrNot}
+
+-- a count that is above some number is that of a state
+pub counted-state : (y p v k : ℕ) → k < pick (ltb y p) v 0 → y < p
+counted-state y p v k h = case (ltb y p) (λ q. ltb-true y p q) (λ q. let z : k < 0 = rw q at h in absurd (omega arith))
 
 -- the counts before the event at place k are those of the k events before it
 before-at : (f : ℕ → ℕ) (l : List ℕ) → Pairwise _≢_ l → (k : ℕ) → k < length l → before f l (getD l k 0) ≡ sum f (take k l)
@@ -68,7 +73,7 @@ module _ (A : Automaton) (p : ℕ) (t : List ℕ) (tabled : Tabled A p t) (few :
     pub entry-below : v % 1024 < p
     entry-below = entry-state A p t tabled x c v is-entry
 
-    module _ (r : ℕ) (cells : List ℕ) (holds : HoldsRow A r cells) (n : ℕ) (count : n ≡ getD cells (v % 1024) 0) where
+    module _ (r : ℕ) (cells : List ℕ) (holds : HoldsRow A r cells) (n : ℕ) (count : n ≡ pick (ltb (v % 1024) p) (getD cells (v % 1024) 0) 0) where
       upTo-next : upTo A r x (c + 1) ≡ upTo A r x c + N A r (v % 1024)
       upTo-next = upTo-suc A r x c (is-entry .within) ∙ ap (λ (y : ℕ). upTo A r x c + N A r y) (sym (is-entry .state-is))
 
@@ -77,7 +82,7 @@ module _ (A : Automaton) (p : ℕ) (t : List ℕ) (tabled : Tabled A p t) (few :
       unfolding cell
       count-exact le =
           let q : n ≡ min (N A r (v % 1024)) most =
-          count ∙ beside A p t tabled r cells holds x c v is-entry ∙ ap (cell A r) (sym (is-entry .state-is)) in
+          count ∙ ap (λ (b : Bool). pick b (getD cells (v % 1024) 0) 0) (lt-ltb (v % 1024) p entry-below) ∙ beside A p t tabled r cells holds x c v is-entry ∙ ap (cell A r) (sym (is-entry .state-is)) in
           omega (arith, upTo-next, upTo-least A r x (c + 1) state)
 
       -- stepping over the event

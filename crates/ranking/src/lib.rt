@@ -3,10 +3,10 @@
 ghost use mathlib.Core.Path.{_≡_};
 ghost use mathlib.Core.Bool.{not};
 ghost use Prim.Native.Nat.{_+_, _-_, _*_, _<_, _≤_, _^_, min};
-ghost use lib.ListN.{length};
+ghost use lib.ListN.{getD, length};
 ghost use lib.Dec.{ltb};
+ghost use Rattle.lists.specs.Lists.{pick};
 ghost use Rattle.promises.specs.Calls.{notBelow, firstBad};
-ghost use Rattle.counting.specs.Tabled.{Bounded};
 ghost use Rattle.ranking.specs.Ranks.{ChosenBy, FoundBy, UnrankedBy, WholeBy, RankedBy, WrittenBy, ListedBy};
 
 // One step of unranking: the event, what is left of the index, and the state that the event leads to.
@@ -28,9 +28,17 @@ pub enum Ranked {
     Violation(usize),
 }
 
+// What a row of p cells holds for y: nothing where y is no state.
+fn count_at(cells: &[u64], p: usize, y: usize) -> u64
+    requires { ⌜ p ≤ length (now cells) ⌝ }
+    ensures { λ n. ⌜ n ≡ pick (ltb y p) (getD (now (cells .entry)) y 0) 0 ⌝ }
+{
+    if y < p { cells[y] } else { 0 }
+}
+
 // The event that the index i from x falls in, by the row of cells of what is left after it. Where it falls in none, all is 0.
 pub fn choose_event(cells: &[u64], table: &[u16; 16384], p: usize, x: usize, i: u64) -> Choice
-    requires { ⌜ (p ≤ 1024) × (x < p) × (p ≤ length (now cells)) × Bounded p (now table) ⌝ }
+    requires { ⌜ (p ≤ 1024) × (x < p) × (p ≤ length (now cells)) ⌝ }
     ensures { λ c. ⌜ c .state < p ⌝ }
     ensures { λ c. ⌜ ChosenBy (now (table .entry)) (now (cells .entry)) p x i c ⌝ }
 {
@@ -41,7 +49,7 @@ pub fn choose_event(cells: &[u64], table: &[u16; 16384], p: usize, x: usize, i: 
             break;
         }
         let y = entry % 1024;
-        let n = cells[y];
+        let n = count_at(cells, p, y);
         if left < n {
             return Choice {
                 event: (entry / 1024) as u8,
@@ -68,7 +76,7 @@ pub fn unrank(
     i: &mut u64,
     out: &mut [u8],
 ) -> usize
-    requires { ⌜ (p ≤ 1024) × (x < p) × (length (now out) * p ≤ length (now cells)) × Bounded p (now table) ⌝ }
+    requires { ⌜ (p ≤ 1024) × (x < p) × (length (now out) * p ≤ length (now cells)) ⌝ }
     ensures { λ s. ⌜ s < p ⌝ }
     ensures { λ s. ⌜ UnrankedBy (now (table .entry)) (now (cells .entry)) p x (now (i .entry)) (now (out .entry)) (now (out .exit)) s (now (i .exit)) ⌝ }
 {
@@ -92,7 +100,7 @@ pub fn smaller(a: usize, b: usize) -> usize
 
 // Writes the scenario of index i from x to the part lent, sixty-four events at a time: so the recursion stays within the stack that is in reach.
 pub fn unrank_whole(cells: &[u64], table: &[u16; 16384], p: usize, x: usize, i: u64, out: &mut [u8])
-    requires { ⌜ (p ≤ 1024) × (x < p) × (length (now out) * p ≤ length (now cells)) × Bounded p (now table) ⌝ }
+    requires { ⌜ (p ≤ 1024) × (x < p) × (length (now out) * p ≤ length (now cells)) ⌝ }
     ensures { λ _. ⌜ WholeBy (now (table .entry)) (now (cells .entry)) p x i (now (out .entry)) (now (out .exit)) ⌝ }
 {
     let h = out.len();
@@ -116,7 +124,7 @@ fn add_saturating(a: u64, b: u64) -> u64
 
 // Finds the event e among the live ones of x, adding up what stands before it. Where it isn't there, the state is p, which is none.
 fn find_event(cells: &[u64], table: &[u16; 16384], p: usize, x: usize, e: u8) -> Found
-    requires { ⌜ (p ≤ 1024) × (x < p) × (p ≤ length (now cells)) × Bounded p (now table) ⌝ }
+    requires { ⌜ (p ≤ 1024) × (x < p) × (p ≤ length (now cells)) ⌝ }
     ensures { λ f. ⌜ FoundBy (now (table .entry)) (now (cells .entry)) p x e f ⌝ }
 {
     let mut before: u64 = 0;
@@ -129,7 +137,7 @@ fn find_event(cells: &[u64], table: &[u16; 16384], p: usize, x: usize, e: u8) ->
         if (entry / 1024) as u8 == e {
             return Found { before, state: y };
         }
-        before = add_saturating(before, cells[y]);
+        before = add_saturating(before, count_at(cells, p, y));
     }
     Found {
         before: 0,
@@ -139,7 +147,7 @@ fn find_event(cells: &[u64], table: &[u16; 16384], p: usize, x: usize, e: u8) ->
 
 // The index of the sequence s from x, or the place where it is no scenario.
 pub fn rank(cells: &[u64], table: &[u16; 16384], p: usize, x: usize, s: &[u8]) -> Ranked
-    requires { ⌜ (p ≤ 1024) × (x < p) × (length (now s) * p ≤ length (now cells)) × Bounded p (now table) ⌝ }
+    requires { ⌜ (p ≤ 1024) × (x < p) × (length (now s) * p ≤ length (now cells)) ⌝ }
     ensures { λ r. ⌜ RankedBy (now (table .entry)) (now (cells .entry)) p x (now (s .entry)) r ⌝ }
 {
     let h = s.len();
@@ -189,7 +197,7 @@ fn unrank_all(
     list: &[u64],
     out: &mut [u8],
 )
-    requires { ⌜ (p ≤ 1024) × (x < p) × (h * p ≤ length (now cells)) × (length (now list) * h ≤ length (now out)) × Bounded p (now table) ⌝ }
+    requires { ⌜ (p ≤ 1024) × (x < p) × (h * p ≤ length (now cells)) × (length (now list) * h ≤ length (now out)) ⌝ }
     ensures { λ _. ⌜ WrittenBy (now (table .entry)) (now (cells .entry)) p x h (now (list .entry)) (now (out .entry)) (now (out .exit)) ⌝ }
 {
     for n in 0..list.len() {
@@ -210,7 +218,7 @@ pub fn unrank_list(
     list: &[u64],
     out: &mut [u8],
 ) -> usize
-    requires { ⌜ (p ≤ 1024) × (x < p) × (h * p ≤ length (now cells)) × (length (now list) * h ≤ length (now out)) × Bounded p (now table) ⌝ }
+    requires { ⌜ (p ≤ 1024) × (x < p) × (h * p ≤ length (now cells)) × (length (now list) * h ≤ length (now out)) ⌝ }
     ensures { λ k. ⌜ k ≡ firstBad (notBelow count) (now (list .entry)) ⌝ }
     ensures { λ k. ⌜ ListedBy (now (table .entry)) (now (cells .entry)) p x h count (now (list .entry)) k (now (out .entry)) (now (out .exit)) ⌝ }
 {

@@ -45,7 +45,7 @@ unrank-parts-requires c κs =
     let a = st .args in
     let last : a .h / 16 * a .p + 16 * a .p ≤ length (a .cells .now) = place-room (a .h / 16) (a .h / 16) 16 (a .p) (length (a .cells .now)) (omega arith) (st .pre .1 .0 .0) in
     let few : (a .rest - 16 * a .q) * a .p ≤ 16 * a .p = mul-le-mul-right (a .p) (omega arith) in
-    ((omega arith, simp (length-take, length-drop) (omega arith), omega arith, omega arith, st .pre .1 .0 .2), st .pre .1 .1)
+    ((omega arith, simp (length-take, length-drop) (omega arith), omega arith, omega arith), st .pre .1 .1)
 
 mul-swap-rows : tie.Need-mul-swap-rows
 mul-swap-rows c =

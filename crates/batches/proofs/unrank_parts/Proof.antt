@@ -84,7 +84,7 @@ unrank-requires c κs =
     let lp = c .before .before .before .before .before .loop in
     let lt = c .before .before .before .before .loop-test .taken in
     let own = place-below (lp .k) (st .args .m) (st .args .h) lt in
-    (omega arith, lp .inv .4 (lp .k) lt, rw (length-part (lp .out) (lp .k * st .args .h + st .args .at) (st .args .n) (omega arith)) (omega arith), st .pre .0 .4)
+    (omega arith, lp .inv .4 (lp .k) lt, rw (length-part (lp .out) (lp .k * st .args .h + st .args .at) (st .args .n) (omega arith)) (omega arith))
 
 mul-states : tie.Need-mul-states Inv-loop μ-loop
 mul-states c = search needs

@@ -5,7 +5,6 @@ use native.Mathlib.Omega.{arith}
 use lib.ListN.{length}
 use Rattle.rig.specs.Record.{recordAutomaton}
 use Rattle.joint.proofs.Digits.{states-few}
-use Rattle.counting.proofs.Sums.{tabled-bounded}
 use Rattle.ranking.proofs.Premises.{filled-exact}
 use Rattle.filling.proofs.Rows.{cell-room, told-refused, told-passed, told-few}
 use Rattle.generator.proofs.Laws.{ranked-index, ranked-violation}
@@ -36,7 +35,6 @@ rank-requires c κs =
       omega (arith, states-few (st .args .rig) (z .well-formed), z .joint),
       omega (arith, z .start-below),
       omega (arith, f .kept .1 .1 .1 .0, cell-room (length (st .args .sequence .now)) (st .args .states) (st .args .start) (length (st .args .cells .now)) (z .start-below) (z .enough)),
-      tabled-bounded (recordAutomaton (st .args .rig)) (st .args .states) _ (f .ensures .tabled) (omega (arith, states-few (st .args .rig) (z .well-formed), z .joint)),
     )
 
 enum-known-ranked : tie.Need-enum-known-ranked

@@ -6,7 +6,6 @@ use lib.ListN.{length}
 use Rattle.promises.specs.Calls.{outputAfter}
 use Rattle.rig.specs.Record.{recordAutomaton}
 use Rattle.joint.proofs.Digits.{states-few}
-use Rattle.counting.proofs.Sums.{tabled-bounded}
 use Rattle.ranking.proofs.Premises.{filled-exact}
 use Rattle.filling.proofs.Rows.{cell-room, told-refused, told-passed, told-exact, told-few}
 use Rattle.generator.proofs.Laws.{listed-bad, listed-good}
@@ -38,7 +37,6 @@ unrank-list-requires c κs =
       omega (arith, z .start-below),
       omega (arith, f .kept .1 .1 .1 .0, cell-room (st .args .h) (st .args .states) (st .args .start) (length (st .args .cells .now)) (z .start-below) (z .enough)),
       st .pre .1,
-      tabled-bounded (recordAutomaton (st .args .rig)) (st .args .states) _ (f .ensures .tabled) (omega (arith, states-few (st .args .rig) (z .well-formed), z .joint)),
     )
 
 same-length : tie.Need-same-length

@@ -1,6 +1,5 @@
 -- A cursor that has lines left writes the next one, and one that has none tells the end. Assumes nothing.
 use native.Mathlib.Omega.{arith}
-use Rattle.counting.proofs.Sums.{tabled-bounded}
 use Rattle.listing.specs.Listing.{text}
 use Rattle.listing.proofs.Lines.{stands-next, stands-ended}
 use borrow.Author.Needs.{needs}
@@ -18,8 +17,7 @@ returns c =
 write-next-requires : tie.Need-write-next-requires
 write-next-requires c κs =
     let st = c .before .before .before .before .before in
-    let s = st .pre .1 .1 .1 in
-    (s .limits, tabled-bounded _ (st .args .c .states) (st .args .table .now) (s .serves (omega arith) .1 .exact .tabled) (s .limits .few-states), st .pre .0)
+    (st .pre .1 .1 .1 .limits, st .pre .0)
 
 add-moved : tie.Need-add-moved
 add-moved c =

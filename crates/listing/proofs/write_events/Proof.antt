@@ -19,7 +19,7 @@ slice-aggregate-unrank-whole c =
 unrank-whole-requires : tie.Need-unrank-whole-requires
 unrank-whole-requires c κs =
     let st = c .before .before .before in
-    (st .pre .0, omega (arith, st .pre .1), rw (length-take-le (st .args .h) (st .args .events .now) (st .pre .3)) (st .pre .2), st .pre .4)
+    (st .pre .0, omega (arith, st .pre .1), rw (length-take-le (st .args .h) (st .args .events .now) (st .pre .3)) (st .pre .2))
 
 same-length : tie.Need-same-length
 same-length c = search needs

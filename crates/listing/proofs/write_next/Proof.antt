@@ -31,7 +31,7 @@ slice-aggregate-write-line c =
 write-line-requires : tie.Need-write-line-requires
 write-line-requires c κs =
     let st = c .before .before .before .before .before .before .before in
-    rw length-take (omega (arith, st .pre .0 .short, st .pre .2))
+    rw length-take (omega (arith, st .pre .0 .short, st .pre .1))
 
 same-length : tie.Need-same-length
 same-length c = search needs

@@ -103,7 +103,7 @@ unrank-choose-event-requires : (t : ℕ) → unrank-lts.Need-choose-event-requir
 unrank-choose-event-requires t c κs =
     let st = c .before .before .before .before .before in
     let fits : (length (st .args .out .now) - 1) * st .args .p + st .args .p ≤ length (st .args .cells .now) = row-within (length (st .args .out .now) - 1) (length (st .args .out .now)) (st .args .p) (length (st .args .cells .now)) (omega arith) (st .pre .1 .2) in
-    (omega arith, omega arith, simp (length-take, length-drop) (omega arith), st .pre .1 .3)
+    (omega arith, omega arith, simp (length-take, length-drop) (omega arith))
 
 unrank-slice-write-out : (t : ℕ) → unrank-lts.Need-slice-write-out (
   choose-event-reads.Asked,
@@ -148,7 +148,7 @@ unrank-unrank-requires t c κs =
     let a = st .args in
     let v = c .before .before .choose-event .result .event in (
       simp (length-take, length-drop, length-set) (omega arith),
-      (omega arith, c .before .before .choose-event .ensures .0, rest-within (a .out .now) v (omega arith) (a .p) (length (a .cells .now)) (st .pre .1 .2), st .pre .1 .3),
+      (omega arith, c .before .before .choose-event .ensures .0, rest-within (a .out .now) v (omega arith) (a .p) (length (a .cells .now)) (st .pre .1 .2)),
     )
 
 unrank-same-length : (t : ℕ) → unrank-lts.Need-same-length (

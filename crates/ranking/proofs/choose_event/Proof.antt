@@ -1,14 +1,13 @@
 -- The invariant: what is left of the index, with the counts of the live events passed, is the index. The first count above what is left is that of the
 -- event it falls in (`choose-here`); where no live event is left there is none (`choose-none`).
-use mathlib.Core.Path.{_≡_, refl}
+use mathlib.Core.Path.{_≡_, subst}
 use Prim.Native.Nat.{ℕ, _+_, _-_, _%_, _≤_, _<_}
 use native.Mathlib.Omega.{arith}
-use lib.ListN.{getD}
 use Rattle.automaton.specs.Automaton.{Automaton}
 use Rattle.automaton.specs.Counting.{N, most}
 use Rattle.counting.specs.Tabled.{Tabled, HoldsRow}
-use Rattle.counting.proofs.Sums.{upTo, upTo-none, bounded-below}
-use Rattle.ranking.proofs.Steps.{past-all, past-last, step-over, choose-here, choose-none}
+use Rattle.counting.proofs.Sums.{upTo, upTo-none}
+use Rattle.ranking.proofs.Steps.{counted-state, past-all, past-last, step-over, choose-here, choose-none}
 use borrow.Author.Needs.{needs}
 use Rattle.ranking.proofs.choose_event.Statement.{statement}
 use Rattle.ranking.proofs.choose_event.Tie as tie
@@ -39,17 +38,11 @@ element-copy-out-wide c = search needs
 wide-requires : tie.Need-wide-requires Inv-loop μ-loop
 wide-requires c κs = search needs
 
-mul-n : tie.Need-mul-n Inv-loop μ-loop
-mul-n c = search needs
+count-at-requires : tie.Need-count-at-requires Inv-loop μ-loop
+count-at-requires c κs = search needs
 
-shared-slice-read-n : tie.Need-shared-slice-read-n Inv-loop μ-loop
-shared-slice-read-n c =
-    let st = c .before .before .before .before .before .before .before in
-    let wd = c .before .before .wide in
-    omega (arith, bounded-below (st .args .p) (st .args .table .now) (st .pre .3) (st .args .x) (c .before .before .before .before .before .loop .c) (wd .result) (st .pre .1) (omega arith) (wd .ensures .0) (c .before .if1 .left))
-
-cast-t21 : tie.Need-cast-t21 Inv-loop μ-loop
-cast-t21 c =
+cast-t19 : tie.Need-cast-t19 Inv-loop μ-loop
+cast-t19 c =
     let wd = c .before .before .before .wide in
     omega (arith, wd .ensures .1)
 
@@ -61,10 +54,10 @@ returns c =
     let lp = c .before .before .before .before .before .before .loop in
     let wd = c .before .before .before .wide in
     let hc = c .before .before .before .before .before .loop-test .taken in (
-      bounded-below (a .p) (a .table .now) (st .pre .3) (a .x) (lp .c) (wd .result) (st .pre .1) hc (wd .ensures .0) (c .before .before .if1 .left),
+      counted-state (wd .result % 1024) (a .p) _ (lp .left) (subst (λ (n : ℕ). lp .left < n) (c .before .count-at .ensures) (c .if2 .taken)),
       λ A r tabled holds.
           choose-here A (a .p) (a .table .now) tabled (st .pre .0) (a .x) (st .pre .1) (lp .c) (wd .result) hc (wd .ensures .0) (c .before .before .if1 .left)
-          r (a .cells .now) holds (getD (a .cells .now) (wd .result % 1024) 0) refl (lp .left) (a .i) (lp .inv .1 A r tabled holds) (omega arith) (c .if2 .taken),
+          r (a .cells .now) holds (c .before .count-at .result) (c .before .count-at .ensures) (lp .left) (a .i) (lp .inv .1 A r tabled holds) (omega arith) (c .if2 .taken),
     )
 
 add-c : tie.Need-add-c Inv-loop μ-loop
@@ -83,7 +76,7 @@ loop-again c =
       omega arith,
       λ A r tabled holds le.
           step-over A (a .p) (a .table .now) tabled (st .pre .0) (a .x) (st .pre .1) (lp .c) (wd .result) hc (wd .ensures .0) (c .before .before .if1 .left)
-          r (a .cells .now) holds (getD (a .cells .now) (wd .result % 1024) 0) refl (lp .left) (a .i) le (lp .inv .1 A r tabled holds le) (c .if2 .left),
+          r (a .cells .now) holds (c .before .count-at .result) (c .before .count-at .ensures) (lp .left) (a .i) le (lp .inv .1 A r tabled holds le) (c .if2 .left),
     )
 
 returns-2 : tie.Need-returns-2 Inv-loop μ-loop
@@ -122,9 +115,8 @@ choose-event-spec =
     mul-wide-2
     element-copy-out-wide
     wide-requires
-    mul-n
-    shared-slice-read-n
-    cast-t21
+    count-at-requires
+    cast-t19
     returns
     add-c
     loop-less

@@ -1,14 +1,14 @@
 -- The invariant: the sum is the counts of the live events passed, none of which is the one sought. An entry with that event tells its state
 -- (`found-here`); where no live event is left the event leads to no live state (`found-nowhere`).
-use mathlib.Core.Path.{_≡_, refl}
-use Prim.Native.Nat.{ℕ, _+_, _-_, _%_, _≤_, _<_}
+use mathlib.Core.Path.{_≡_}
+use Prim.Native.Nat.{ℕ, _+_, _-_, _≤_, _<_}
 use native.Mathlib.Omega.{arith}
 use lib.ListN.{getD}
 use Rattle.automaton.specs.Automaton.{Automaton}
 use Rattle.automaton.specs.Counting.{N, most}
 use Rattle.automaton.specs.Table.{liveEvents}
 use Rattle.counting.specs.Tabled.{Tabled, HoldsRow}
-use Rattle.counting.proofs.Sums.{upTo, upTo-none, bounded-below}
+use Rattle.counting.proofs.Sums.{upTo, upTo-none}
 use Rattle.ranking.proofs.Steps.{past-all, past-last, add-on, found-here, found-later, found-nowhere}
 use borrow.Author.Needs.{needs}
 use Rattle.ranking.proofs.find_event.Statement.{statement}
@@ -54,14 +54,8 @@ returns c =
     found-here A (a .p) (a .table .now) tabled (st .pre .0) (a .x) (st .pre .1) (lp .c) (wd .result) (c .before .before .before .before .loop-test .taken) (wd .ensures .0)
     (c .before .if1 .left) (a .e) r (lp .before) (c .if2 .taken) (lp .inv .1 A r tabled holds lt)
 
-mul-add-saturating : tie.Need-mul-add-saturating Inv-loop μ-loop
-mul-add-saturating c = search needs
-
-shared-slice-read-add-saturating : tie.Need-shared-slice-read-add-saturating Inv-loop μ-loop
-shared-slice-read-add-saturating c =
-    let st = c .before .before .before .before .before .before .before .before in
-    let wd = c .before .before .before .wide in
-    omega (arith, bounded-below (st .args .p) (st .args .table .now) (st .pre .3) (st .args .x) (c .before .before .before .before .before .before .loop .c) (wd .result) (st .pre .1) (omega arith) (wd .ensures .0) (c .before .before .if1 .left))
+count-at-requires : tie.Need-count-at-requires Inv-loop μ-loop
+count-at-requires c κs = search needs
 
 add-saturating-requires : tie.Need-add-saturating-requires Inv-loop μ-loop
 add-saturating-requires c κs = search needs
@@ -79,11 +73,11 @@ loop-again c =
     let lp = c .before .before .before .before .before .before .before .loop in
     let wd = c .before .before .before .before .wide in
     let hc = c .before .before .before .before .before .before .loop-test .taken in
-    let n = getD (a .cells .now) (wd .result % 1024) 0 in (
+    let ct = c .before .count-at in (
       omega arith,
       (λ A r tabled holds lt.
           add-on A (a .p) (a .table .now) tabled (st .pre .0) (a .x) (st .pre .1) (lp .c) (wd .result) hc (wd .ensures .0) (c .before .before .before .if1 .left)
-          r (a .cells .now) holds n refl (lp .before) (c .add-saturating .result) (omega arith) (lp .inv .1 A r tabled holds lt) (c .add-saturating .ensures)),
+          r (a .cells .now) holds (ct .result) (ct .ensures) (lp .before) (c .add-saturating .result) (omega arith) (lp .inv .1 A r tabled holds lt) (c .add-saturating .ensures)),
       λ A tabled.
           found-later A (a .p) (a .table .now) tabled (st .pre .0) (a .x) (st .pre .1) (lp .c) (wd .result) hc (wd .ensures .0) (c .before .before .before .if1 .left)
           (a .e) (lp .inv .2 A tabled) (c .before .before .if2 .left),
@@ -123,8 +117,7 @@ find-event-spec =
     wide-requires
     cast-if2
     returns
-    mul-add-saturating
-    shared-slice-read-add-saturating
+    count-at-requires
     add-saturating-requires
     add-c
     loop-less

@@ -67,7 +67,7 @@ find-event-requires c κs =
     let a = st .args in
     let lp = c .before .before .before .loop in
     let fits : (length (a .s .now) - 1 - lp .k) * a .p + a .p ≤ length (a .cells .now) = row-within (length (a .s .now) - 1 - lp .k) (length (a .s .now)) (a .p) (length (a .cells .now)) (omega arith) (st .pre .2) in
-    (omega arith, omega arith, simp (length-take, length-drop) (omega arith), st .pre .3)
+    (omega arith, omega arith, simp (length-take, length-drop) (omega arith))
 
 returns : tie.Need-returns Inv-loop μ-loop
 returns c =

@@ -74,7 +74,7 @@ unrank-whole-requires c κs =
     let a = st .args in
     let lp = c .before .before .before .loop in
     let room : lp .n * a .h + a .h ≤ length (a .out .now) = row-within (lp .n) (length (a .list .now)) (a .h) (length (a .out .now)) (c .before .before .loop-test .taken) (st .pre .3) in
-    (omega arith, omega arith, rw (length-part (lp .out) (lp .n * a .h) (a .h) (omega arith)) (omega arith), st .pre .4)
+    (omega arith, omega arith, rw (length-part (lp .out) (lp .n * a .h) (a .h) (omega arith)) (omega arith))
 
 add-n : tie.Need-add-n Inv-loop μ-loop
 add-n c = search needs

@@ -92,7 +92,7 @@ unrank-requires c κs =
     let m = c .before .before .before .smaller .result in
     let low = add-mul (length (a .out .now) - (lp .at + m)) m (a .p) in
     let high : (length (a .out .now) - (lp .at + m) + m) * a .p ≤ length (a .out .now) * a .p = mul-le-mul-right (a .p) (omega (arith, c .before .before .before .smaller .ensures)) in
-    (omega arith, lp .inv .2, rw (length-part (lp .out) (lp .at) m (omega (arith, c .before .before .before .smaller .ensures))) (simp (length-take, length-drop) (omega (arith, st .pre .2))), st .pre .3)
+    (omega arith, lp .inv .2, rw (length-part (lp .out) (lp .at) m (omega (arith, c .before .before .before .smaller .ensures))) (simp (length-take, length-drop) (omega (arith, st .pre .2))))
 
 loop-less : tie.Need-loop-less Inv-loop μ-loop
 loop-less c = search needs
