@@ -98,7 +98,7 @@ pub fn smaller(a: usize, b: usize) -> usize
     if a < b { a } else { b }
 }
 
-// Writes the scenario of index i from x to the part lent, sixty-four events at a time: so the recursion stays within the stack that is in reach.
+// Writes the scenario of index i from x to the part lent, sixty-four events at a time, so that the recursion goes no deeper.
 pub fn unrank_whole(cells: &[u64], table: &[u16; 16384], p: usize, x: usize, i: u64, out: &mut [u8])
     requires { ⌜ (p ≤ 1024) × (x < p) × (length (now out) * p ≤ length (now cells)) ⌝ }
     ensures { λ _. ⌜ WholeBy (now (table .entry)) (now (cells .entry)) p x i (now (out .entry)) (now (out .exit)) ⌝ }
