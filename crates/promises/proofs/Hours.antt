@@ -39,9 +39,9 @@ module _ (es : List ℕ) (T : ℕ) (ps : List Part) where
 -- ---- the sentence
 
 plain : (T : ℕ) (ps : List Part) (w : List ℕ)
-    → Admits (dayOf T ps) (startOf (day T)) w ↔ ((i e : ℕ) → Stands e w i → HasHours ps e → (a : ℕ) × (b : ℕ) × In (opens e a b) ps × (a ≤ i % T) × (i % T < b))
-unfolding Admits Says OnTime InHours startOf
-plain T ps w = (λ o i e t n. rw zero-add at (o i e t n), λ o i e t n. rw zero-add (o i e t n))
+    → Admits (dayOf T ps) (startOf (day T)) w ↔ ((i e c d : ℕ) → Stands e w i → In (opens e c d) ps → (a : ℕ) × (b : ℕ) × In (opens e a b) ps × (a ≤ i % T) × (i % T < b))
+unfolding Admits Says OnTime HasHours InHours startOf
+plain T ps w = (λ o i e c d t n. rw zero-add at (o i e t (c, d, n)), λ o i e t (c, d, n). rw zero-add (o i e c d t n))
 
 always : (T : ℕ) (ps : List Part) (s : ℕ) (w : List ℕ) → ((i e : ℕ) → Stands e w i → HasHours ps e → ⊥) → Admits (dayOf T ps) s w
 unfolding Admits Says OnTime

@@ -23,7 +23,7 @@ pub record Hours : Type 0 where
   pub hours : (es : List ℕ) (T : ℕ) (ps : List Part) → Agrees es (dayOf T ps)
   -- 'by its place from 0 modulo T': so it is in the start state
   pub plain : (T : ℕ) (ps : List Part) (w : List ℕ)
-      → Admits (dayOf T ps) (startOf (day T)) w ↔ ((i e : ℕ) → Stands e w i → HasHours ps e → (a : ℕ) × (b : ℕ) × In (opens e a b) ps × (a ≤ i % T) × (i % T < b))
+      → Admits (dayOf T ps) (startOf (day T)) w ↔ ((i e c d : ℕ) → Stands e w i → In (opens e c d) ps → (a : ℕ) × (b : ℕ) × In (opens e a b) ps × (a ≤ i % T) × (i % T < b))
   -- the 'states are the steps of the day', and 'the day repeats': what is admitted leads as many steps on
   pub follows : (es : List ℕ) (T : ℕ) (ps : List Part) (s : ℕ) (w : List ℕ) → automaton.Admits (monitorOf es (dayOf T ps)) s w
       → walk (monitorOf es (dayOf T ps)) s w ≡ (s + length w) % T
