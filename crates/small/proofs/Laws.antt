@@ -1,5 +1,5 @@
 -- What the steps of the call come to, case by case. Assumes nothing.
-use mathlib.Core.Path.{_≡_, refl, sym, ap, _∙_}
+use mathlib.Core.Path.{_≡_, ap, _∙_}
 use mathlib.Core.Bool.{true}
 use mathlib.Core.List.{List}
 use Prim.Native.Nat.{ℕ, _+_, _*_, _/_, _%_, _≤_, _<_, min}
@@ -10,16 +10,15 @@ use Rattle.automaton.specs.Automaton.{Automaton}
 use Rattle.automaton.specs.Counting.{N, most, cell}
 use Rattle.rig.specs.Record.{recordAutomaton}
 use Rattle.promises.specs.Answer.{Answer, refused}
-use Rattle.promises.specs.Text.{jointStates}
-use Rattle.promises.specs.Calls.{Freed, CellsFreed, fills, sizedFor, listRows, outputAfter}
+use Rattle.promises.specs.Calls.{Freed, CellsFreed, fills, outputAfter}
 use Rattle.promises.specs.Small.{smallRows, smallNeed, small, smallOutput, SmallKeeps}
 use Rattle.promises.proofs.Meaning.{rig-states}
 use Rattle.checks.specs.Loading.{Loads}
 use Rattle.checks.specs.declared.Checked.the-variants.{Passed, Refused}
 use Rattle.checks.specs.declared.Loaded.{Loaded}
-use Rattle.filling.proofs.Rows.{early-answer, early-freed, early-output, passed-freed, passed-untouched}
+use Rattle.filling.proofs.Rows.{early-answer, early-freed, early-output, passed-freed}
 use Rattle.keeping.specs.Keeping.{Kept, RowAt, Past}
-use Rattle.keeping.proofs.Places.{place-below, past-trans}
+use Rattle.keeping.proofs.Places.{place-below}
 use Rattle.generator.specs.Outcomes.{listFrom, outputFrom}
 use Rattle.generator.proofs.Laws.{list-fills, list-short, list-are}
 

@@ -1,6 +1,6 @@
 -- The invariant: the first k scenarios have their next n events, the others are as they were (`Passed`). The part lent is that of scenario k, and lies in its
 -- own h bytes (`passed-more`).
-use mathlib.Core.Path.{_≡_, refl, sym, ap, _∙_, subst}
+use mathlib.Core.Path.{_≡_, refl, sym, _∙_, subst}
 use mathlib.Core.List.{List}
 use Prim.Native.Nat.{ℕ, _+_, _-_, _*_, _≤_, _<_}
 use native.Mathlib.Omega.{arith}

@@ -1,6 +1,6 @@
 -- The step is chosen by the row of what is left after it, which the part lent begins with (`row-lent`). Its event is stored and the rest of the
 -- part lent on for what is left of the index, which is below the next state's count (`chosen-unrank`); the events left fall by one.
-use mathlib.Core.Path.{_≡_, sym, ap, _∙_, subst}
+use mathlib.Core.Path.{_≡_, sym, _∙_, subst}
 use Prim.Native.Nat.{ℕ, _+_, _-_, _*_, _≤_, _<_}
 use native.Mathlib.Omega.{arith}
 use lib.ListN.{length, length-set, length-take, length-drop}

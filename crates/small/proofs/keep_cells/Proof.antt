@@ -1,5 +1,5 @@
 -- Pruning gives the live flags and the rows of live successors, and both give every sixteenth row and row h, where the cell of the start is (`last-cell`).
-use Prim.Native.Nat.{ℕ, _*_, _≤_}
+use Prim.Native.Nat.{ℕ}
 use native.Mathlib.Omega.{arith}
 use lib.ListN.{length, length-replicate}
 use Rattle.rig.specs.Record.{recordAutomaton}
