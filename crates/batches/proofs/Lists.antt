@@ -1,13 +1,14 @@
 -- A batch of scenarios, from its first event to its last, and batches one after the other. Assumes nothing.
 use mathlib.Core.Path.{_≡_, refl, sym, ap, _∙_}
 use mathlib.Core.Logic.{_⊎_, inl, inr}
-use mathlib.Core.List.{List, [], _∷_, _++_, append-nil, append-assoc}
-use Prim.Native.Nat.{ℕ, zero, suc, _+_, _-_, _*_, _≤_, _<_}
+use mathlib.Core.List.{List, [], _++_, append-nil, append-assoc}
+use Prim.Native.Nat.{ℕ, _+_, _-_, _*_, _≤_, _<_}
 use native.Mathlib.Omega.{arith}
-use native.Mathlib.Nat.{suc-mul, zero-mul, add-mul, mul-le-mul-right, eq-or-lt-of-le}
+use native.Mathlib.Nat.{add-mul, mul-le-mul-right, eq-or-lt-of-le}
 use lib.ListN.{length, getD, take, drop, set, length-take, length-drop, take-append-drop, drop-of-length-le}
 use lib.Seq.{take-add, take-at, drop-at, drop-drop, ext-getD, getD-take, getD-drop, getD-set-same, getD-set-other}
 use Rattle.lists.specs.Lists.{concatMap}
+use Rattle.lists.proofs.Blocks.{concatMap-append, blocks-are}
 use Rattle.automaton.specs.Automaton.{Automaton}
 use Rattle.automaton.specs.Counting.{N, most}
 use Rattle.automaton.specs.Ranking.{unrank}
@@ -24,18 +25,6 @@ copied-more is left k lt so-far j l = go (eq-or-lt-of-le {n = j} {m = k} (omega 
     go : (j ≡ k) ⊎ (j < k) → getD (set left k (getD is k 0)) j 0 ≡ getD is j 0
     go (inl e) = rw e (getD-set-same left k (getD is k 0) 0 lt)
     go (inr h) = getD-set-other left k j (getD is k 0) 0 (λ e. omega arith) ∙ so-far j h
-
--- a list whose blocks of w are the lists f i begins with them
-blocks-are : (f : ℕ → List ℕ) (w : ℕ) (is l : List ℕ) → ((k : ℕ) → k < length is → take w (drop (k * w) l) ≡ f (getD is k 0)) → take (length is * w) l ≡ concatMap f is
-blocks-are f w [] l at = rw (zero-mul w)
-blocks-are f w (i ∷ is) l at =
-    let e : suc (length is) * w ≡ w + length is * w = omega (arith, suc-mul (length is) w) in
-    let here : take w l ≡ f i = ap (λ (k : ℕ). take w (drop k l)) (sym (zero-mul w)) ∙ at 0 (omega arith) in
-    let rest : take (length is * w) (drop w l) ≡ concatMap f is = blocks-are f w is (drop w l) (λ k lt. ap (take w) (next k) ∙ at (suc k) (omega arith)) in
-    ap (λ (n : ℕ). take n l) e ∙ take-add w (length is * w) l ∙ ap (λ (m : List ℕ). m ++ take (length is * w) (drop w l)) here ∙ ap (λ (m : List ℕ). f i ++ m) rest
-  where
-    next : (k : ℕ) → drop (k * w) (drop w l) ≡ drop (suc k * w) l
-    next k = let e : w + k * w ≡ suc k * w = omega (arith, suc-mul k w) in drop-drop (k * w) w l ∙ ap (λ (n : ℕ). drop n l) e
 
 module _ (A : Automaton) (x h : ℕ) (is : List ℕ) (below : IndicesBelow (N A h x) is) where
   -- nothing is written, and each scenario is left whole
@@ -65,10 +54,6 @@ module _ (A : Automaton) (x h : ℕ) (is : List ℕ) (below : IndicesBelow (N A 
         (λ j l. getD-drop (length is * h) after j 0 ∙ past (length is * h + j) (omega arith) ∙ sym (getD-drop (length is * h) out j 0)))
 
 -- ---- batches one after the other
-
-concatMap-append : (f : ℕ → List ℕ) (l m : List ℕ) → concatMap f (l ++ m) ≡ concatMap f l ++ concatMap f m
-concatMap-append f [] m = refl
-concatMap-append f (i ∷ l) m = ap (λ (w : List ℕ). f i ++ w) (concatMap-append f l m) ∙ sym (append-assoc (f i) (concatMap f l) (concatMap f m))
 
 module _ (A : Automaton) (x h : ℕ) (is : List ℕ) (below : IndicesBelow (N A h x) is) where
   part-below : (n m : ℕ) → n + m ≤ length is → IndicesBelow (N A h x) (take m (drop n is))

@@ -5,7 +5,7 @@
 -- Assumes nothing.
 use mathlib.Core.Path.{_≡_, refl, sym, ap, ap₂, _∙_}
 use mathlib.Core.Logic.{_⊎_, inl, inr}
-use mathlib.Core.List.{List, [], _∷_, _++_, append-assoc, append-nil}
+use mathlib.Core.List.{List, [], _∷_, _++_, append-assoc}
 use mathlib.Core.Option.{Option, none, some}
 use Prim.Native.Nat.{ℕ, zero, suc, _+_, _≤_, _<_}
 use native.Mathlib.Omega.{arith}
@@ -15,6 +15,7 @@ use lib.Dec.{eqb}
 use borrow.Author.Tests.{lt-ltb, le-ltb}
 use Rattle.lists.specs.Lists.{indexOf, concatMap, range}
 use Rattle.lists.proofs.Tests.{case, split}
+use Rattle.lists.proofs.Blocks.{concatMap-snoc}
 use Rattle.promises.specs.Answer.{refused}
 use Rattle.promises.specs.Text.{same}
 use Rattle.promises.specs.Reading.{reading}
@@ -27,13 +28,9 @@ use Rattle.listing.proofs.Beginning.{asked-unended, given}
 
 -- ---- line by line
 
-concatMap-one : (f : ℕ → List ℕ) (l : List ℕ) (x : ℕ) → concatMap f (l ++ x ∷ []) ≡ concatMap f l ++ f x
-concatMap-one f [] x = append-nil (f x)
-concatMap-one f (y ∷ l) x = rw (concatMap-one f l x) (sym (append-assoc (f y) (concatMap f l) (f x)))
-
 range-one : (f : ℕ → List ℕ) (n : ℕ) → concatMap f (range (suc n)) ≡ concatMap f (range n) ++ f n
 unfolding range
-range-one f n = concatMap-one f (range n) n
+range-one f n = concatMap-snoc f (range n) n
 
 first-line : (input : List ℕ) → concatMap (lineAt input) (range 1) ≡ headLine (answer input) ++ concatMap (scenarioLine (text input) (horizon input)) (range 0)
 unfolding range lineAt

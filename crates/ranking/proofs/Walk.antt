@@ -3,7 +3,7 @@
 use mathlib.Core.Path.{_≡_, refl, sym, ap, _∙_}
 use mathlib.Core.Logic.{_⊎_, inl, inr}
 use mathlib.Core.Bool.{Bool, true, false, not}
-use mathlib.Core.List.{List, [], _∷_, _++_, append-nil, append-assoc}
+use mathlib.Core.List.{List, [], _∷_, _++_, append-assoc}
 use Prim.Native.Nat.{ℕ, zero, suc, _+_, _-_, _*_, _/_, _≤_, _<_}
 use native.Mathlib.Omega.{arith}
 use native.Mathlib.Numerals.{add-one}
@@ -14,6 +14,7 @@ use lib.Dec.{ltb, leb}
 use borrow.Author.Tests.{lt-ltb, le-ltb, le-leb, leb-true, leb-false}
 use Rattle.lists.specs.Lists.{concatMap}
 use Rattle.lists.proofs.Tests.{case, split}
+use Rattle.lists.proofs.Blocks.{concatMap-snoc}
 use Rattle.lists.proofs.Members.{getD-in}
 use Rattle.automaton.specs.Automaton.{Automaton}
 use Rattle.automaton.specs.Counting.{N, scenarios}
@@ -61,10 +62,6 @@ fits-nothing s h o z = rw (z, mul-zero s, le-ltb o 0 (omega arith))
 pub length-unrank : (A : Automaton) (r x i : ℕ) → i < N A r x → length (unrank A r x i) ≡ r
 length-unrank A r x i h =
     ap length (unrank-at A r x i h) ∙ scenarios-sound A r x (getD (scenarios A r x) i []) (getD-in (scenarios A r x) i [] (omega (arith, scenarios-length A r x))) .0
-
-concatMap-snoc : (f : ℕ → List ℕ) (l : List ℕ) (i : ℕ) → concatMap f (l ++ i ∷ []) ≡ concatMap f l ++ f i
-concatMap-snoc f [] i = append-nil (f i)
-concatMap-snoc f (x ∷ l) i = ap (λ (w : List ℕ). f x ++ w) (concatMap-snoc f l i) ∙ sym (append-assoc (f x) (concatMap f l) (f i))
 
 module _ (f : ℕ → List ℕ) (h : ℕ) (is : List ℕ) (sized : (k : ℕ) → k < length is → length (f (getD is k 0)) ≡ h) where
   concatMap-suc : (n : ℕ) → n < length is → concatMap f (take (suc n) is) ≡ concatMap f (take n is) ++ f (getD is n 0)
