@@ -6,5 +6,6 @@ pub mod Counting
 pub mod Ranking
 pub mod Cells
 pub mod Table
+pub mod Forward
 pub mod Shuffle
 pub mod Source000

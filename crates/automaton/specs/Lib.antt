@@ -5,6 +5,7 @@ pub mod Pruning
 pub mod Counting
 pub mod Ranking
 pub mod Table
+pub mod Forward
 pub mod Shuffle
 pub mod Source000
 pub mod Source001

@@ -2,6 +2,7 @@
 pub mod Tests
 pub mod Members
 pub mod Counts
+pub mod Sums
 pub mod Ordered
 pub mod Filters
 pub mod Tables
