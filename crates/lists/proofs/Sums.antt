@@ -6,7 +6,9 @@ use mathlib.Core.List.{List, [], _∷_, _++_, map, List·Memᴰ as In, List·Mem
 use Prim.Native.Nat.{ℕ, zero, suc, _+_, _≤_, _<_}
 use native.Mathlib.Omega.{arith}
 use native.Mathlib.Decide.{ℕ-discrete}
-use lib.ListN.{take}
+use native.Mathlib.Numerals.{add-one}
+use lib.ListN.{length, getD, take}
+use lib.Seq.{take-suc}
 use lib.Dec.{ltb, eqb}
 use borrow.Author.Tests.{lt-ltb, le-ltb, eq-eqb, ne-eqb}
 use Rattle.lists.specs.Lists.{pick, sum, concatMap, range}
@@ -26,6 +28,10 @@ pub sum-take : (f : ℕ → ℕ) (n : ℕ) (l : List ℕ) → sum f (take n l) �
 sum-take f zero l = omega arith
 sum-take f (suc n) [] = omega arith
 sum-take f (suc n) (x ∷ l) = omega (arith, sum-take f n l)
+
+-- one element more
+pub sum-take-suc : (f : ℕ → ℕ) (l : List ℕ) (c : ℕ) → c < length l → sum f (take (c + 1) l) ≡ sum f (take c l) + f (getD l c 0)
+sum-take-suc f l c h = rw (add-one c, take-suc l c 0 h) (sum-snoc f (take c l) (getD l c 0))
 
 pub sum-none : (f : ℕ → ℕ) (l : List ℕ) → ((e : ℕ) → In e l → f e ≡ 0) → sum f l ≡ 0
 sum-none f [] h = refl

@@ -1,0 +1,2 @@
+-- The laws of pushing.
+pub mod Laws
