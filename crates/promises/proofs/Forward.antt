@@ -15,7 +15,7 @@ use Rattle.promises.proofs.Shapes.{total-shaped}
 -- a count is never refused 11 or 14
 forward-avoids : (t : List ℕ) (h : ℕ) (cells : List ℕ) (m : ℕ) → In m (11 ∷ 14 ∷ []) → Avoids m (forward t h cells)
 unfolding forward
-forward-avoids t h cells m i = let (gt, lt) = between i in avoids-sized m t forwardRows h cells _ (omega arith) lt (avoids-counted m t h _ gt (avoids-served m _))
+forward-avoids t h cells m i = let (gt, lt) = between i in avoids-sized m t forwardRows h cells _ (omega arith) lt (avoids-counted m t _ _ gt (avoids-served m _))
   where
     between : In m (11 ∷ 14 ∷ []) → (10 < m) × (m < 16)
     between (here q) = (omega arith, omega arith)

@@ -82,4 +82,5 @@ starred = record {
   forward-3 = refl;
   forward-short = refl;
   forward-none = refl;
+  forward-none-short = refl;
 }

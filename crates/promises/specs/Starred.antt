@@ -100,5 +100,6 @@ pub record Starred : Type 0 where
   -- 02 no. 9. '2 × P cells instead of all rows': of A at h 3 that is 4, where Count needs 8
   pub forward-3 : forward A 3 (lent 4) ≡ served (5 ∷ 1 ∷ [])
   pub forward-short : forward A 3 (lent 3) ≡ refused 8 0
-  -- 'refusals as Count does'
+  -- 'refusals as Count does': 9, and 8 before it
   pub forward-none : forward closes 2 (lent 4) ≡ refused 9 0
+  pub forward-none-short : forward closes 2 (lent 3) ≡ refused 8 0
