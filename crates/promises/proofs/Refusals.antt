@@ -18,14 +18,13 @@ use Rattle.automaton.specs.Ranking.{firstViolation}
 use Rattle.automaton.proofs.Counting.{scenarios-length, scenarios-sound, scenarios-complete, stays-take}
 use Rattle.automaton.proofs.Ranking.{firstViolation-first}
 use Rattle.promises.specs.Answer.{Answer, served, refused}
-use Rattle.promises.specs.Text.{decoded, eventsOf, Readable, Case7, Case8, Case8·scratch, Case12, Case12·draws, Case13, jointStates}
+use Rattle.promises.specs.Text.{decoded, eventsOf, Readable, Case8, Case8·scratch, Case12, Case12·draws, Case13}
 use Rattle.promises.specs.Meaning.{Belongs}
 use Rattle.promises.specs.Rig.{rigAutomaton, start}
-use Rattle.promises.specs.Calls.{unlessAt, sizedFor, sized, total, counted, count, scenarios, index, badDraw, shuffle}
+use Rattle.promises.specs.Calls.{unlessAt, sized, total, counted, count, scenarios, index, badDraw, shuffle}
 use Rattle.promises.specs.Demand3.{Once}
 use Rattle.promises.specs.Refusals.{Sized, EarlyRows, Many, Countable, Refusals}
 use Rattle.promises.specs.Generator.{generator}
-use Rattle.promises.proofs.Reading.{fault-said, readable-said}
 use Rattle.promises.proofs.Checks.{checked-list, sized-on, sizedFor-text, sizedFor-7, sizedFor-8, counted-none, counted-most, counted-on}
 use Rattle.promises.proofs.Answers.{belongs-listed, none-belongs, count-is, scenarios-is, scenarios-told, listed-length, located, index-is, index-good, events-in, start-live}
 
