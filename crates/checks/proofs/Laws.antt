@@ -15,6 +15,7 @@ use Rattle.promises.specs.Reading as promised
 use Rattle.promises.specs.Rig.{rigAutomaton}
 use Rattle.promises.specs.Calls.{fills, sizedFor}
 use Rattle.promises.specs.Small.{smallRows}
+use Rattle.promises.specs.Forward.{forwardRows}
 use Rattle.promises.proofs.Meaning.{rig-states}
 use Rattle.promises.proofs.Reading.{reading-serves, reading-refuses}
 use Rattle.promises.proofs.Buffers.{early-fills, fault-fills}
@@ -26,16 +27,17 @@ use Rattle.reader.proofs.Record.{read-from}
 use Rattle.checks.specs.Loading.{rowsFor, Loads, ChecksSizes}
 use Rattle.checks.specs.declared.Checked.the-variants.{Passed, Refused}
 use Rattle.checks.specs.declared.Rows.{Rows}
-use Rattle.checks.specs.declared.Rows.the-variants.{All, Sixteenths}
+use Rattle.checks.specs.declared.Rows.the-variants.{All, Sixteenths, Two}
 use Rattle.checks.specs.declared.Loaded.{Loaded}
 
 -- ---- the horizon and the room
 
 -- at most all rows up to 1,000 are needed
 rows-few : (k : Rows) (h : ℕ) → h ≤ 1000 → rowsFor k h ≤ 1001
-unfolding smallRows
+unfolding smallRows forwardRows
 rows-few All h le = omega arith
 rows-few Sixteenths h le = omega arith
+rows-few Two h le = omega arith
 
 pub rows-all : (k : Rows) (h : ℕ) → k ≡ All → h + 1 ≡ rowsFor k h
 rows-all k h e = rw e
@@ -43,6 +45,10 @@ rows-all k h e = rw e
 pub rows-sixteenths : (k : Rows) (h : ℕ) → k ≡ Sixteenths → h / 16 + 16 ≡ rowsFor k h
 unfolding smallRows
 rows-sixteenths k h e = rw e
+
+pub rows-two : (k : Rows) (h : ℕ) → k ≡ Two → 2 ≡ rowsFor k h
+unfolding forwardRows
+rows-two k h e = rw e
 
 pub cells-few : (k : Rows) (h p : ℕ) → h ≤ 1000 → p ≤ 1024 → rowsFor k h * p ≤ 1001 * 1024
 cells-few k h p a b = mul-le-mul {n₁ = rowsFor k h} {m₁ = p} {n₂ = 1001} {m₂ = 1024} (rows-few k h a) b

@@ -20,11 +20,12 @@ use Rattle.promises.specs.Text.{decoded, eventsOf, Readable}
 use Rattle.promises.specs.Rig.{rigAutomaton, start}
 use Rattle.promises.specs.Calls.{sizeRows, fills, sizedFor}
 use Rattle.promises.specs.Small.{smallRows}
+use Rattle.promises.specs.Forward.{forwardRows}
 use Rattle.reader.specs.Reading.{recordOf}
 use Rattle.checks.specs.declared.Checked.{Checked}
 use Rattle.checks.specs.declared.Checked.the-variants.{Passed, Refused}
 use Rattle.checks.specs.declared.Rows.{Rows}
-use Rattle.checks.specs.declared.Rows.the-variants.{All, Sixteenths}
+use Rattle.checks.specs.declared.Rows.the-variants.{All, Sixteenths, Two}
 use Rattle.checks.specs.declared.Loaded.{Loaded}
 
 abbrev pub checkedOr : Checked → Answer → Answer
@@ -34,6 +35,7 @@ checkedOr (Refused number place) a = refused number place
 abbrev pub rowsFor : Rows → ℕ → ℕ
 rowsFor All h = h + 1
 rowsFor Sixteenths h = smallRows h
+rowsFor Two h = forwardRows
 
 pub record FitsFor (r : Rig) (states x rows h room : ℕ) : Type 0 where
   pub well-formed : WellFormed r

@@ -12,10 +12,11 @@ pub enum Checked {
     Refused(u64, u64),
 }
 
-// Which rows of cells a call keeps: all up to the horizon, or every sixteenth and fifteen others.
+// Which rows of cells a call keeps: all up to the horizon, every sixteenth and fifteen others, or two.
 pub enum Rows {
     All,
     Sixteenths,
+    Two,
 }
 
 // What these rows come to, with the record; and where they are passed, how many joint states it has and the number of the start.
@@ -83,5 +84,6 @@ fn needed_rows(rows: Rows, h: usize) -> usize
     match rows {
         Rows::All => h + 1,
         Rows::Sixteenths => h / 16 + 16,
+        Rows::Two => 2,
     }
 }

@@ -30,7 +30,7 @@ use Rattle.promises.specs.Answer.{Answer, served, refused, Served, Refus
 use Rattle.promises.specs.Text.{decoded, eventsOf, Readable, Case7, Case8, Case8·scratch, Case12, Case12·draws, Case13}
 use Rattle.promises.specs.Meaning.{Belongs}
 use Rattle.promises.specs.Rig.{rigAutomaton, start}
-use Rattle.promises.specs.Calls.{unlessAt, outputAfter, total, counted, count, scenarios, written, index, badDraw, shuffle, shuffled}
+use Rattle.promises.specs.Calls.{unlessAt, outputAfter, total, counted, totalRows, count, scenarios, written, index, badDraw, shuffle, shuffled}
 use Rattle.promises.specs.Demand3.{Once, ValidDraws, block}
 use Rattle.promises.proofs.Meaning.{events-just, events-distinct, text-belongs}
 use Rattle.promises.proofs.Checks.{checked-list, check-passed, sized-on, counted-none, counted-most, counted-on, says-none}
@@ -61,7 +61,7 @@ module _ (t : List ℕ) (h : ℕ) (r : Readable t) where
 -- ---- what is said, with buffers as sized
 
 module _ (t : List ℕ) (h : ℕ) (r : Readable t) (c7 : Case7 h → ⊥) where
-  pub count-is : (cells : List ℕ) → (Case8 t h cells → ⊥) → count t h cells ≡ counted t h (served (total t h ∷ passes (rigAutomaton t) ∷ []))
+  pub count-is : (cells : List ℕ) → (Case8 t h cells → ⊥) → count t h cells ≡ totalRows t h
   unfolding count
   count-is cells c8 = sized-on t h cells _ r c7 c8
 
@@ -214,7 +214,7 @@ pub record Told (t : List ℕ) (h n p : ℕ) : Type 0 where
 pub count-told : (t : List ℕ) (h : ℕ) (cells : List ℕ) (n p : ℕ) → Readable t → (Case7 h → ⊥) → (Case8 t h cells → ⊥) → count t h cells ≡ served (n ∷ p ∷ []) → Told t h n p
 count-told t h cells n p r c7 c8 q = go (split 1 (total t h)) (split most (total t h))
   where
-    is : count t h cells ≡ counted t h (served (total t h ∷ passes (rigAutomaton t) ∷ []))
+    is : count t h cells ≡ totalRows t h
     is = count-is t h r c7 cells c8
 
     go : (1 ≤ total t h) ⊎ (total t h < 1) → (most ≤ total t h) ⊎ (total t h < most) → Told t h n p

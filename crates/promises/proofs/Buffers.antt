@@ -143,18 +143,25 @@ cells-left t h cells a =
 -- ---- cells that are left free
 
 -- numbers that are never said need not be named
-pub fewer-numbers : (ns ms : List ℕ) (a : Answer) → ((m : ℕ) → In m ms → Avoids m a) → ServedOr (ns ++ ms) a ↔ ServedOr ns a
+fewer-numbers : (ns ms : List ℕ) (a : Answer) → ((m : ℕ) → In m ms → Avoids m a) → ServedOr (ns ++ ms) a ↔ ServedOr ns a
 unfolding ServedOr
 fewer-numbers ns ms a never = (
   ⊎-elim (λ s. inl s) (λ (n, p, q, i). inr (n, p, q, ⊎-elim (λ j. j) (λ j. absurd (never n j p q)) (in-append ns i))),
   ⊎-elim (λ s. inl s) (λ (n, p, q, i). inr (n, p, q, in-left ms i)),
 )
 
--- what is said of them is just this, where the answers that fill cells are those served and refused by ns
-pub cells-free : (need : ℕ) (ns : List ℕ) (a : Answer) (cells left : List ℕ) → (fills a ≡ true) ↔ ServedOr ns a → CellsFreed a need cells left ↔ CellsFree need ns a cells left
+-- what is said of them is just this: they are free when served and after the refusals ns, where the others after which cells are filled are never said
+pub cells-free : (need : ℕ) (ns ms : List ℕ) (a : Answer) (cells left : List ℕ) → ns ++ ms ≡ 9 ∷ 10 ∷ 11 ∷ 14 ∷ [] → ((m : ℕ) → In m ms → Avoids m a)
+    → CellsFreed a need cells left ↔ CellsFree need ns a cells left
 unfolding CellsFreed Freed
-cells-free need ns a cells left told = go (fills a) told
+cells-free need ns ms a cells left all never = go (fills a) (λ q. fewer .0 (told .0 q), λ s. told .1 (fewer .1 s))
   where
+    told : (fills a ≡ true) ↔ ServedOr (ns ++ ms) a
+    told = rw all (fills-told a)
+
+    fewer : ServedOr (ns ++ ms) a ↔ ServedOr ns a
+    fewer = fewer-numbers ns ms a never
+
     go : (b : Bool) → (b ≡ true) ↔ ServedOr ns a → pick b ((length left ≡ length cells) × ((k : ℕ) → need ≤ k → getD left k 0 ≡ getD cells k 0)) (left ≡ cells) ↔ CellsFree need ns a cells left
     go true t = (
       λ (long, past). record { long = long; past = past; untouched = λ u. absurd (u (t .0 refl)) },

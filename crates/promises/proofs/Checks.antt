@@ -110,6 +110,20 @@ pub sized-on : (t : List ℕ) (h : ℕ) (cells : List ℕ) (a : Answer) → Read
 unfolding Case8
 sized-on t h cells a r c7 c8 = sizedFor-on t (h + 1) h cells a r c7 c8
 
+-- and those that apply say their number
+module _ (t : List ℕ) (rows h : ℕ) (cells : List ℕ) (a : Answer) where
+  pub sizedFor-text : (n p : ℕ) → Fault t n p → sizedFor t rows h cells a ≡ refused n p
+  unfolding sizedFor
+  sizedFor-text n p f = rw (fault-said t n p f)
+
+  pub sizedFor-7 : Readable t → Case7 h → sizedFor t rows h cells a ≡ refused 7 0
+  unfolding sizedFor Case7
+  sizedFor-7 r c = rw (readable-said t r, tells-true (tells-lt 1000 h) c)
+
+  pub sizedFor-8 : Readable t → (Case7 h → ⊥) → length cells < rows * jointStates t → sizedFor t rows h cells a ≡ refused 8 0
+  unfolding sizedFor Case7
+  sizedFor-8 r c7 c = rw (readable-said t r, tells-false (tells-lt 1000 h) c7, tells-true (tells-lt (length cells) (rows * jointStates t)) c)
+
 -- the rows go on alike for two needs that are met
 pub sizedFor-alike : (t : List ℕ) (rows others h : ℕ) (cells enough : List ℕ) (a : Answer) → (length cells < rows * jointStates t → ⊥) → (length enough < others * jointStates t → ⊥)
     → sizedFor t rows h cells a ≡ sizedFor t others h enough a
@@ -141,6 +155,11 @@ avoids-sized m t rows h cells a ge lt v = go (readable-or-fault t)
     go : Readable t ⊎ ((n : ℕ) × (p : ℕ) × Fault t n p) → Avoids m (sizedFor t rows h cells a)
     go (inl r) = rw (readable-said t r) (avoids-check m 7 0 (ltb 1000 h) _ (λ q. omega arith) (avoids-check m 8 0 (ltb (length cells) (rows * jointStates t)) a (λ q. omega arith) v))
     go (inr (n, p, f)) = rw (fault-said t n p f) (λ k q. other n (fault-number t n p f) cc)
+
+-- 9 and 10 say no number above
+pub avoids-counted : (m : ℕ) (t : List ℕ) (h : ℕ) (a : Answer) → 10 < m → Avoids m a → Avoids m (counted t h a)
+unfolding counted
+avoids-counted m t h a gt v = avoids-check m 9 0 (eqb (total t h) 0) _ (λ q. omega arith) (avoids-check m 10 0 (leb most (total t h)) a (λ q. omega arith) v)
 
 -- ---- 9 and 10
 

@@ -29,5 +29,6 @@ pub mod Refusals
 pub mod Buffers
 pub mod Shapes
 pub mod Small
+pub mod Forward
 pub mod Known
 pub mod Wrong

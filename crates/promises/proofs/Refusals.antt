@@ -18,15 +18,14 @@ use Rattle.automaton.specs.Ranking.{firstViolation}
 use Rattle.automaton.proofs.Counting.{scenarios-length, scenarios-sound, scenarios-complete, stays-take}
 use Rattle.automaton.proofs.Ranking.{firstViolation-first}
 use Rattle.promises.specs.Answer.{Answer, served, refused}
-use Rattle.promises.specs.Text.{decoded, eventsOf, Readable, Case7, Case8, Case8·scratch, Case12, Case12·draws, Case13, jointStates}
+use Rattle.promises.specs.Text.{decoded, eventsOf, Readable, Case8, Case8·scratch, Case12, Case12·draws, Case13}
 use Rattle.promises.specs.Meaning.{Belongs}
 use Rattle.promises.specs.Rig.{rigAutomaton, start}
-use Rattle.promises.specs.Calls.{unlessAt, sizedFor, sized, total, counted, count, scenarios, index, badDraw, shuffle}
+use Rattle.promises.specs.Calls.{unlessAt, sized, total, counted, count, scenarios, index, badDraw, shuffle}
 use Rattle.promises.specs.Demand3.{Once}
 use Rattle.promises.specs.Refusals.{Sized, EarlyRows, Many, Countable, Refusals}
 use Rattle.promises.specs.Generator.{generator}
-use Rattle.promises.proofs.Reading.{fault-said, readable-said}
-use Rattle.promises.proofs.Checks.{checked-list, sized-on, counted-none, counted-most, counted-on}
+use Rattle.promises.proofs.Checks.{checked-list, sized-on, sizedFor-text, sizedFor-7, sizedFor-8, counted-none, counted-most, counted-on}
 use Rattle.promises.proofs.Answers.{belongs-listed, none-belongs, count-is, scenarios-is, scenarios-told, listed-length, located, index-is, index-good, events-in, start-live}
 
 -- ---- the first bad place, where it is known
@@ -43,12 +42,8 @@ first-at n bad l a p lt b good = ⊎-elim (λ (q, g). contra b (g p lt)) (λ (k,
 -- ---- rows 1 to 8 and 16 to 18
 
 early-rows : (t : List ℕ) (h : ℕ) (cells : List ℕ) (a : Answer) → EarlyRows t h cells (sized t h cells a)
-unfolding sizedFor Case7 Case8
-early-rows t h cells a = record {
-  text = λ n p f. rw (fault-said t n p f);
-  seven = λ r c. rw (readable-said t r, tells-true (tells-lt 1000 h) c);
-  eight = λ r c7 c. rw (readable-said t r, tells-false (tells-lt 1000 h) c7, tells-true (tells-lt (length cells) ((h + 1) * jointStates t)) c);
-}
+unfolding Case8
+early-rows t h cells a = record { text = sizedFor-text t (h + 1) h cells a; seven = sizedFor-7 t (h + 1) h cells a; eight = sizedFor-8 t (h + 1) h cells a }
 
 -- ---- how many belong
 

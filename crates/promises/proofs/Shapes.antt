@@ -15,7 +15,7 @@ use Rattle.automaton.specs.Ranking.{rank, firstViolation}
 use Rattle.promises.specs.Text.{Line, monitors, decoded, unended, jointStates}
 use Rattle.promises.specs.Reading.{empty, lineCase, readingFrom, reading}
 use Rattle.promises.specs.Rig.{rigAutomaton, start}
-use Rattle.promises.specs.Calls.{firstBad, unlessAt, sizedFor, listRows, total, counted, count, scenarios, index, badDraw, shuffle}
+use Rattle.promises.specs.Calls.{firstBad, unlessAt, sizedFor, totalRows, listRows, total, counted, count, scenarios, index, badDraw, shuffle}
 use Rattle.promises.specs.Generator.{generator}
 use Rattle.promises.specs.Shapes.{Shaped, Shapes}
 
@@ -58,6 +58,11 @@ module _ (m : ℕ) (a : Answer) (s : Shaped m a) where
   unfolding unlessAt
   after-list n ne bad l = checked m n (firstBad bad l) (ltb (firstBad bad l) (length l)) a (λ q. ne) s
 
+-- 'Gives N and the passes.'
+pub total-shaped : (t : List ℕ) (rows h : ℕ) (cells : List ℕ) → Shaped 2 (sizedFor t rows h cells (totalRows t h))
+unfolding Shaped
+total-shaped t rows h cells = after-sizes 2 _ (after-counting 2 _ refl t h) t rows h cells
+
 pub list-shaped : (t : List ℕ) (rows h : ℕ) (is cells out : List ℕ) → Shaped 0 (sizedFor t rows h cells (listRows t h is out))
 list-shaped t rows h is cells out =
     after-sizes 0 _ (checked 0 12 0 (ltb (length out) (length is * h)) _ (λ q e. omega arith) (after-counting 0 _ (after-list 0 (served []) nothing 11 (λ e. omega arith) _ is) t h)) t rows h cells
@@ -65,7 +70,7 @@ list-shaped t rows h is cells out =
 pub shapes : Shapes generator
 unfolding generator Shaped
 shapes = record {
-  of-count = λ t h cells. unfold count in after-sizes 2 _ (after-counting 2 _ refl t h) t (h + 1) h cells;
+  of-count = λ t h cells. unfold count in total-shaped t (h + 1) h cells;
   of-scenarios = λ t h is cells out. unfold scenarios in list-shaped t (h + 1) h is cells out;
   of-index = λ t s cells. unfold index in
       after-sizes 1 _ (after-list 1 _ (after-counting 1 _ (checked 1 14 _ (ltb (firstViolation (rigAutomaton t) (start t) s) (length s)) (served (rank (rigAutomaton t) (start t) s ∷ [])) (λ q e. omega arith) refl) t (length s)) 13 (λ e. omega arith) _ s) t (length s + 1) (length s) cells;

@@ -15,10 +15,11 @@ use Rattle.promises.specs.Reading.{leadsTo, marks, opensBy, testBeginnin
 use Rattle.promises.specs.Rig.{gapNext, replyNext, nextOf, markedOf, monitorOf, standing, linesAutomaton, linesStart, rigAutomaton, start, balNext, dayNext}
 use Rattle.promises.specs.Calls.{firstBadFrom, firstBad, unlessAt, outputAfter, sizedFor, total, counted, count, scenarios, written, index, badDraw, shuffle, shuffled}
 use Rattle.promises.specs.Small.{smallRows, small, smallOutput}
+use Rattle.promises.specs.Forward.{forwardRows, forward}
 use Rattle.promises.specs.Starred.{Starred}
 
 pub starred : Starred
-unfolding reading readingFrom lineCase tests testBeginning testContinuing ofLatest firstOf leadsTo stepIn marks orElse decoded lines unended splitOn onto init lastOf decode fields form one two three four oneOrTwo anyNumber field endOr end number numbers ahead digitsValue signed minus plus oneSigned twoSigned thenSigned same monitors monitorsFrom extended addPart latest statesOf product eventsOf orderOf orderFrom reordered startOf jointStates gapNext replyNext balNext stepOf opensBy dayNext nextOf markedOf bounded monitorOf standing linesAutomaton linesStart rigAutomaton start range both join idle joint sizes jointState keep prunedSet size passesFrom passes live N most choose before unrank rank firstViolation firstBadFrom firstBad unlessAt outputAfter sizedFor total counted count scenarios written index badDraw shuffle shuffled swapping.shuffle shuffleFrom swap smallRows small smallOutput
+unfolding reading readingFrom lineCase tests testBeginning testContinuing ofLatest firstOf leadsTo stepIn marks orElse decoded lines unended splitOn onto init lastOf decode fields form one two three four oneOrTwo anyNumber field endOr end number numbers ahead digitsValue signed minus plus oneSigned twoSigned thenSigned same monitors monitorsFrom extended addPart latest statesOf product eventsOf orderOf orderFrom reordered startOf jointStates gapNext replyNext balNext stepOf opensBy dayNext nextOf markedOf bounded monitorOf standing linesAutomaton linesStart rigAutomaton start range both join idle joint sizes jointState keep prunedSet size passesFrom passes live N most choose before unrank rank firstViolation firstBadFrom firstBad unlessAt outputAfter sizedFor total counted count scenarios written index badDraw shuffle shuffled swapping.shuffle shuffleFrom swap smallRows small smallOutput forwardRows forward
 starred = record {
   a-0 = refl;
   a-1 = refl;
@@ -78,4 +79,8 @@ starred = record {
   small-15 = refl;
   small-16 = refl;
   small-16-short = refl;
+  forward-3 = refl;
+  forward-short = refl;
+  forward-none = refl;
+  forward-none-short = refl;
 }

@@ -40,9 +40,9 @@ pub record CellsLeft (t : List ℕ) (h : ℕ) (a : Answer) (cells left : List �
 -- `need` cells are left free when served and after the refusals ns
 pub record CellsFree (need : ℕ) (ns : List ℕ) (a : Answer) (cells left : List ℕ) : Type 0 where
   pub long : length left ≡ length cells
-  -- 'further ones keep theirs' (02 no. 8)
+  -- 'further ones keep theirs' (02 no. 8), 'further cells keep theirs' (02 no. 9)
   pub past : (k : ℕ) → need ≤ k → getD left k 0 ≡ getD cells k 0
-  -- 'untouched after others' (02 no. 8)
+  -- 'untouched after others' (02 nos. 8 and 9)
   pub untouched : (ServedOr ns a → ⊥) → left ≡ cells
 
 -- n numbers are written where the answer serves

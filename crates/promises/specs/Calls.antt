@@ -8,7 +8,7 @@
 --   sizeRows, countRows, indicesRow, sequenceRow == the rows 7 and 8; 9 and 10; 11; 14 of the table of refusals
 --   sizedFor t rows h cells a == a after the rows up to 8, with cells for so many rows; sized t h cells a == with cells for all rows up to h
 --   listRows t h is out == what a call that lists scenarios tells from row 12 on
---   countFrom A h x    == what Count tells from row 9 on
+--   totalRows t h      == what a call that counts tells from row 9 on; countFrom A h x == so for the automaton A from x
 --   count, scenarios, index, shuffle           == the answers
 --   countCells, scenariosCells, indexCells     == the cells afterwards
 --   written, shuffled                          == the output afterwards
@@ -64,11 +64,12 @@ fills (refused n p) = any (eqb n) (9 ∷ 10 ∷ 11 ∷ 14 ∷ [])
 unfoldable pub cellsAfter : Answer → Automaton → ℕ → List ℕ → List ℕ
 cellsAfter a A h cells = pick (fills a) (filled A h cells) cells
 
--- '.. are left free ..; further ones keep theirs' (02 no. 8)
+-- '.. are left free ..; further ones keep theirs' (02 no. 8), 'further cells keep theirs' (02 no. 9)
 unfoldable pub Freed : ℕ → List ℕ → List ℕ → Type 0
 Freed need cells left = (length left ≡ length cells) × ((k : ℕ) → need ≤ k → getD left k 0 ≡ getD cells k 0)
 
--- 'The needed cells are left free when served and after 9, 10 and 11, untouched after others' (02 no. 8); a call that frees cells never says 14
+-- 'The needed cells are left free when served and after 9, 10 and 11, untouched after others' (02 no. 8); 'left free when served and after 9 and 10,
+-- untouched after others' (02 no. 9). No call that frees cells says 14, and that of no. 9 never says 11
 unfoldable pub CellsFreed : Answer → ℕ → List ℕ → List ℕ → Type 0
 CellsFreed a need cells left = pick (fills a) (Freed need cells left) (left ≡ cells)
 
@@ -118,9 +119,13 @@ module _ (t : List ℕ) where
   unfoldable pub counted : ℕ → Answer → Answer
   counted h a = countRows (total h) a
 
+  -- 9, 10; then N and the passes
+  abbrev pub totalRows : ℕ → Answer
+  totalRows h = counted h (served (total h ∷ passes (rigAutomaton t) ∷ []))
+
   -- 'Count: text, h, cells. Gives N and the passes.'
   unfoldable pub count : ℕ → List ℕ → Answer
-  count h cells = sized h cells (counted h (served (total h ∷ passes (rigAutomaton t) ∷ [])))
+  count h cells = sized h cells (totalRows h)
 
   unfoldable pub countCells : ℕ → List ℕ → List ℕ
   countCells h cells = cellsAfter (count h cells) (rigAutomaton t) h cells

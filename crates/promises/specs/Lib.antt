@@ -14,6 +14,7 @@ pub mod Buffers
 pub mod Generator
 pub mod Shapes
 pub mod Small
+pub mod Forward
 pub mod Examples
 pub mod Starred
 pub mod Starts

@@ -8,6 +8,7 @@ use Rattle.promises.specs.Answer.{served, refused}
 use Rattle.promises.specs.Rig.{start}
 use Rattle.promises.specs.Calls.{count, scenarios, written, index, shuffle, shuffled}
 use Rattle.promises.specs.Small.{small, smallOutput}
+use Rattle.promises.specs.Forward.{forward}
 use Rattle.promises.specs.Examples.{A, B, A-from-1, A-exchanged, two-starts, A-ordered, closes, one-unmarked, both-marked, may-close, gap-alone, reply-alone, unanswerable, meters, meters-table, no-difference, depot-hours, hours-table, always-open}
 
 -- n numbers to lend
@@ -96,3 +97,9 @@ pub record Starred : Type 0 where
   pub small-15 : small always-open 15 (0 ∷ []) (lent 32) (lent 15) ≡ served []
   pub small-16 : small always-open 16 (0 ∷ []) (lent 34) (lent 16) ≡ served []
   pub small-16-short : small always-open 16 (0 ∷ []) (lent 33) (lent 16) ≡ refused 8 0
+  -- 02 no. 9. '2 × P cells instead of all rows': of A at h 3 that is 4, where Count needs 8
+  pub forward-3 : forward A 3 (lent 4) ≡ served (5 ∷ 1 ∷ [])
+  pub forward-short : forward A 3 (lent 3) ≡ refused 8 0
+  -- 'refusals as Count does': 9, and 8 before it
+  pub forward-none : forward closes 2 (lent 4) ≡ refused 9 0
+  pub forward-none-short : forward closes 2 (lent 3) ≡ refused 8 0

@@ -31,7 +31,7 @@ use Rattle.promises.specs.Answer.{Answer, served, refused, unless}
 use Rattle.promises.specs.Text.{eventsOf, decoded, jointStates}
 use Rattle.promises.specs.Rig.{rigAutomaton, start}
 use Rattle.promises.specs.Calls as calls
-use Rattle.promises.specs.Calls.{rows, sized, countRows, counted, total, outputAfter}
+use Rattle.promises.specs.Calls.{rows, sized, countRows, counted, total, totalRows, outputAfter}
 use Rattle.promises.specs.Demand3.{Calls, Demand}
 use Rattle.promises.specs.Demand2.{Demand2}
 use Rattle.promises.specs.Refusals.{Sized}
@@ -172,7 +172,7 @@ unfoldable pub tenOfAnyCell : Calls
 tenOfAnyCell = countAs (λ t h cells.
     sized t h cells
     (unless 10 0 (any (eqb most) (rows (rigAutomaton t) (h + 1)))
-    (counted t h (served (total t h ∷ passes (rigAutomaton t) ∷ [])))))
+    (totalRows t h)))
 
 -- ---- counts and passes
 
