@@ -16,7 +16,7 @@ use Rattle.automaton.specs.Counting.{N, most, cell}
 use Rattle.rig.specs.Record.{recordAutomaton}
 use Rattle.promises.specs.Answer.{Answer, served, refused}
 use Rattle.promises.specs.Rig.{rigAutomaton}
-use Rattle.promises.specs.Calls.{countRows, countFrom, filled, fills, cellsAfter, Freed, CellsFreed, outputAfter, sizedFor, total, counted, count, countCells}
+use Rattle.promises.specs.Calls.{countRows, countFrom, filled, fills, cellsAfter, Freed, CellsFreed, outputAfter, sizedFor, total, counted, totalRows, count, countCells}
 use Rattle.promises.proofs.Buffers.{filled-at}
 use Rattle.checks.specs.Loading.{checkedOr, Ready, Loads}
 use Rattle.checks.specs.declared.Checked.{Checked}
@@ -51,6 +51,10 @@ fills-told A p x h s k cells left table q lt e t r n = record {
 pub countRows-fills : (n : ℕ) (a : Answer) → fills a ≡ true → fills (countRows n a) ≡ true
 unfolding fills
 countRows-fills n a f = case (eqb n 0) (λ q. rw q) (λ q. rw q (case (leb most n) (λ r. rw r) (λ r. rw r f)))
+
+pub total-rows-fill : (t : List ℕ) (h : ℕ) → fills (totalRows t h) ≡ true
+unfolding counted fills
+total-rows-fill t h = countRows-fills (total t h) (served (total t h ∷ passes (rigAutomaton t) ∷ [])) refl
 
 -- ---- what the start's cell tells of N
 
@@ -130,6 +134,10 @@ module _ (t : List ℕ) {rows : ℕ} (h room : ℕ) (o : Loaded) (op : Loads t r
     unfolding total
     total-is = rw (ready .automaton, ready .starts)
 
+    -- and so is what a call that counts tells
+    pub total-rows-are : countFrom (recordAutomaton (o .rig)) h (o .start) ≡ sizedFor t rows h cells (totalRows t h)
+    total-rows-are = rw (passed-answer (totalRows t h), ← ready .automaton, ← total-is) (counted-is _)
+
     -- what fills the cells leaves them as promised
     pub passed-cells : (a : Answer) (after : List ℕ) → fills a ≡ true → after ≡ filled (recordAutomaton (o .rig)) h cells → after ≡ cellsAfter (sizedFor t rows h cells a) (rigAutomaton t) h cells
     unfolding cellsAfter
@@ -157,11 +165,8 @@ module _ (t : List ℕ) (h room : ℕ) (o : Loaded) (op : Loads t (h + 1) h room
   module _ (e : o .checked ≡ Passed) where
     pub count-is : countFrom (recordAutomaton (o .rig)) h (o .start) ≡ count t h cells
     unfolding count
-    count-is = rw (passed-answer t h room o op cells l e, ← op .ready e .automaton, ← total-is t h room o op cells l e) (counted-is t h room o op cells l e _)
+    count-is = total-rows-are t h room o op cells l e
 
     pub count-cells-are : (after : List ℕ) → after ≡ filled (recordAutomaton (o .rig)) h cells → after ≡ countCells t h cells
-    unfolding countCells count counted fills
-    count-cells-are after q = passed-cells t h room o op cells l e (counted t h told) after (countRows-fills (total t h) told refl) q
-      where
-        told : Answer
-        told = served (total t h ∷ passes (rigAutomaton t) ∷ [])
+    unfolding countCells count
+    count-cells-are after q = passed-cells t h room o op cells l e (totalRows t h) after (total-rows-fill t h) q

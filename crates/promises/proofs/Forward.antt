@@ -5,7 +5,9 @@ use mathlib.Core.Path.{_≡_, refl}
 use mathlib.Core.List.{List, [], _∷_, List·Memᴰ as In, List·Memᴰ·head as here, List·Memᴰ·tail as there, List·Memᴰ·eq-of-singleton as in-one}
 use Prim.Native.Nat.{ℕ, _+_, _*_, _<_}
 use native.Mathlib.Omega.{arith}
+use Rattle.automaton.proofs.Forward.{forward-counts}
 use Rattle.promises.specs.Text.{Case8, jointStates}
+use Rattle.promises.specs.Rig.{rigAutomaton, start}
 use Rattle.promises.specs.Calls.{totalRows, count}
 use Rattle.promises.specs.Forward.{forwardRows, forward, Case8·forward, ForwardOwed}
 use Rattle.promises.proofs.Checks.{sizedFor-text, sizedFor-7, sizedFor-8, sizedFor-alike, Avoids, avoids-served, avoids-sized, avoids-counted}
@@ -24,6 +26,7 @@ forward-avoids t h cells m i = let (gt, lt) = between i in avoids-sized m t forw
 pub forward-owed : (t : List ℕ) (h : ℕ) (cells : List ℕ) → ForwardOwed t h cells
 unfolding forwardRows Case8·forward
 forward-owed t h cells = record {
+  counts = forward-counts (rigAutomaton t) (start t) h;
   text = unfold forward in sizedFor-text t forwardRows h cells _;
   seven = unfold forward in sizedFor-7 t forwardRows h cells _;
   eight = unfold forward in sizedFor-8 t forwardRows h cells _;

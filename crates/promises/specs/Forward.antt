@@ -10,8 +10,10 @@ use mathlib.Core.Logic.{_↔_}
 use mathlib.Core.List.{List, [], _∷_}
 use Prim.Native.Nat.{ℕ, _*_, _<_}
 use lib.ListN.{length}
+use Rattle.automaton.specs.Forward.{ForwardCounts}
 use Rattle.promises.specs.Answer.{Answer, refused}
 use Rattle.promises.specs.Text.{jointStates, Readable, Fault, Case7, Case8}
+use Rattle.promises.specs.Rig.{rigAutomaton, start}
 use Rattle.promises.specs.Calls.{CellsFreed, sizedFor, totalRows, count}
 use Rattle.promises.specs.Buffers.{CellsFree}
 use Rattle.promises.specs.Shapes.{Shaped}
@@ -34,6 +36,9 @@ unfoldable pub Case8·forward : List ℕ → List ℕ → Type 0
 Case8·forward t cells = length cells < 2 * jointStates t
 
 pub record ForwardOwed (t : List ℕ) (h : ℕ) (cells : List ℕ) : Type 0 where
+  -- 'A second count begins with 1 at a live start, pushes it forward event by event through live states, and adds all states after h steps. Each sum
+  -- stops at 18,446,744,073,709,551,615.' So counted it is N, cut off, in whatever order the sums are added.
+  pub counts : ForwardCounts (rigAutomaton t) (start t) h
   -- rows 1 to 8 and 16 to 18
   pub text : (n p : ℕ) → Fault t n p → forward t h cells ≡ refused n p
   pub seven : Readable t → Case7 h → forward t h cells ≡ refused 7 0

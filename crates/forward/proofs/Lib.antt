@@ -1,0 +1,2 @@
+-- The laws of the call's steps.
+pub mod Laws
