@@ -23,6 +23,7 @@ unfoldable pub forwardRows : ℕ
 forwardRows = 2
 
 module _ (t : List ℕ) where
+  -- 'A second count ..': what Count tells from row 9 on, after its own need in row 8
   unfoldable pub forward : ℕ → List ℕ → Answer
   forward h cells = sizedFor t forwardRows h cells (totalRows t h)
 
