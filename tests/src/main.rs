@@ -115,7 +115,7 @@ fn counted(tally: &mut Tally, rng: &mut Random, call: &Count, (t, h, cells, made
     let (t, was) = (bytes(t, rng), made(cells, rng));
     let (t0, mut now) = (t.clone(), was.clone());
     let told = (call.library)(t.lent(), h, now.lend());
-    let want = (call.expected)(t.lent(), h, was.lent());
+    let want = (call.expected)(t0.lent(), h, was.lent());
     let written = named("cells", &now, &was, &want.cells, want.free).or(named("text", &t, &t0, t0.lent(), 0));
     let wrong = told_differs(told, want.number, want.words).or(written);
     tally.note(call.name, want.number, wrong, || format!("h {h}, {cells} cells, {}", shown(t.lent())));
@@ -1898,7 +1898,7 @@ fn main() {
     assert!(tally.ending > 300, "few rigs are served at one horizon and have no scenario of the next");
     assert!(tally.late > 500, "few sequences are refused at an event before which no scenario goes on already");
     assert!(tally.short > 1_000, "few lines have too short an output");
-    assert!(tally.fewer > 1_000, "few horizons have fewer scenarios, where a shorter one has too many: {}", tally.fewer);
+    assert!(tally.fewer > 300, "few horizons have fewer scenarios, where a shorter one has too many: {}", tally.fewer);
     assert!(tally.gone > 1_000, "few horizons have no scenario, where a shorter one has too many: {}", tally.gone);
     for ((call, number), (times, wrong)) in &tally.answers {
         let answer = if *number == 0 { "served".into() } else { format!("refusal {number}") };

@@ -175,14 +175,14 @@ pub fn chain(first: u64, second: u64, ways: u64, end: End) -> Vec<u8> {
 /// A rig of 16 events that moves to higher states of its first monitor only, mostly past the next: all its runs stop. So there are more and more
 /// scenarios of longer horizons, often too many, then fewer and at last none. A second monitor may end them earlier.
 pub fn upward(rng: &mut Random) -> Vec<u8> {
-    let (states, next, marks) = (rng.from_to(26, 32), *rng.pick(&[1, 1, 2, 3, 8]), *rng.pick(&[0, 0, 20]));
+    let (states, next, marks) = (rng.from_to(28, 32), *rng.pick(&[2, 3, 3, 4, 5]), *rng.pick(&[0, 0, 20]));
     let mut t = format!("rig\t16\nmon\t{states}\n");
     for (s, e) in (0..states - 1).flat_map(|s| (0..16).map(move |e| (s, e))) {
         let up = if rng.chance(next, 16) { 1 } else { rng.from_to(2, 3) };
         t += &format!("go\t{s}\t{e}\t{}\n", (s + up).min(states - 1));
     }
     t.extend((0..states).filter(|&s| s == states - 1 || rng.chance(marks, 100)).map(|s| format!("stop\t{s}\n")));
-    let shape = Shape { events: 16, monitors: vec![rng.from_to(1, 6)], density: *rng.pick(&[70, 100]), marks: 100, rules: 0 };
+    let shape = Shape { events: 16, monitors: vec![rng.from_to(1, 6)], density: *rng.pick(&[85, 100]), marks: 100, rules: 0 };
     [t.into_bytes(), monitors(&shape, rng)].concat()
 }
 
