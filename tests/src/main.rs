@@ -973,7 +973,7 @@ fn refused(tally: &mut Tally, t: &[u8], number: u64, place: u64) {
     }
 }
 
-/// The four calls on one text, readable or not.
+/// The calls on one text, readable or not.
 fn calls_on(tally: &mut Tally, rng: &mut Random, t: &[u8]) {
     let h = horizon(rng);
     let rig = model::read(t);
@@ -1072,7 +1072,7 @@ fn by_sentences(tally: &mut Tally, rng: &mut Random, rules: &[Rule], order: &[us
     }
 }
 
-/// Demand 3: count, order, scenarios, indices and full shuffles against every sequence of some length. Gives back whether any belongs.
+/// Demand 3: both counts, order, scenarios, indices and full shuffles against every sequence of some length. Gives back whether any belongs.
 fn held(tally: &mut Tally, rng: &mut Random, names: [&'static str; 4], t: &[u8], passes: u64, all: &[Judged]) -> bool {
     let states = model::read(t).expect("a readable text").joint_states();
     let h = all[0].0.len();
@@ -1083,7 +1083,10 @@ fn held(tally: &mut Tally, rng: &mut Random, names: [&'static str; 4], t: &[u8],
     let mut cells = vec![7u64; (h + 1) * states];
     let number = if n == 0 { 9 } else { 0 };
     let words = if n == 0 { [0, 0] } else { [n, passes] };
-    tally.note(names[0], number, told_differs(calls::count(t, h as u64, &mut cells), number, words), input);
+    let forward = calls::count_forward(t, h as u64, &mut vec![7; model::two_rows(h, states)]);
+    for told in [calls::count(t, h as u64, &mut cells), forward] {
+        tally.note(names[0], number, told_differs(told, number, words), input);
+    }
     let mut list: Vec<u64> = (0..n).collect();
     list.extend((0..n.min(5)).map(|_| rng.below(n)));
     let mut out = vec![0xEEu8; list.len() * h + 3];
