@@ -57,7 +57,8 @@
  *    6  P over 1,024                                                             place: line of that monitor
  *    7  h over 1,000
  *    8  cells_len below (h + 1) * P, for wandukhai_scenarios_small below
- *       (h / 16 + 16) * P; scratch_len below 2 * draws_len
+ *       (h / 16 + 16) * P, for wandukhai_count_forward below 2 * P;
+ *       scratch_len below 2 * draws_len
  *    9  N is 0: no scenario of this horizon
  *   10  N is 18,446,744,073,709,551,615 or more
  *   11  index not below N                                                        place: position in the list, from 0
@@ -84,6 +85,7 @@ extern "C" {
 /* Bytes of stack that each function uses at most: measured at the horizon 1,000 with the largest rig (tests/stack.c), and an eighth or more
  * added. A thread needs some more for itself. */
 #define WANDUKHAI_COUNT_STACK 57344
+#define WANDUKHAI_COUNT_FORWARD_STACK 57344
 #define WANDUKHAI_SCENARIOS_STACK 57344
 #define WANDUKHAI_SCENARIOS_SMALL_STACK 73728
 #define WANDUKHAI_INDEX_STACK 57344
@@ -95,6 +97,14 @@ extern "C" {
  * After every other refusal all cells are kept.
  * answer: served, N and the passes of pruning; refused, the place and 0. */
 uint64_t wandukhai_count(const uint8_t *text, size_t text_len, uint64_t h, uint64_t *cells, size_t cells_len, uint64_t answer[2]);
+
+/* Counts the scenarios of h events, in two rows of cells at any horizon: from the front, with 1 at a live start that is pushed forward event by
+ * event through live states. At h 1,000 and P 1,024 it needs 2,048 cells, wandukhai_count 1,025,024; at h 0 it needs twice as many as that one,
+ * at 1 as many. Apart from 8 it returns the number, and tells the place or N and the passes, that wandukhai_count does with cells enough.
+ * cells: at least 2 * P numbers. Served or refused with 9 or 10, the first 2 * P hold anything; the others are kept. After every other refusal
+ * all cells are kept.
+ * answer: as for wandukhai_count. */
+uint64_t wandukhai_count_forward(const uint8_t *text, size_t text_len, uint64_t h, uint64_t *cells, size_t cells_len, uint64_t answer[2]);
 
 /* Writes the scenarios of the given indices, each below N; an index may repeat.
  * cells: as for wandukhai_count, filled after 11 too.

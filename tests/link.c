@@ -1,10 +1,21 @@
-/* Lists the scenarios of a rig in a shuffled order, each with its index and its events; and one of a longer horizon, with fewer rows of cells. */
+/* Counts the scenarios of a rig, with two rows of cells and with all; lists them in a shuffled order, each with its index and its events; and
+ * one of a longer horizon, with fewer rows of cells. */
 #include <stdio.h>
 #include <string.h>
 #include "wandukhai.h"
 
 enum { HORIZON = 3, STATES = 2 * 3, CELLS = (HORIZON + 1) * STATES, MOST = 8 };
-enum { LONG = 40, FEW_CELLS = (LONG / 16 + 16) * STATES };
+enum { TWO_ROWS = 2 * STATES, LONG = 40, FEW_CELLS = (LONG / 16 + 16) * STATES };
+
+/* Prints what a count answered; gives back the number. */
+static uint64_t print_count(uint64_t number, const uint64_t answer[2])
+{
+    if (number == 0)
+        printf("count\t%llu\t%llu\n", (unsigned long long)answer[0], (unsigned long long)answer[1]);
+    else
+        printf("no\t%llu\t%llu\n", (unsigned long long)number, (unsigned long long)answer[0]);
+    return number;
+}
 
 static void print_scenario(uint64_t index, const uint8_t *events, int h)
 {
@@ -25,16 +36,14 @@ int main(void)
     const size_t len = strlen(rig);
     /* Draw i is from i to N-1; a real caller draws them at random. */
     const uint64_t draws[MOST] = {4, 2, 4, 3, 4};
-    uint64_t cells[CELLS], few_cells[FEW_CELLS], scratch[2 * MOST], order[MOST], answer[2], place, index, number;
+    uint64_t cells[CELLS], few_cells[FEW_CELLS], scratch[2 * MOST], order[MOST], answer[2], place, index;
     uint8_t events[MOST * HORIZON], long_events[LONG];
     size_t i;
 
-    number = wandukhai_count(text, len, HORIZON, cells, CELLS, answer);
-    if (number != 0) {
-        printf("no\t%llu\t%llu\n", (unsigned long long)number, (unsigned long long)answer[0]);
+    if (print_count(wandukhai_count_forward(text, len, HORIZON, few_cells, TWO_ROWS, answer), answer) != 0)
         return 1;
-    }
-    printf("count\t%llu\t%llu\n", (unsigned long long)answer[0], (unsigned long long)answer[1]);
+    if (print_count(wandukhai_count(text, len, HORIZON, cells, CELLS, answer), answer) != 0)
+        return 1;
     if (answer[0] > MOST || wandukhai_shuffle(answer[0], draws, answer[0], scratch, 2 * MOST, order, MOST, &place) != 0)
         return 1;
     if (wandukhai_scenarios(text, len, HORIZON, order, answer[0], cells, CELLS, events, sizeof events, &place) != 0)

@@ -1,6 +1,8 @@
-//! Lists the scenarios of a rig in a shuffled order, each with its index and its events; and one of a longer horizon, with fewer rows of cells.
+//! Counts the scenarios of a rig, with two rows of cells and with all; lists them in a shuffled order, each with its index and its events; and
+//! one of a longer horizon, with fewer rows of cells.
 extern "C" {
     fn wandukhai_count(text: *const u8, len: usize, h: u64, cells: *mut u64, cells_len: usize, answer: *mut u64) -> u64;
+    fn wandukhai_count_forward(text: *const u8, len: usize, h: u64, cells: *mut u64, cells_len: usize, answer: *mut u64) -> u64;
     fn wandukhai_scenarios(
         text: *const u8, len: usize, h: u64, list: *const u64, list_len: usize,
         cells: *mut u64, cells_len: usize, out: *mut u8, out_len: usize, place: *mut u64,
@@ -15,28 +17,21 @@ extern "C" {
     ) -> u64;
 }
 
-/// N and the passes; or the number of refusal and its place.
-fn count(text: &[u8], h: u64, cells: &mut [u64]) -> Result<(u64, u64), (u64, u64)> {
+type Count = unsafe extern "C" fn(*const u8, usize, u64, *mut u64, usize, *mut u64) -> u64;
+type Scenarios = unsafe extern "C" fn(*const u8, usize, u64, *const u64, usize, *mut u64, usize, *mut u8, usize, *mut u64) -> u64;
+
+/// N and the passes, by one of the two counts; or the number of refusal and its place.
+fn count(call: Count, text: &[u8], h: u64, cells: &mut [u64]) -> Result<(u64, u64), (u64, u64)> {
     let mut answer = [0; 2];
-    let number = unsafe { wandukhai_count(text.as_ptr(), text.len(), h, cells.as_mut_ptr(), cells.len(), answer.as_mut_ptr()) };
+    let number = unsafe { call(text.as_ptr(), text.len(), h, cells.as_mut_ptr(), cells.len(), answer.as_mut_ptr()) };
     if number == 0 { Ok((answer[0], answer[1])) } else { Err((number, answer[0])) }
 }
 
-fn scenarios(text: &[u8], h: u64, list: &[u64], cells: &mut [u64], out: &mut [u8]) -> Result<(), (u64, u64)> {
+/// By one of the two scenarios calls.
+fn scenarios(call: Scenarios, text: &[u8], h: u64, list: &[u64], cells: &mut [u64], out: &mut [u8]) -> Result<(), (u64, u64)> {
     let mut place = 0;
     let number = unsafe {
-        wandukhai_scenarios(
-            text.as_ptr(), text.len(), h, list.as_ptr(), list.len(),
-            cells.as_mut_ptr(), cells.len(), out.as_mut_ptr(), out.len(), &mut place,
-        )
-    };
-    if number == 0 { Ok(()) } else { Err((number, place)) }
-}
-
-fn scenarios_small(text: &[u8], h: u64, list: &[u64], cells: &mut [u64], out: &mut [u8]) -> Result<(), (u64, u64)> {
-    let mut place = 0;
-    let number = unsafe {
-        wandukhai_scenarios_small(
+        call(
             text.as_ptr(), text.len(), h, list.as_ptr(), list.len(),
             cells.as_mut_ptr(), cells.len(), out.as_mut_ptr(), out.len(), &mut place,
         )
@@ -60,21 +55,24 @@ fn main() -> Result<(), (u64, u64)> {
     // No two 1s together; link.c has a rig of `gap`, `bal` and `amp` lines with the same scenarios of three events, and the same first ones of more.
     let rig = b"rig\t2\nmon\t2\ngo\t0\t0\t0\ngo\t0\t1\t1\ngo\t1\t0\t0\n";
     let (h, states) = (3, 2);
+    let (n, passes) = count(wandukhai_count_forward, rig, h as u64, &mut vec![0; 2 * states])?;
+    println!("count\t{n}\t{passes}");
     let mut cells = vec![0; (h + 1) * states];
-    let (n, passes) = count(rig, h as u64, &mut cells)?;
+    let (n, passes) = count(wandukhai_count, rig, h as u64, &mut cells)?;
     println!("count\t{n}\t{passes}");
     // Draw i is from i to n - 1; a real caller draws them at random.
     let draws = [4, 2, 4, 3, 4];
     let mut order = vec![0; draws.len()];
     shuffle(n, &draws, &mut vec![0; 2 * draws.len()], &mut order)?;
     let mut events = vec![0; order.len() * h];
-    scenarios(rig, h as u64, &order, &mut cells, &mut events)?;
+    scenarios(wandukhai_scenarios, rig, h as u64, &order, &mut cells, &mut events)?;
     for (&index, scenario) in order.iter().zip(events.chunks(h)) {
         print_scenario(index, scenario);
     }
     let long = 40;
     let mut events = vec![0; long];
-    scenarios_small(rig, long as u64, &order[..1], &mut vec![0; (long / 16 + 16) * states], &mut events)?;
+    let mut few_cells = vec![0; (long / 16 + 16) * states];
+    scenarios(wandukhai_scenarios_small, rig, long as u64, &order[..1], &mut few_cells, &mut events)?;
     print_scenario(order[0], &events);
     Ok(())
 }

@@ -8,7 +8,7 @@
 #include <sys/mman.h>
 #include "wandukhai.h"
 
-enum { EVENTS = 16, S = 32, HORIZON = 1000, CELLS = (HORIZON + 1) * S * S, FEW_CELLS = (HORIZON / 16 + 16) * S * S };
+enum { EVENTS = 16, S = 32, HORIZON = 1000, CELLS = (HORIZON + 1) * S * S, TWO_ROWS = 2 * S * S, FEW_CELLS = (HORIZON / 16 + 16) * S * S };
 enum { INDICES = 2100, DRAWS = 100000 };
 enum { GUARD = 1 << 16, STACK = 1 << 20, PATTERN = 0xA5 };
 
@@ -87,6 +87,11 @@ static void count(void)
     number = wandukhai_count((const uint8_t *)text, strlen(text), HORIZON, cells, CELLS, answer);
 }
 
+static void count_forward(void)
+{
+    number = wandukhai_count_forward((const uint8_t *)text, strlen(text), HORIZON, cells, TWO_ROWS, answer);
+}
+
 static void scenarios(void)
 {
     number = wandukhai_scenarios((const uint8_t *)text, strlen(text), HORIZON, indices, INDICES, cells, CELLS, events, sizeof events, answer);
@@ -154,7 +159,7 @@ static int keeps(const char *name, long most, long stated)
 
 int main(void)
 {
-    long counted, listed, listed_small, found, shuffled;
+    long counted, counted_forward, listed, listed_small, found, shuffled;
     int good = 1;
     size_t i;
 
@@ -162,6 +167,7 @@ int main(void)
     for (i = 0; i < INDICES; i++)
         indices[i] = (i * 7919) % (HORIZON + 1);
     counted = used(count, 0);
+    counted_forward = used(count_forward, 0);
     listed = used(scenarios, 0);
     listed_small = used(scenarios_small, 0);
     found = used(index_of, 0);
@@ -172,6 +178,7 @@ int main(void)
     for (i = 0; i < sizeof full / sizeof *full; i++) {
         full[i]();
         counted = more(counted, used(count, 10));
+        counted_forward = more(counted_forward, used(count_forward, 10));
         listed = more(listed, used(scenarios, 10));
         listed_small = more(listed_small, used(scenarios_small, 10));
         found = more(found, used(index_of, 10));
@@ -181,6 +188,7 @@ int main(void)
         draws[i] = UINT64_MAX - 1 - (i * 7919) % 1000;
     shuffled = more(shuffled, used(shuffle, 0));
     good &= keeps("wandukhai_count", counted, WANDUKHAI_COUNT_STACK);
+    good &= keeps("wandukhai_count_forward", counted_forward, WANDUKHAI_COUNT_FORWARD_STACK);
     good &= keeps("wandukhai_scenarios", listed, WANDUKHAI_SCENARIOS_STACK);
     good &= keeps("wandukhai_scenarios_small", listed_small, WANDUKHAI_SCENARIOS_SMALL_STACK);
     good &= keeps("wandukhai_index", found, WANDUKHAI_INDEX_STACK);

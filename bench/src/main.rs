@@ -1,9 +1,9 @@
 //! How long the calls take beside plain Rust and plain C on the same input, in the same run: the best of some rounds, taken in turn. Buffers are
-//! lent as the round before left them. Every answer is compared. And how long the small scenarios call takes beside the other one, and `gap`, `reply`, `bal`
-//! and `day` lines to read beside the moves they stand for.
+//! lent as the round before left them. Every answer is compared. And how long the forward count takes beside Count, the small scenarios call beside the
+//! other one, and `gap`, `reply`, `bal` and `day` lines to read beside the moves they stand for.
 mod plain;
 
-use outside::texts::{lower_first, slow_growth, written_out};
+use outside::texts::{chain, lower_first, slow_growth, written_out, End};
 use outside::{calls, model, random::Random};
 use plain::{prune, read};
 use std::time::Instant;
@@ -14,7 +14,8 @@ fn timed(f: &mut dyn FnMut()) -> f64 {
     start.elapsed().as_secs_f64() * 1e3
 }
 
-/// Prints the best times in milliseconds, and the ratios of the first to the others: of ours, plain Rust, plain C and C over our rows, or of two calls.
+/// Prints the best times in milliseconds, and the ratios of the first to the others: of ours, plain Rust, plain C and C over our rows, or of two calls of
+/// ours and plain C.
 fn row(name: &str, rounds: usize, runs: &mut [&mut dyn FnMut()]) {
     let mut best = vec![f64::MAX; runs.len()];
     for _ in 0..rounds {
@@ -27,32 +28,24 @@ fn row(name: &str, rounds: usize, runs: &mut [&mut dyn FnMut()]) {
     println!("{name:62}{times:44}{ratios}");
 }
 
-/// Every monitor has every move, to random states.
-fn full_rig(monitors: &[u64], rng: &mut Random) -> Vec<u8> {
-    let mut t = "rig\t16\n".to_string();
-    for &s in monitors {
-        t += &format!("mon\t{s}\n");
-        for (x, e) in (0..s).flat_map(|x| (0..16).map(move |e| (x, e))) {
-            t += &format!("go\t{x}\t{e}\t{}\n", rng.below(s));
-        }
-    }
-    t.into_bytes()
+/// A monitor of so many states whose first ones have a move on each of 16 events, to the states that `to` gives.
+fn mon(states: u64, moving: u64, mut to: impl FnMut(u64) -> u64) -> String {
+    let moves = (0..moving).flat_map(|x| (0..16).map(move |e| (x, e)));
+    format!("mon\t{states}\n{}", moves.map(|(x, e)| format!("go\t{x}\t{e}\t{}\n", to(e))).collect::<String>())
 }
 
-/// 1,024 joint states in a row, each led to by the one before: event 0 counts the second monitor up, event 1 carries.
-fn dead_path() -> Vec<u8> {
-    let mut t = "rig\t2\nmon\t32\n".to_string();
-    for s in 0..32 {
-        t += &format!("go\t{s}\t0\t{s}\n");
-        if s < 31 {
-            t += &format!("go\t{s}\t1\t{}\n", s + 1);
-        }
-    }
-    t += "mon\t32\n";
-    for s in 0..31 {
-        t += &format!("go\t{s}\t0\t{}\n", s + 1);
-    }
-    (t + "go\t31\t1\t0\n").into_bytes()
+/// Every monitor has every move, to random states.
+fn full_rig(monitors: &[u64], rng: &mut Random) -> Vec<u8> {
+    let lines: String = monitors.iter().map(|&s| mon(s, s, |_| rng.below(s))).collect();
+    format!("rig\t16\n{lines}").into_bytes()
+}
+
+/// Two monitors of 32 states with every move, to random states; but in the first `last` leads to a state in which runs stop: it has no move.
+fn stopping_rig(last: u64, rng: &mut Random) -> Vec<u8> {
+    let first = mon(32, 31, |e| if e == last { 31 } else { rng.below(31) });
+    let second = mon(32, 32, |_| rng.below(32));
+    let marks: String = (0..32).map(|s| format!("stop\t{s}\n")).collect();
+    format!("rig\t16\n{first}stop\t31\n{second}{marks}").into_bytes()
 }
 
 fn count(name: &str, rounds: usize, t: &[u8], h: usize) {
@@ -125,6 +118,43 @@ fn scenarios(name: &str, t: &[u8], h: usize, list: usize, rng: &mut Random) {
         ],
     );
     assert!(i == j && i == k);
+}
+
+/// The forward count beside Count, and beside plain C after reading and pruning in Rust.
+fn forward(name: &str, rounds: usize, t: &[u8], h: usize) {
+    let p = read(t).map(|r| prune(&r).states).unwrap();
+    let [mut two, mut all, mut plain] = [model::two_rows, model::all_rows, model::two_rows].map(|need| vec![0; need(h, p)]);
+    let ([mut a, mut b], mut n) = ([None; 2], 0);
+    row(
+        name,
+        rounds,
+        &mut [
+            &mut || a = Some(calls::count_forward(t, h as u64, &mut two)),
+            &mut || b = Some(calls::count(t, h as u64, &mut all)),
+            &mut || n = prune(&read(t).unwrap()).c_forward(h, &mut plain),
+        ],
+    );
+    assert!(a == b);
+    let told = a.unwrap();
+    assert!((told.number, n) == (0, told.words[0]) || (told.number, n) == (9, 0) || (told.number, n) == (10, u64::MAX));
+}
+
+/// A count to be timed: its name, how many rounds, the text and the horizon.
+type Case<'a> = (&'a str, usize, &'a [u8], usize);
+
+fn forwards(cases: &[Case], rng: &mut Random) {
+    println!(
+        "\n{:62} {:>10} {:>10} {:>10} {:10} {:>7} {:>7}",
+        "count from the front", "forward ms", "count ms", "C ms", "", "/ count", "/ C"
+    );
+    cases.iter().for_each(|&(name, rounds, t, h)| forward(name, rounds, t, h));
+    for last in [0, 15] {
+        let name = format!("dense: 16 ways a state, runs stop after event {last}, h 1,000");
+        forward(&name, 20, &stopping_rig(last, rng), 1000);
+    }
+    let slow = slow_growth(6, &[32]);
+    forward("sparse: 1 or 2 ways, P 192, no full cell, h 1,000", 50, &slow, 1000);
+    forward("sparse: 1 or 2 ways, P 192, no full cell, h 30", 200, &slow, 30);
 }
 
 /// The small scenarios call beside the one that keeps all rows.
@@ -277,14 +307,19 @@ fn main() {
         "{:62} {:>10} {:>10} {:>10} {:>10} {:>7} {:>7} {:>7}",
         "", "ours ms", "Rust ms", "C ms", "C rows ms", "/ Rust", "/ C", "/ rows"
     );
-    let two = full_rig(&[32, 32], rng);
-    count("count, dense: 16 ways a state, P 1,024 of 2 monitors, h 1,000", 20, &two, 1000);
-    count("count, dense: 16 ways a state, P 1,024 of 4 monitors, h 1,000", 20, &full_rig(&[8, 4, 8, 4], rng), 1000);
-    count("count, dense: 16 ways a state, P 1,024, no full cell, h 15", 200, &two, 15);
-    count("count, sparse: 1 way, P 1,024, no full cell, h 1,000", 20, &slow_growth(1, &[32, 32]), 1000);
-    count("count, sparse: 1 or 2 ways, P 1,024, no full cell, h 1,000", 20, &slow_growth(4, &[32, 8]), 1000);
-    count("count, a dead path of 1,024 joint states, h 0", 20, &dead_path(), 0);
-    count(&format!("count, a text of {} bytes with every move of S 32, 32, h 0", two.len()), 50, &two, 0);
+    let [two, four] = [&[32, 32][..], &[8, 4, 8, 4]].map(|monitors| full_rig(monitors, rng));
+    let (one_way, two_ways, path) = (slow_growth(1, &[32, 32]), slow_growth(4, &[32, 8]), chain(32, 32, 1, End::Dead));
+    let whole = format!("a text of {} bytes with every move of S 32, 32, h 0", two.len());
+    let cases: [Case; 7] = [
+        ("dense: 16 ways a state, P 1,024 of 2 monitors, h 1,000", 20, &two, 1000),
+        ("dense: 16 ways a state, P 1,024 of 4 monitors, h 1,000", 20, &four, 1000),
+        ("dense: 16 ways a state, P 1,024, no full cell, h 15", 200, &two, 15),
+        ("sparse: 1 way, P 1,024, no full cell, h 1,000", 20, &one_way, 1000),
+        ("sparse: 1 or 2 ways, P 1,024, no full cell, h 1,000", 20, &two_ways, 1000),
+        ("a dead path of 1,024 joint states, h 0", 20, &path, 0),
+        (&whole, 50, &two, 0),
+    ];
+    cases.iter().for_each(|&(name, rounds, t, h)| count(&format!("count, {name}"), rounds, t, h));
     let slow = slow_growth(6, &[32]);
     scenarios("20,000 scenarios of 1,000 events, sparse, P 192", &slow, 1000, 20_000, rng);
     scenarios("200,000 scenarios of 30 events, sparse, P 192", &slow, 30, 200_000, rng);
@@ -304,6 +339,7 @@ fn main() {
         false,
     );
     shuffle("shuffle, 10^5 equal draws, against a map", most, vec![most - 1; 100_000], false);
+    forwards(&cases, rng);
     smalls(rng);
     readings();
     growths();

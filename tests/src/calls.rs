@@ -1,8 +1,9 @@
-//! Safe wrappers of the five C functions of include/wandukhai.h, and of the line writer's in crate `line_capi`: slices are valid, non-null
+//! Safe wrappers of the six C functions of include/wandukhai.h, and of the line writer's in crate `line_capi`: slices are valid, non-null
 //! also when empty, and don't overlap.
 
 extern "C" {
     fn wandukhai_count(text: *const u8, text_len: usize, h: u64, cells: *mut u64, cells_len: usize, answer: *mut u64) -> u64;
+    fn wandukhai_count_forward(text: *const u8, text_len: usize, h: u64, cells: *mut u64, cells_len: usize, answer: *mut u64) -> u64;
     fn wandukhai_scenarios(
         text: *const u8,
         text_len: usize,
@@ -66,8 +67,18 @@ fn told<const N: usize>(call: impl FnOnce(*mut u64) -> u64) -> Told {
     Told { number, words: [room[2], if N == 2 { room[3] } else { 0 }] }
 }
 
+type Count = unsafe extern "C" fn(*const u8, usize, u64, *mut u64, usize, *mut u64) -> u64;
+
+fn counted(call: Count, text: &[u8], h: u64, cells: &mut [u64]) -> Told {
+    told::<2>(|answer| unsafe { call(text.as_ptr(), text.len(), h, cells.as_mut_ptr(), cells.len(), answer) })
+}
+
 pub fn count(text: &[u8], h: u64, cells: &mut [u64]) -> Told {
-    told::<2>(|answer| unsafe { wandukhai_count(text.as_ptr(), text.len(), h, cells.as_mut_ptr(), cells.len(), answer) })
+    counted(wandukhai_count, text, h, cells)
+}
+
+pub fn count_forward(text: &[u8], h: u64, cells: &mut [u64]) -> Told {
+    counted(wandukhai_count_forward, text, h, cells)
 }
 
 type Scenarios = unsafe extern "C" fn(*const u8, usize, u64, *const u64, usize, *mut u64, usize, *mut u8, usize, *mut u64) -> u64;

@@ -59,6 +59,14 @@ pub fn noise_words(len: usize, rng: &mut Random) -> Guarded<u64> {
     words(&inner, rng)
 }
 
+/// `len` words of noise, or one number in all of them.
+pub fn any_words(len: usize, rng: &mut Random) -> Guarded<u64> {
+    match *rng.pick(&[None, None, Some(0), Some(1), Some(u64::MAX)]) {
+        Some(word) => words(&vec![word; len], rng),
+        None => noise_words(len, rng),
+    }
+}
+
 /// `len` bytes of noise.
 pub fn noise_bytes(len: usize, rng: &mut Random) -> Guarded<u8> {
     let inner: Vec<u8> = (0..len).map(|_| rng.word() as u8).collect();

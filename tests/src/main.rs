@@ -2,13 +2,13 @@
 //! of the guards around it. The last line is the number of comparisons and of differences; the exit status is 0 only without any.
 use outside::brute::{sequences, Judged, Runs};
 use outside::calls::{self, Told};
-use outside::guarded::{bytes, noise_bytes, noise_words, words, Guarded};
+use outside::guarded::{any_words, bytes, noise_bytes, noise_words, words, Guarded};
 use outside::listing::scenario_line;
-use outside::model::{self, Kind, Monitor};
+use outside::model::{self, Kind, Monitor, Refusal, Rig};
 use outside::random::Random;
 use outside::rules::{self, admitted, all_marked, in_hours, intervals, steps, within, Chosen, Rule};
 use outside::texts::{self, damage, endless, from_state_0, lower_first, other_bal, other_day, other_marks, other_order, other_rules};
-use outside::texts::{other_start, ruled, slow_growth, text, written_out, wrong_signs, Shape};
+use outside::texts::{chain, other_start, ruled, slow_growth, text, upward, written_out, wrong_signs, End, Shape};
 use std::collections::{BTreeMap, BTreeSet, HashSet};
 use std::slice::from_ref;
 
@@ -47,6 +47,9 @@ struct Tally {
     admitted: u64,
     /// How many lines had too short an output, so that nothing is written.
     short: u64,
+    /// How many horizons of rigs have fewer scenarios than 2^64 - 1, and how many have none, where a shorter horizon has that many or more.
+    fewer: u64,
+    gone: u64,
 }
 
 impl Tally {
@@ -77,47 +80,85 @@ fn shown(t: &[u8]) -> String {
     format!("text {:?}", String::from_utf8_lossy(&t[..t.len().min(400)]))
 }
 
-/// Compares one Count call, and gives back what is expected of it.
-fn count(tally: &mut Tally, rng: &mut Random, t: &[u8], h: u64, cells: usize) -> model::Expected {
-    let (t, was) = (bytes(t, rng), noise_words(cells, rng));
+/// P; or 3, where the text isn't readable.
+fn states(rig: &Result<Rig, Refusal>) -> usize {
+    rig.as_ref().map_or(3, Rig::joint_states)
+}
+
+/// A call of the library, and what is expected of it.
+struct Call<Library, Expected> {
+    name: &'static str,
+    library: Library,
+    expected: Expected,
+}
+
+/// What a count tells of a text and a horizon, with cells to write to; and what is expected of it, by what they hold before.
+type Count = Call<fn(&[u8], u64, &mut [u64]) -> Told, fn(&[u8], u64, &[u64]) -> model::Expected>;
+
+const BACKWARD: Count = Call { name: "count", library: calls::count, expected: model::count };
+const FORWARD: Count = Call { name: "count_forward", library: calls::count_forward, expected: model::count_forward };
+/// The forward count beside the other one of the library.
+const BESIDE_COUNT: Count = Call { name: "beside count", library: calls::count_forward, expected: counted_with_all_rows };
+
+/// What the library counts with cells enough for all rows; the cells as the forward count leaves them.
+fn counted_with_all_rows(t: &[u8], h: u64, cells: &[u64]) -> model::Expected {
+    let (rows, states) = (h as usize, states(&model::read(t)));
+    let Told { number, words } = calls::count(t, h, &mut vec![0; model::all_rows(rows, states)]);
+    model::Expected { number, words, cells: cells.to_vec(), free: model::left_free(number, model::two_rows(rows, states)), out: vec![] }
+}
+
+/// What a count is lent: a text, a horizon, how many cells, and what makes them.
+type Room<'a> = (&'a [u8], u64, usize, fn(usize, &mut Random) -> Guarded<u64>);
+
+/// Compares one count, and gives back what is expected of it.
+fn counted(tally: &mut Tally, rng: &mut Random, call: &Count, (t, h, cells, made): Room) -> model::Expected {
+    let (t, was) = (bytes(t, rng), made(cells, rng));
     let (t0, mut now) = (t.clone(), was.clone());
-    let told = calls::count(t.lent(), h, now.lend());
-    let want = model::count(t.lent(), h, was.lent());
-    let wrong =
-        told_differs(told, want.number, want.words).or(named("cells", &now, &was, &want.cells, 0)).or(named("text", &t, &t0, t0.lent(), 0));
-    tally.note("count", want.number, wrong, || format!("h {h}, {cells} cells, {}", shown(t.lent())));
+    let told = (call.library)(t.lent(), h, now.lend());
+    let want = (call.expected)(t0.lent(), h, was.lent());
+    let written = named("cells", &now, &was, &want.cells, want.free).or(named("text", &t, &t0, t0.lent(), 0));
+    let wrong = told_differs(told, want.number, want.words).or(written);
+    tally.note(call.name, want.number, wrong, || format!("h {h}, {cells} cells, {}", shown(t.lent())));
+    want
+}
+
+fn count_forward(tally: &mut Tally, rng: &mut Random, t: &[u8], h: u64, cells: usize) -> model::Expected {
+    counted(tally, rng, &FORWARD, (t, h, cells, any_words))
+}
+
+/// Compares one Count call, and gives back what is expected of it. On the same text and horizon it compares the forward count too, which is expected to
+/// tell the same unless the cells of either are too few; with numbers of its own, so that all others are as without it.
+fn count(tally: &mut Tally, rng: &mut Random, t: &[u8], h: u64, cells: usize) -> model::Expected {
+    let own = &mut rng.clone();
+    let room = about(own, model::two_rows(h.min(1000) as usize, states(&model::read(t))));
+    let forward = count_forward(tally, own, t, h, room);
+    let want = counted(tally, rng, &BACKWARD, (t, h, cells, noise_words));
+    let same = (forward.number, forward.words) == (want.number, want.words);
+    assert!(same || [forward.number, want.number].contains(&8), "the independent counts, h {h}, {}", shown(t));
     want
 }
 
 /// What a scenarios call tells of a text, a horizon and a list, with cells and output to write to; and what is expected of it, by what they hold before.
-type Listing = fn(&[u8], u64, &[u64], &mut [u64], &mut [u8]) -> Told;
-type Expecting = fn(&[u8], u64, &[u64], &[u64], &[u8]) -> model::Expected;
+type Scenarios = Call<fn(&[u8], u64, &[u64], &mut [u64], &mut [u8]) -> Told, fn(&[u8], u64, &[u64], &[u64], &[u8]) -> model::Expected>;
 
-/// A scenarios call of the library, and what is expected of it.
-struct Call {
-    name: &'static str,
-    library: Listing,
-    expected: Expecting,
-}
-
-const ALL_ROWS: Call = Call { name: "scenarios", library: calls::scenarios, expected: model::scenarios };
-const FEW_ROWS: Call = Call { name: "scenarios_small", library: calls::scenarios_small, expected: model::scenarios_small };
+const ALL_ROWS: Scenarios = Call { name: "scenarios", library: calls::scenarios, expected: model::scenarios };
+const FEW_ROWS: Scenarios = Call { name: "scenarios_small", library: calls::scenarios_small, expected: model::scenarios_small };
 /// The small scenarios call beside the other one of the library.
-const BESIDE: Call = Call { name: "beside all rows", library: calls::scenarios_small, expected: with_all_rows };
+const BESIDE: Scenarios = Call { name: "beside all rows", library: calls::scenarios_small, expected: with_all_rows };
 
 /// What the library tells and writes with cells enough for all rows; the cells as the small scenarios call leaves them.
 fn with_all_rows(t: &[u8], h: u64, list: &[u64], cells: &[u64], out: &[u8]) -> model::Expected {
-    let (rows, states) = (h as usize, model::read(t).expect("a readable text").joint_states());
+    let (rows, states) = (h as usize, states(&model::read(t)));
     let mut out = out.to_vec();
     let Told { number, words } = calls::scenarios(t, h, list, &mut vec![0; model::all_rows(rows, states)], &mut out);
-    model::Expected { number, words, cells: cells.to_vec(), free: model::left_free(number, rows, states), out }
+    model::Expected { number, words, cells: cells.to_vec(), free: model::left_free(number, model::few_rows(rows, states)), out }
 }
 
 /// What a scenarios call is lent: a text, a horizon, a list, and how many cells and bytes of output.
 type Lent<'a> = (&'a [u8], u64, &'a [u64], usize, usize);
 
 /// Compares one scenarios call, and gives back what is expected of it.
-fn listed(tally: &mut Tally, rng: &mut Random, call: &Call, (t, h, list, cells, out): Lent) -> model::Expected {
+fn listed(tally: &mut Tally, rng: &mut Random, call: &Scenarios, (t, h, list, cells, out): Lent) -> model::Expected {
     let (t, list, was, out_was) = (bytes(t, rng), words(list, rng), noise_words(cells, rng), noise_bytes(out, rng));
     let (t0, list0, mut now, mut out_now) = (t.clone(), list.clone(), was.clone(), out_was.clone());
     let told = (call.library)(t.lent(), h, list.lent(), now.lend(), out_now.lend());
@@ -750,6 +791,84 @@ fn worked_small(tally: &mut Tally, rng: &mut Random) {
     assert_eq!(want.out, [1, 0, 1, 0, 1, 0, 0, 1, 0]);
 }
 
+/// Worked examples of the forward count: its own need, also where that is more than all rows; 7 before 8, 8 before 9 and 10. Numbers that were full and are
+/// gone at a longer horizon, where runs stop, wholly or but for a few; and numbers that are full only once all states are added.
+fn worked_forward(tally: &mut Tally, rng: &mut Random) {
+    use texts::{A, A_FROM_1, B, B_STOPS, EITHER, F, LAST, ONE};
+    let two = "rig\t1\nmon\t32\nmon\t32\n".to_string();
+    let [two_ways, eight_ways] = [2, 8].map(|ways| chain(5, 14, ways, End::Stops));
+    let (full, dead, aside) = (chain(13, 5, 2, End::Stops), chain(5, 14, 2, End::Dead), chain(5, 14, 2, End::Aside));
+    // the state is the latest event: half of all sequences end in each
+    let halves = b"rig\t2\nmon\t2\ngo\t0\t0\t0\ngo\t0\t1\t1\ngo\t1\t0\t0\ngo\t1\t1\t1\n";
+    for (t, h, cells, number, words) in [
+        (A.as_bytes(), 3, 4, 0, [5, 1]),
+        (A.as_bytes(), 3, 3, 8, [0, 0]),
+        (A.as_bytes(), 3, 8, 0, [5, 1]),
+        (A.as_bytes(), 0, 4, 0, [1, 1]),
+        (A.as_bytes(), 0, 3, 8, [0, 0]),
+        (A.as_bytes(), 0, 2, 8, [0, 0]),
+        (A.as_bytes(), 1, 4, 0, [2, 1]),
+        (A.as_bytes(), 91, 4, 0, [12_200_160_415_121_876_738, 1]),
+        (A.as_bytes(), 92, 4, 10, [0, 0]),
+        (A.as_bytes(), 1000, 4, 10, [0, 0]),
+        (A.as_bytes(), 1000, 3, 8, [0, 0]),
+        (A.as_bytes(), 1001, 4, 7, [0, 0]),
+        (A.as_bytes(), 1001, 0, 7, [0, 0]),
+        (A.as_bytes(), u64::MAX, 4, 7, [0, 0]),
+        (A_FROM_1.as_bytes(), 3, 4, 0, [3, 1]),
+        (B.as_bytes(), 1, 8, 0, [1, 3]),
+        (B.as_bytes(), 1, 7, 8, [0, 0]),
+        (B.as_bytes(), 1000, 8, 0, [1, 3]),
+        (B_STOPS.as_bytes(), 2, 8, 0, [2, 1]),
+        (EITHER.as_bytes(), 1, 8, 0, [2, 2]),
+        (EITHER.as_bytes(), 2, 8, 0, [1, 2]),
+        (EITHER.as_bytes(), 1000, 8, 0, [1, 2]),
+        (F.as_bytes(), 63, 2, 0, [1 << 63, 1]),
+        (F.as_bytes(), 64, 2, 10, [0, 0]),
+        (F.as_bytes(), 64, 1, 8, [0, 0]),
+        (F.as_bytes(), 1000, 2, 10, [0, 0]),
+        (ONE.as_bytes(), 1000, 2, 0, [1, 1]),
+        (ONE.as_bytes(), 1000, 1, 8, [0, 0]),
+        (ONE.as_bytes(), 1001, 2, 7, [0, 0]),
+        (LAST.as_bytes(), 0, 4, 0, [1, 1]),
+        (LAST.as_bytes(), 1, 4, 0, [1, 1]),
+        (LAST.as_bytes(), 2, 4, 9, [0, 0]),
+        (LAST.as_bytes(), 2, 3, 8, [0, 0]),
+        (LAST.as_bytes(), 1000, 4, 9, [0, 0]),
+        (b"rig\t1\nmon\t2\ngo\t1\t0\t1\n", 0, 4, 9, [0, 0]),
+        (two.as_bytes(), 0, 2048, 9, [0, 0]),
+        (two.as_bytes(), 1000, 2048, 9, [0, 0]),
+        (two.as_bytes(), 1000, 2047, 8, [0, 0]),
+        (&(two.clone() + "mon\t2\n").into_bytes(), 1001, 0, 6, [4, 0]),
+        (&[10; 65_536], 1001, 0, 1, [0, 0]),
+        (&two_ways, 63, 140, 0, [1 << 63, 1]),
+        (&two_ways, 64, 140, 10, [0, 0]),
+        (&two_ways, 69, 140, 10, [0, 0]),
+        (&two_ways, 70, 140, 9, [0, 0]),
+        (&two_ways, 1000, 140, 9, [0, 0]),
+        (&eight_ways, 21, 140, 0, [1 << 63, 1]),
+        (&eight_ways, 69, 140, 10, [0, 0]),
+        (&eight_ways, 70, 140, 9, [0, 0]),
+        (&full, 63, 130, 0, [1 << 63, 1]),
+        (&full, 64, 130, 10, [0, 0]),
+        (&full, 65, 130, 9, [0, 0]),
+        (&dead, 0, 140, 9, [0, 0]),
+        (&dead, 69, 140, 9, [0, 0]),
+        (&aside, 13, 168, 0, [(1 << 14) - 1, 1]),
+        (&aside, 63, 168, 0, [(1 << 63) + (1 << 14) - 1, 1]),
+        (&aside, 64, 168, 10, [0, 0]),
+        (&aside, 69, 168, 10, [0, 0]),
+        (&aside, 70, 168, 0, [(1 << 14) - 1, 1]),
+        (&aside, 1000, 168, 0, [(1 << 14) - 1, 1]),
+        (halves, 63, 4, 0, [1 << 63, 1]),
+        (halves, 64, 4, 10, [0, 0]),
+        (halves, 65, 4, 10, [0, 0]),
+    ] {
+        let want = count_forward(tally, rng, t, h, cells);
+        assert_eq!((want.number, want.words), (number, words), "the independent forward count of a worked example: h {h}, {}", shown(t));
+    }
+}
+
 /// A length at, below or above what is needed.
 fn about(rng: &mut Random, need: usize) -> usize {
     match rng.below(12) {
@@ -854,11 +973,11 @@ fn refused(tally: &mut Tally, t: &[u8], number: u64, place: u64) {
     }
 }
 
-/// The four calls on one text, readable or not.
+/// The calls on one text, readable or not.
 fn calls_on(tally: &mut Tally, rng: &mut Random, t: &[u8]) {
     let h = horizon(rng);
     let rig = model::read(t);
-    let states = rig.as_ref().map_or(3, |r| r.joint_states());
+    let states = states(&rig);
     let events = rig.as_ref().map_or(2, |r| r.events as u64);
     let [need, small] = [model::all_rows, model::few_rows].map(|need| need(h.min(1000) as usize, states));
     let cells = about(rng, need);
@@ -953,7 +1072,7 @@ fn by_sentences(tally: &mut Tally, rng: &mut Random, rules: &[Rule], order: &[us
     }
 }
 
-/// Demand 3: count, order, scenarios, indices and full shuffles against every sequence of some length. Gives back whether any belongs.
+/// Demand 3: both counts, order, scenarios, indices and full shuffles against every sequence of some length. Gives back whether any belongs.
 fn held(tally: &mut Tally, rng: &mut Random, names: [&'static str; 4], t: &[u8], passes: u64, all: &[Judged]) -> bool {
     let states = model::read(t).expect("a readable text").joint_states();
     let h = all[0].0.len();
@@ -964,7 +1083,10 @@ fn held(tally: &mut Tally, rng: &mut Random, names: [&'static str; 4], t: &[u8],
     let mut cells = vec![7u64; (h + 1) * states];
     let number = if n == 0 { 9 } else { 0 };
     let words = if n == 0 { [0, 0] } else { [n, passes] };
-    tally.note(names[0], number, told_differs(calls::count(t, h as u64, &mut cells), number, words), input);
+    let forward = calls::count_forward(t, h as u64, &mut vec![7; model::two_rows(h, states)]);
+    for told in [calls::count(t, h as u64, &mut cells), forward] {
+        tally.note(names[0], number, told_differs(told, number, words), input);
+    }
     let mut list: Vec<u64> = (0..n).collect();
     list.extend((0..n.min(5)).map(|_| rng.below(n)));
     let mut out = vec![0xEEu8; list.len() * h + 3];
@@ -1365,24 +1487,34 @@ fn shuffles(tally: &mut Tally, rng: &mut Random, rounds: u64) {
     }
 }
 
-/// Rigs whose N is just below, at and above the limit of refusal 10: sixteen events a step, but the very last step along the last events
-/// has only `last`, so N at h 16 is 16^16 − 16 + last.
-fn limits(tally: &mut Tally, rng: &mut Random) {
-    for last in [13u64, 14, 15, 16] {
-        let mut t = "rig\t16\nmon\t17\n".to_string();
-        for e in 0..16 {
-            t += &format!("go\t16\t{e}\t16\n");
-            for s in 0..16 {
-                if s < 15 || e < last {
-                    t += &format!("go\t{s}\t{e}\t{}\n", if e == 15 && s < 15 { s + 1 } else { 16 });
-                }
+/// A rig whose N at h 16 is 16^16 − 16 + last: sixteen events a step, but the very last step along the last events has only `last`.
+fn at_limit(last: u64) -> String {
+    let mut t = "rig\t16\nmon\t17\n".to_string();
+    for e in 0..16 {
+        t += &format!("go\t16\t{e}\t16\n");
+        for s in 0..16 {
+            if s < 15 || e < last {
+                t += &format!("go\t{s}\t{e}\t{}\n", if e == 15 && s < 15 { s + 1 } else { 16 });
             }
         }
+    }
+    t
+}
+
+/// Rigs whose N is just below, at and above the limit of refusal 10. All their scenarios end in one state; with a monitor whose state is the latest event,
+/// about as many end in each of sixteen.
+fn limits(tally: &mut Tally, rng: &mut Random) {
+    let latest: String = (0..16).flat_map(|s| (0..16).map(move |e| format!("go\t{s}\t{e}\t{e}\n"))).collect();
+    for last in [13u64, 14, 15, 16] {
+        let t = at_limit(last);
         let t = t.as_bytes();
         let want = count(tally, rng, t, 16, 17 * 17);
         let n = (1u128 << 64) - 16 + last as u128;
         let (number, word) = if n < u64::MAX as u128 { (0, n as u64) } else { (10, 0) };
         assert_eq!((want.number, want.words[0]), (number, word), "the independent count at the limit");
+        let scattered = [t, b"mon\t16\n", latest.as_bytes()].concat();
+        let want = count(tally, &mut rng.clone(), &scattered, 16, 17 * 17 * 16);
+        assert_eq!((want.number, want.words[0]), (number, word), "the independent count at the limit, in sixteen states");
         for i in [0, 1 << 63, u64::MAX - 4, u64::MAX - 3, u64::MAX - 2, u64::MAX - 1, u64::MAX] {
             let want = scenarios(tally, rng, t, 16, &[i, 5], 17 * 17, 32);
             scenarios_small(tally, rng, t, 16, &[i, 5], 17 * 17, 32);
@@ -1552,6 +1684,37 @@ fn beside(tally: &mut Tally, rng: &mut Random) {
     }
 }
 
+/// The forward count beside the other one, at every horizon up to 75 and at 1,000: the same numbers, N and passes, in just the cells needed or some more. And
+/// by the independent implementation at some of these, with too few cells, and at horizons that are refused.
+fn beside_count(tally: &mut Tally, rng: &mut Random) {
+    let mut rigs = any_rigs(rng);
+    for (first, second, ways) in [(5, 14, 2), (2, 32, 2), (13, 5, 2), (3, 23, 1), (3, 23, 3), (7, 10, 7), (31, 2, 4)] {
+        rigs.extend([End::Dead, End::Stops, End::Aside].map(|end| chain(first, second, ways, end)));
+    }
+    rigs.extend((0..400).map(|_| upward(rng)));
+    for t in rigs {
+        let states = states(&model::read(&t));
+        let mut full = false;
+        for h in (0..=75).chain([1000]) {
+            let need = model::two_rows(h, states);
+            let more = need + *rng.pick(&[1, states, 40 * states]);
+            let told = counted(tally, rng, &BESIDE_COUNT, (&t, h as u64, need, any_words)).number;
+            counted(tally, rng, &BESIDE_COUNT, (&t, h as u64, more, any_words));
+            count_forward(tally, rng, &t, h as u64, need - 1);
+            if h == 1000 || rng.chance(1, 20) {
+                count_forward(tally, rng, &t, h as u64, need);
+            }
+            full |= told == 10;
+            tally.fewer += (full && told == 0) as u64;
+            tally.gone += (full && told == 9) as u64;
+        }
+        for h in [1001, 1 << 16, 1 << 32, u64::MAX] {
+            let cells = rng.below(4 * states as u64) as usize;
+            count_forward(tally, rng, &t, h, cells);
+        }
+    }
+}
+
 /// Compares one line of a listing, written to an output of `room` bytes.
 fn line(tally: &mut Tally, rng: &mut Random, index: u64, events: &[u8], room: usize) {
     let (events, was) = (bytes(events, rng), noise_bytes(room, rng));
@@ -1660,8 +1823,12 @@ fn main() {
     worked_small(&mut tally, rng);
     beside(&mut tally, rng);
     lines(&mut tally, rng);
+    worked_forward(&mut tally, rng);
+    beside_count(&mut tally, rng);
     for (call, numbers) in [
         ("count", &[0u64, 1, 2, 3, 4, 5, 6, 7, 8, 9, 10, 16, 17, 18][..]),
+        ("count_forward", &[0, 1, 2, 3, 4, 5, 6, 7, 8, 9, 10, 16, 17, 18]),
+        ("beside count", &[0, 9, 10]),
         ("scenarios", &[0, 1, 2, 3, 4, 5, 6, 7, 8, 9, 10, 11, 12, 16, 17, 18]),
         ("scenarios_small", &[0, 1, 2, 3, 4, 5, 6, 7, 8, 9, 10, 11, 12, 16, 17, 18]),
         ("beside all rows", &[0, 9, 10, 11, 12]),
@@ -1734,6 +1901,8 @@ fn main() {
     assert!(tally.ending > 300, "few rigs are served at one horizon and have no scenario of the next");
     assert!(tally.late > 500, "few sequences are refused at an event before which no scenario goes on already");
     assert!(tally.short > 1_000, "few lines have too short an output");
+    assert!(tally.fewer > 300, "few horizons have fewer scenarios, where a shorter one has too many: {}", tally.fewer);
+    assert!(tally.gone > 1_000, "few horizons have no scenario, where a shorter one has too many: {}", tally.gone);
     for ((call, number), (times, wrong)) in &tally.answers {
         let answer = if *number == 0 { "served".into() } else { format!("refusal {number}") };
         println!("{call:20} {answer:12} {times:8} {wrong:8}");
@@ -1753,6 +1922,7 @@ fn main() {
     println!("texts refused 5, by the line's word and the latest monitor's: {:?}", tally.others);
     println!("texts refused for a `bal`, `amp`, `day` or `open` line, by its cause: {:?}", tally.causes);
     println!("{} of the lines have too short an output", tally.short);
+    println!("{} horizons have fewer scenarios and {} none, where a shorter one has too many", tally.fewer, tally.gone);
     println!("{} comparisons, {} differences", tally.comparisons, tally.differences);
     if tally.differences > 0 {
         std::process::exit(1);

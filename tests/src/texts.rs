@@ -130,6 +130,62 @@ pub fn slow_growth(levels: u64, others: &[u64]) -> Vec<u8> {
     t.into_bytes()
 }
 
+/// How the last state of a chain is.
+#[derive(Clone, Copy, PartialEq, Eq)]
+pub enum End {
+    /// No state is live.
+    Dead,
+    /// It is stoppable, and so every state is live.
+    Stops,
+    /// The same; and an event that leads aside from each of the first states, where that event goes on for ever.
+    Aside,
+}
+
+/// `first` × `second` joint states in a row, each led to by the one before with so many events: some count the second monitor up, the others carry.
+pub fn chain(first: u64, second: u64, ways: u64, end: End) -> Vec<u8> {
+    let (ups, carries, aside) = (0..ways, ways..2 * ways, 2 * ways);
+    let (stops, leads_aside) = (end != End::Dead, end == End::Aside);
+    let mut t = format!("rig\t{}\nmon\t{}\n", 2 * ways + leads_aside as u64, first + leads_aside as u64);
+    for s in 0..first {
+        t.extend(ups.clone().map(|e| format!("go\t{s}\t{e}\t{s}\n")));
+        if s + 1 < first {
+            t.extend(carries.clone().map(|e| format!("go\t{s}\t{e}\t{}\n", s + 1)));
+        }
+    }
+    if leads_aside {
+        t += &format!("go\t0\t{aside}\t{first}\ngo\t{first}\t{aside}\t{first}\n");
+    }
+    if stops {
+        t += &format!("stop\t{}\n", first - 1);
+    }
+    t += &format!("mon\t{second}\n");
+    for s in 0..second - 1 {
+        t.extend(ups.clone().map(|e| format!("go\t{s}\t{e}\t{}\n", s + 1)));
+    }
+    t.extend(carries.map(|e| format!("go\t{}\t{e}\t0\n", second - 1)));
+    if leads_aside {
+        t.extend((0..second).map(|s| format!("go\t{s}\t{aside}\t{s}\n")));
+    }
+    if stops {
+        t += &format!("stop\t{}\n", second - 1);
+    }
+    t.into_bytes()
+}
+
+/// A rig of 16 events that moves to higher states of its first monitor only, mostly past the next: all its runs stop. So there are more and more
+/// scenarios of longer horizons, often too many, then fewer and at last none. A second monitor may end them earlier.
+pub fn upward(rng: &mut Random) -> Vec<u8> {
+    let (states, next, marks) = (rng.from_to(28, 32), *rng.pick(&[2, 3, 3, 4, 5]), *rng.pick(&[0, 0, 20]));
+    let mut t = format!("rig\t16\nmon\t{states}\n");
+    for (s, e) in (0..states - 1).flat_map(|s| (0..16).map(move |e| (s, e))) {
+        let up = if rng.chance(next, 16) { 1 } else { rng.from_to(2, 3) };
+        t += &format!("go\t{s}\t{e}\t{}\n", (s + up).min(states - 1));
+    }
+    t.extend((0..states).filter(|&s| s == states - 1 || rng.chance(marks, 100)).map(|s| format!("stop\t{s}\n")));
+    let shape = Shape { events: 16, monitors: vec![rng.from_to(1, 6)], density: *rng.pick(&[85, 100]), marks: 100, rules: 0 };
+    [t.into_bytes(), monitors(&shape, rng)].concat()
+}
+
 /// The second field of a line, or 2 where that is no number.
 fn first_number(line: &[u8]) -> u64 {
     String::from_utf8_lossy(line).trim_end().split('\t').nth(1).and_then(|n| n.parse().ok()).unwrap_or(2)
