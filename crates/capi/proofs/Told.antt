@@ -10,6 +10,7 @@ use Rattle.promises.specs.Generator.{generator}
 use Rattle.promises.specs.Shapes.{Shaped}
 use Rattle.promises.proofs.Shapes.{shapes}
 use Rattle.promises.proofs.Small.{small-owed}
+use Rattle.promises.proofs.Forward.{forward-owed}
 use Rattle.capi.specs.Words.{numberOf}
 use Rattle.capi.specs.Told.{CountTold, IndexTold, PlaceTold, Told}
 
@@ -43,6 +44,7 @@ pub told : Told
 unfolding generator
 told = record {
   of-count = λ t h cells. count-told _ (shapes .of-count t h cells);
+  of-forward = λ t h cells. count-told _ (forward-owed t h cells .shaped);
   of-scenarios = λ t h is cells out. place-told _ (shapes .of-scenarios t h is cells out);
   of-small = λ t h is cells out. place-told _ (small-owed t h is cells out .shaped);
   of-index = λ t s cells. index-told _ (shapes .of-index t s cells);

@@ -1,5 +1,5 @@
 -- What a C caller reads in the numbers that it is told, by the words of include/wandukhai.h, and that it reads the call's answer.
---   readCount n ws   == the answer of Count that was told by the number n and the words ws
+--   readCount n ws   == the answer of Count, from either end, that was told by the number n and the words ws
 --   readIndex n w    == the answer of Index that was told by the number n and the word w
 --   readPlace n w    == the answer of Scenarios, on either bench, or Shuffle that was told by the number n and the place w
 --   Told             == 0 is returned exactly where a call is served, and what is told is the answer
@@ -12,6 +12,7 @@ use lib.ListN.{length, getD}
 use Rattle.promises.specs.Answer.{Answer, served, refused, Served, Refuses}
 use Rattle.promises.specs.Calls.{count, scenarios, index, shuffle}
 use Rattle.promises.specs.Small.{small}
+use Rattle.promises.specs.Forward.{forward}
 use Rattle.capi.specs.Words.{numberOf, wordsOf, wordOf}
 
 -- 'Returned: 0 where the call is served, else the number of refusal, with a place'
@@ -47,6 +48,7 @@ pub record PlaceTold (a : Answer) : Type 0 where
 
 pub record Told : Type 0 where
   pub of-count : (t : List ℕ) (h : ℕ) (cells : List ℕ) → CountTold (count t h cells)
+  pub of-forward : (t : List ℕ) (h : ℕ) (cells : List ℕ) → CountTold (forward t h cells)
   pub of-scenarios : (t : List ℕ) (h : ℕ) (is cells out : List ℕ) → PlaceTold (scenarios t h is cells out)
   pub of-small : (t : List ℕ) (h : ℕ) (is cells out : List ℕ) → PlaceTold (small t h is cells out)
   pub of-index : (t s cells : List ℕ) → IndexTold (index t s cells)

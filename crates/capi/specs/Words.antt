@@ -1,6 +1,6 @@
 -- An answer of a call as the numbers that a C function tells: what it returns, and what it writes beside.
 --   numberOf a  == what is returned: 0 where served, else the number of refusal
---   wordsOf a   == Count's two words: the values told (N, the passes), or the place and 0
+--   wordsOf a   == the two words of Count, from either end: the values told (N, the passes), or the place and 0
 --   wordOf a    == the one word of the others: the value told (the index; 0 where none is told), or the place
 -- Assumes nothing.
 use mathlib.Core.List.{List, [], _∷_}

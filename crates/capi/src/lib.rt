@@ -7,7 +7,8 @@ ghost use mathlib.Core.Path.{_≡_};
 ghost use Rattle.promises.specs.Calls.{ShuffleKeeps};
 ghost use Rattle.promises.specs.Calls as promised;
 ghost use Rattle.promises.specs.Small.{small, smallOutput, SmallKeeps};
-ghost use Rattle.generator.specs.Outcomes.{listAnswer};
+ghost use Rattle.promises.specs.Forward.{forward, ForwardKeeps};
+ghost use Rattle.generator.specs.Outcomes.{countAnswer, listAnswer};
 ghost use Rattle.capi.specs.Words.{numberOf, wordsOf, wordOf};
 
 // Count. The answer is N and the passes, or the place and 0.
@@ -23,6 +24,30 @@ pub extern "C" fn wandukhai_count(
     ensures { λ _. ⌜ now (cells .exit) ≡ promised.countCells (now (text .entry)) h (now (cells .entry)) ⌝ }
 {
     let counted = generator::count(text, h, cells);
+    tell_counted(counted, answer)
+}
+
+// Count from the front. The answer is N and the passes, or the place and 0.
+#[no_mangle]
+pub extern "C" fn wandukhai_count_forward(
+    text: &[u8],
+    h: u64,
+    cells: &mut [u64],
+    answer: &mut [u64; 2],
+) -> u64
+    ensures { λ r. ⌜ r ≡ numberOf (forward (now (text .entry)) h (now (cells .entry))) ⌝ }
+    ensures { λ _. ⌜ now (answer .exit) ≡ wordsOf (forward (now (text .entry)) h (now (cells .entry))) ⌝ }
+    ensures { λ _. ⌜ ForwardKeeps (now (text .entry)) h (now (cells .entry)) (now (cells .exit)) ⌝ }
+{
+    let counted = forward::count_forward(text, h, cells);
+    tell_counted(counted, answer)
+}
+
+// Tells the answer of a call that counts: its number, and N and the passes, or the place and 0.
+fn tell_counted(counted: Counted, answer: &mut [u64; 2]) -> u64
+    ensures { λ r. ⌜ r ≡ numberOf (countAnswer counted) ⌝ }
+    ensures { λ _. ⌜ now (answer .exit) ≡ wordsOf (countAnswer counted) ⌝ }
+{
     match counted {
         Counted::Served(n, passes) => {
             *answer = [n, passes];
