@@ -68,7 +68,7 @@ module _ (A : Automaton) (p : ℕ) (t : List ℕ) (tabled : Tabled A p t) (few :
   -- one turn in the code's own values: v is the entry read in column c, n the count that it leads to
   module _ (c v : ℕ) (hc : c < 16) (read : v ≡ getD t (x * 16 + c) 0) (entered : v ≡ 65535 → ⊥) where
     pub is-entry : EntryAt A x c v
-    is-entry = subst (EntryAt A x c) (sym read) (tabled-some A p t tabled few x c hx hc (λ e. entered (read ∙ e)))
+    is-entry = tabled-some A p t tabled few x c hx hc v read entered
 
     pub entry-below : v % 1024 < p
     entry-below = entry-state A p t tabled x c v is-entry
