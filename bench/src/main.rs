@@ -14,36 +14,42 @@ fn timed(f: &mut dyn FnMut()) -> f64 {
     start.elapsed().as_secs_f64() * 1e3
 }
 
-/// Prints the best times in milliseconds, and the ratios of the first to the others: of ours, plain Rust, plain C and C over our rows, or of two calls of
-/// ours and plain C.
-fn row(name: &str, rounds: usize, runs: &mut [&mut dyn FnMut()]) {
+/// The best time of each in milliseconds.
+fn best(rounds: usize, runs: &mut [&mut dyn FnMut()]) -> Vec<f64> {
     let mut best = vec![f64::MAX; runs.len()];
     for _ in 0..rounds {
         for (b, run) in best.iter_mut().zip(runs.iter_mut()) {
             *b = b.min(timed(run));
         }
     }
+    best
+}
+
+/// Prints the best times in milliseconds, and the ratios of the first to the others: of ours, plain Rust, plain C and C over our rows, or of two calls of
+/// ours and plain C.
+fn row(name: &str, rounds: usize, runs: &mut [&mut dyn FnMut()]) {
+    let best = best(rounds, runs);
     let times: String = best.iter().map(|b| format!(" {b:10.3}")).collect();
     let ratios: String = best[1..].iter().map(|b| format!(" {:7.2}", best[0] / b)).collect();
     println!("{name:62}{times:44}{ratios}");
 }
 
-/// A monitor of so many states whose first ones have a move on each of 16 events, to the states that `to` gives.
-fn mon(states: u64, moving: u64, mut to: impl FnMut(u64) -> u64) -> String {
-    let moves = (0..moving).flat_map(|x| (0..16).map(move |e| (x, e)));
+/// A monitor of so many states whose first ones have a move on each event, to the states that `to` gives.
+fn mon(events: u64, states: u64, moving: u64, mut to: impl FnMut(u64) -> u64) -> String {
+    let moves = (0..moving).flat_map(|x| (0..events).map(move |e| (x, e)));
     format!("mon\t{states}\n{}", moves.map(|(x, e)| format!("go\t{x}\t{e}\t{}\n", to(e))).collect::<String>())
 }
 
 /// Every monitor has every move, to random states.
-fn full_rig(monitors: &[u64], rng: &mut Random) -> Vec<u8> {
-    let lines: String = monitors.iter().map(|&s| mon(s, s, |_| rng.below(s))).collect();
-    format!("rig\t16\n{lines}").into_bytes()
+fn full_rig(events: u64, monitors: &[u64], rng: &mut Random) -> Vec<u8> {
+    let lines: String = monitors.iter().map(|&s| mon(events, s, s, |_| rng.below(s))).collect();
+    format!("rig\t{events}\n{lines}").into_bytes()
 }
 
 /// Two monitors of 32 states with every move, to random states; but in the first `last` leads to a state in which runs stop: it has no move.
 fn stopping_rig(last: u64, rng: &mut Random) -> Vec<u8> {
-    let first = mon(32, 31, |e| if e == last { 31 } else { rng.below(31) });
-    let second = mon(32, 32, |_| rng.below(32));
+    let first = mon(16, 32, 31, |e| if e == last { 31 } else { rng.below(31) });
+    let second = mon(16, 32, 32, |_| rng.below(32));
     let marks: String = (0..32).map(|s| format!("stop\t{s}\n")).collect();
     format!("rig\t16\n{first}stop\t31\n{second}{marks}").into_bytes()
 }
@@ -155,6 +161,28 @@ fn forwards(cases: &[Case], rng: &mut Random) {
     let slow = slow_growth(6, &[32]);
     forward("sparse: 1 or 2 ways, P 192, no full cell, h 1,000", 50, &slow, 1000);
     forward("sparse: 1 or 2 ways, P 192, no full cell, h 30", 200, &slow, 30);
+}
+
+/// What the forward count takes of Count's time by the horizon, for rigs with every move.
+fn horizons(rng: &mut Random) {
+    let horizons = [5, 15, 30, 60, 100, 300, 1000];
+    println!("\n{:62}{}", "count from the front / count, P 1,024, by the horizon", horizons.map(|h| format!(" {h:>7}")).concat());
+    for ways in [2, 4, 8, 16] {
+        let t = full_rig(ways, &[32, 32], rng);
+        let ratios = horizons.map(|h| {
+            let [mut two, mut all] = [model::two_rows, model::all_rows].map(|need| vec![0; need(h, 1024)]);
+            let [mut a, mut b] = [None; 2];
+            let times = best(
+                20,
+                &mut [&mut || a = Some(calls::count_forward(&t, h as u64, &mut two)), &mut || {
+                    b = Some(calls::count(&t, h as u64, &mut all))
+                }],
+            );
+            assert!(a == b);
+            format!(" {:7.2}", times[0] / times[1])
+        });
+        println!("{:62}{}", format!("{ways} ways a state"), ratios.concat());
+    }
 }
 
 /// The small scenarios call beside the one that keeps all rows.
@@ -307,7 +335,7 @@ fn main() {
         "{:62} {:>10} {:>10} {:>10} {:>10} {:>7} {:>7} {:>7}",
         "", "ours ms", "Rust ms", "C ms", "C rows ms", "/ Rust", "/ C", "/ rows"
     );
-    let [two, four] = [&[32, 32][..], &[8, 4, 8, 4]].map(|monitors| full_rig(monitors, rng));
+    let [two, four] = [&[32, 32][..], &[8, 4, 8, 4]].map(|monitors| full_rig(16, monitors, rng));
     let (one_way, two_ways, path) = (slow_growth(1, &[32, 32]), slow_growth(4, &[32, 8]), chain(32, 32, 1, End::Dead));
     let whole = format!("a text of {} bytes with every move of S 32, 32, h 0", two.len());
     let cases: [Case; 7] = [
@@ -340,6 +368,7 @@ fn main() {
     );
     shuffle("shuffle, 10^5 equal draws, against a map", most, vec![most - 1; 100_000], false);
     forwards(&cases, rng);
+    horizons(rng);
     smalls(rng);
     readings();
     growths();
