@@ -41,7 +41,7 @@ count-walks-requires c κs =
     let z = st .pre in
     let few = states-few (st .args .rig) (z .well-formed) in
     let t = tabled (st .args .rig) (st .args .states) (p .last .1 .1 .0) _ (z .well-formed) (z .joint) (p .ensures .1 .1) in
-    (z .start-below, omega (arith, z .enough), omega (arith, z .joint, p .kept .1 .1 .0, length-replicate {A = ℕ} 16384 0), omega (arith, z .joint, p .kept .1 .0, length-replicate {A = ℕ} 1024 0), tabled-bounded (recordAutomaton (st .args .rig)) (st .args .states) (p .last .1 .1 .0) t (omega (arith, z .joint)))
+    (z .start-below, z .horizon, omega (arith, z .enough), omega (arith, z .joint, p .kept .1 .1 .0, length-replicate {A = ℕ} 16384 0), omega (arith, z .joint, p .kept .1 .0, length-replicate {A = ℕ} 1024 0), tabled-bounded (recordAutomaton (st .args .rig)) (st .args .states) (p .last .1 .1 .0) t (omega (arith, z .joint)))
 
 check-count-requires : tie.Need-check-count-requires
 check-count-requires c κs = search needs
