@@ -10,8 +10,9 @@ use Prim.Native.Nat.{ℕ, zero, suc, _+_, _-_, _≤_, _<_}
 use native.Mathlib.Omega.{arith}
 use lib.Dec.{ltb, leb}
 use borrow.Author.Tests.{ltb-true, lt-ltb, leb-true, le-leb, lt-leb, ne-eqb, eq-eqb}
-use Rattle.lists.specs.Lists.{pick, any, sum, Pairwise, more}
+use Rattle.lists.specs.Lists.{pick, any, Pairwise, more}
 use Rattle.lists.proofs.Tests.{case, or-right, and-intro, bool-ext}
+use Rattle.lists.proofs.Sums.{sum-same}
 use Rattle.lists.proofs.Members.{any-in}
 use Rattle.automaton.specs.Automaton.{Automaton}
 use Rattle.automaton.specs.Pruning.{prunedSet, keep, live}
@@ -109,7 +110,7 @@ module _ (A : Automaton) where
     pub ext-is : (k x : ℕ) → live A x ≡ true → ext A Φ x k ≡ N A k x
     unfolding ext N
     ext-is zero x p = rw p
-    ext-is (suc k) x p = rw p (ap (λ c. sum c events) (fun-ext (λ u. ext-step k (ext-is k) x u)))
+    ext-is (suc k) x p = rw p (sum-same _ _ events (λ u. ext-step k (ext-is k) x u))
 
     counts : (k x : ℕ) → _≡_ {A = ℕ → ℕ} (λ v. orZero (λ y. ext A Φ y k) (fgen A Φ x v)) (λ v. N A k (next x v))
     counts k x = fun-ext (λ v. ext-step k (ext-is k) x v)

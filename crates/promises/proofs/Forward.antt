@@ -30,7 +30,7 @@ forward-owed t h cells = record {
   text = unfold forward in sizedFor-text t forwardRows h cells _;
   seven = unfold forward in sizedFor-7 t forwardRows h cells _;
   eight = unfold forward in sizedFor-8 t forwardRows h cells _;
-  as-count = λ c enough c8. unfold forward count Case8 in sizedFor-alike t forwardRows (h + 1) h cells enough (totalRows t h) c c8;
   cells-left = λ left. cells-free (forwardRows * jointStates t) (9 ∷ 10 ∷ []) (11 ∷ 14 ∷ []) (forward t h cells) cells left refl (forward-avoids t h cells);
+  as-count = λ c enough c8. unfold forward count Case8 in sizedFor-alike t forwardRows (h + 1) h cells enough (totalRows t h) c c8;
   shaped = unfold forward in total-shaped t forwardRows h cells;
 }

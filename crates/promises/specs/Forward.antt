@@ -44,9 +44,9 @@ pub record ForwardOwed (t : List ℕ) (h : ℕ) (cells : List ℕ) : Type 0 wher
   pub text : (n p : ℕ) → Fault t n p → forward t h cells ≡ refused n p
   pub seven : Readable t → Case7 h → forward t h cells ≡ refused 7 0
   pub eight : Readable t → (Case7 h → ⊥) → Case8·forward t cells → forward t h cells ≡ refused 8 0
-  -- 'Apart from 8 it gives N, passes and refusals as Count does with cells enough.'
-  pub as-count : (Case8·forward t cells → ⊥) → (enough : List ℕ) → (Case8 t h enough → ⊥) → forward t h cells ≡ count t h enough
   -- 'they are left free when served and after 9 and 10, untouched after others; further cells keep theirs.'
   pub cells-left : (left : List ℕ) → ForwardKeeps t h cells left ↔ CellsFree (2 * jointStates t) (9 ∷ 10 ∷ []) (forward t h cells) cells left
+  -- 'Apart from 8 it gives N, passes and refusals as Count does with cells enough.'
+  pub as-count : (Case8·forward t cells → ⊥) → (enough : List ℕ) → (Case8 t h enough → ⊥) → forward t h cells ≡ count t h enough
   -- 'it gives N, passes': two values are told, and 0 is no number of refusal
   pub shaped : Shaped 2 (forward t h cells)
