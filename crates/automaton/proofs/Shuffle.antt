@@ -1,16 +1,18 @@
--- The shuffle: valid draws put out different numbers below n, and as many as n every one of them; source document 001's rndPermPrefix puts
--- out the same. Why: a swap is a permutation of the places from i on, and the number put out never comes back. Assumes nothing.
+-- The shuffle: valid draws put out different numbers below n, and any such numbers are what exactly one list of valid draws puts out; source
+-- document 001's rndPermPrefix puts out the same. Why: a swap is a permutation of the places from i on, and the number put out never comes
+-- back; a draw is the place of the number it puts out, and the numbers still to come stand at later places after the swap. Assumes nothing.
 use mathlib.Core.Path.{_≡_, refl, sym, ap, ap₂, _∙_, fun-ext}
 use mathlib.Core.Logic.{_≢_}
-use mathlib.Core.List.{List, [], _∷_, List·Memᴰ as In, List·Memᴰ·head as here, List·Memᴰ·tail as there, Memᴰ·cast as in-cast}
-use Prim.Native.Nat.{ℕ, suc, _+_, _≤_, _<_}
+use mathlib.Core.List.{List, [], _∷_, List·Memᴰ as In, List·Memᴰ·head as here, List·Memᴰ·tail as there}
+use Prim.Native.Nat.{ℕ, suc, _≤_, _<_}
 use native.Mathlib.Omega.{arith}
 use native.Mathlib.Decide.{ℕ-discrete}
 use lib.ListN.{length}
 use lib.Dec.{eqb}
 use borrow.Author.Tests.{eqb-true, eq-eqb, ne-eqb}
-use Rattle.lists.specs.Lists.{Pairwise, none, more}
+use Rattle.lists.specs.Lists.{Pairwise, none, more, Sample, Permutation}
 use Rattle.lists.proofs.Tests.{case}
+use Rattle.lists.proofs.Permutations.{full-permutation}
 use Rattle.automaton.specs.Shuffle.{swap, shuffleFrom, shuffle, Valid}
 use Rattle.automaton.specs.Source001.{look, rndPermPrefixFrom, rndPermPrefix}
 
@@ -57,44 +59,82 @@ swap-injective f i j h a b q =
     let e : turn i j a ≡ turn i j b = h (turn i j a) (turn i j b) (sym (swap-is f i j a) ∙ q ∙ swap-is f i j b) in
     sym (turn-turn i j a) ∙ ap (turn i j) e ∙ turn-turn i j b
 
--- what is put out from place i on stood at a place from i to n - 1
-out-from : (n i : ℕ) (f : ℕ → ℕ) (ds : List ℕ) → Valid n i ds → (v : ℕ) → In v (shuffleFrom f i ds) → (k : ℕ) × (i ≤ k) × (k < n) × (v ≡ f k)
+-- ---- what valid draws put out
+
+-- v stands at a place from i to n - 1
+abbrev Stands : ℕ → ℕ → (ℕ → ℕ) → ℕ → Type 0
+Stands n i f v = (k : ℕ) × (i ≤ k) × (k < n) × (v ≡ f k)
+
+out-from : (n i : ℕ) (f : ℕ → ℕ) (ds : List ℕ) → Valid n i ds → (v : ℕ) → In v (shuffleFrom f i ds) → Stands n i f v
 unfolding shuffleFrom Valid
-out-from n i f (d ∷ ds) h v (here q) = (d, h .0, h .1, q ∙ swap-first f i d)
+out-from n i f (d ∷ ds) h v (here q) = (d, omega arith, omega arith, q ∙ swap-first f i d)
 out-from n i f (d ∷ ds) h v (there m) =
     let (k, a, b, q) = out-from n (suc i) (swap f i d) ds (h .2) v m in
     let r : (i ≤ turn i d k) × (turn i d k < n) = turn-cases (λ k m. i ≤ k → k < n → (i ≤ m) × (m < n)) i d k (omega arith) (omega arith) (λ p q a b. (a, b)) (omega arith) b in
     (turn i d k, r .0, r .1, q ∙ swap-is f i d k)
 
-distinct-from : (n i : ℕ) (f : ℕ → ℕ) (ds : List ℕ) → Injective f → Valid n i ds → Pairwise _≢_ (shuffleFrom f i ds)
+different-from : (n i : ℕ) (f : ℕ → ℕ) (ds : List ℕ) → Injective f → Valid n i ds → Pairwise _≢_ (shuffleFrom f i ds)
 unfolding shuffleFrom Valid Injective
-distinct-from n i f [] inj h = none
-distinct-from n i f (d ∷ ds) inj h = more (λ v m q. apart v (out-from n (suc i) (swap f i d) ds (h .2) v m) q) (distinct-from n (suc i) (swap f i d) ds (swap-injective f i d inj) (h .2))
+different-from n i f [] inj h = none
+different-from n i f (d ∷ ds) inj h = more (λ v m q. apart v (out-from n (suc i) (swap f i d) ds (h .2) v m) q) (different-from n (suc i) (swap f i d) ds (swap-injective f i d inj) (h .2))
   where
-    apart : (v : ℕ) → (k : ℕ) × (suc i ≤ k) × (k < n) × (v ≡ swap f i d k) → swap f i d i ≡ v → ⊥
+    apart : (v : ℕ) → Stands n (suc i) (swap f i d) v → swap f i d i ≡ v → ⊥
     apart v (k, a, b, q) p = let e : i ≡ k = swap-injective f i d inj i k (p ∙ q) in omega arith
 
-all-from : (n i : ℕ) (f : ℕ → ℕ) (ds : List ℕ) → Valid n i ds → i + length ds ≡ n → (k : ℕ) → i ≤ k → k < n → In (f k) (shuffleFrom f i ds)
-unfolding shuffleFrom Valid
-all-from n i f [] h l k a b = absurd (omega arith)
-all-from n i f (d ∷ ds) h l k a b = go (ℕ-discrete k d) (ℕ-discrete k i) (λ m c e. all-from n (suc i) (swap f i d) ds (h .2) (omega arith) m c e)
-  where
-    go : Dec (k ≡ d) → Dec (k ≡ i) → ((m : ℕ) → suc i ≤ m → m < n → In (swap f i d m) (shuffleFrom (swap f i d) (suc i) ds)) → In (f k) (swap f i d i ∷ shuffleFrom (swap f i d) (suc i) ds)
-    go (yes p) q ih = here (ap f p ∙ sym (swap-first f i d))
-    go (no p) (yes q) ih = there (in-cast (ap f q ∙ sym (swap-second f i d)) (ih d (omega arith) (h .1)))
-    go (no p) (no q) ih = there (in-cast (sym (swap-other f i d k q p)) (ih k (omega arith) b))
-
-pub shuffle-below : (n : ℕ) (ds : List ℕ) → Valid n 0 ds → (v : ℕ) → In v (shuffle ds) → v < n
-unfolding shuffle
-shuffle-below n ds h v m = let (k, a, b, q) = out-from n 0 (λ k. k) ds h v m in omega arith
-
-pub shuffle-distinct : (n : ℕ) (ds : List ℕ) → Valid n 0 ds → Pairwise _≢_ (shuffle ds)
+pub shuffle-sample : (n : ℕ) (ds : List ℕ) → Valid n 0 ds → Sample n (shuffle ds)
 unfolding shuffle Injective
-shuffle-distinct n ds h = distinct-from n 0 (λ k. k) ds (λ a b q. q) h
+shuffle-sample n ds h = record {
+  different = different-from n 0 (λ k. k) ds (λ a b q. q) h;
+  below = λ v m. let (k, a, b, q) = out-from n 0 (λ k. k) ds h v m in omega arith;
+}
 
-pub shuffle-all : (n : ℕ) (ds : List ℕ) → Valid n 0 ds → length ds ≡ n → (v : ℕ) → v < n → In v (shuffle ds)
+pub length-shuffleFrom : (f : ℕ → ℕ) (i : ℕ) (ds : List ℕ) → length (shuffleFrom f i ds) ≡ length ds
+unfolding shuffleFrom
+length-shuffleFrom f i [] = refl
+length-shuffleFrom f i (d ∷ ds) = ap suc (length-shuffleFrom (swap f i d) (suc i) ds)
+
+pub length-shuffle : (ds : List ℕ) → length (shuffle ds) ≡ length ds
 unfolding shuffle
-shuffle-all n ds h l v b = all-from n 0 (λ k. k) ds h (omega arith) v (omega arith) b
+length-shuffle ds = length-shuffleFrom (λ k. k) 0 ds
+
+pub shuffle-permutes : (n : ℕ) (ds : List ℕ) → Valid n 0 ds → length ds ≡ n → Permutation n (shuffle ds)
+shuffle-permutes n ds h l = full-permutation n (shuffle ds) (length-shuffle ds ∙ l) (shuffle-sample n ds h)
+
+-- ---- the draws that put out a sample
+
+-- after the swap every number but the one put out stands past i
+stands-later : (n i d : ℕ) (f : ℕ → ℕ) (v : ℕ) → i ≤ d → d < n → v ≢ f d → Stands n i f v → Stands n (suc i) (swap f i d) v
+stands-later n i d f v a b ne (k, c, h, q) =
+    let r : (suc i ≤ turn i d k) × (turn i d k < n) = turn-cases (λ k m. k ≢ d → i ≤ k → k < n → (suc i ≤ m) × (m < n)) i d k (omega arith) (λ z. absurd (z refl)) (omega arith) (λ e. ne (q ∙ ap f e)) c h in
+    (turn i d k, r .0, r .1, q ∙ ap f (sym (turn-turn i d k)) ∙ sym (swap-is f i d (turn i d k)))
+
+drawn-from : (n i : ℕ) (f : ℕ → ℕ) (o : List ℕ) → Pairwise _≢_ o → ((v : ℕ) → In v o → Stands n i f v) → (ds : List ℕ) × Valid n i ds × (shuffleFrom f i ds ≡ o)
+unfolding shuffleFrom Valid
+drawn-from n i f [] p at = ([], tt, refl)
+drawn-from n i f (v ∷ o) (more apart p) at =
+    let (d, a, b, q) = at v (here refl) in
+    let (ds, valid, r) = drawn-from n (suc i) (swap f i d) o p (λ u m. stands-later n i d f u a b (λ e. apart u m (q ∙ sym e)) (at u (there m))) in
+    (d ∷ ds, (a, b, valid), ap₂ _∷_ (swap-first f i d ∙ sym q) r)
+
+pub sample-drawn : (n : ℕ) (o : List ℕ) → Sample n o → (ds : List ℕ) × Valid n 0 ds × (shuffle ds ≡ o)
+unfolding shuffle
+sample-drawn n o s = drawn-from n 0 (λ k. k) o (s .different) (λ v m. (v, omega arith, s .below v m, refl))
+
+-- what is put out tells the draws
+one-from : (i : ℕ) (f : ℕ → ℕ) → Injective f → (ds es : List ℕ) → shuffleFrom f i ds ≡ shuffleFrom f i es → ds ≡ es
+unfolding shuffleFrom Injective
+one-from i f inj [] [] q = refl
+one-from i f inj [] (e ∷ es) q = absurd (omega (arith, ap length q))
+one-from i f inj (d ∷ ds) [] q = absurd (omega (arith, ap length q))
+one-from i f inj (d ∷ ds) (e ∷ es) q =
+    let head : swap f i d i ≡ swap f i e i = cc in
+    let tail : shuffleFrom (swap f i d) (suc i) ds ≡ shuffleFrom (swap f i e) (suc i) es = cc in
+    let same : d ≡ e = inj d e (sym (swap-first f i d) ∙ head ∙ swap-first f i e) in
+    ap₂ _∷_ same (one-from (suc i) (swap f i d) (swap-injective f i d inj) ds es (tail ∙ ap (λ m. shuffleFrom (swap f i m) (suc i) es) (sym same)))
+
+pub shuffle-one : (ds es : List ℕ) → shuffle ds ≡ shuffle es → ds ≡ es
+unfolding shuffle Injective
+shuffle-one ds es q = one-from 0 (λ k. k) (λ a b r. r) ds es q
 
 -- ---- source document 001
 
@@ -113,12 +153,3 @@ prefix-from perm i (j ∷ js) = ap₂ _∷_ (sym (swap-first (look perm) i j)) (
 pub rndPermPrefix-shuffles : (js : List ℕ) → rndPermPrefix js ≡ shuffle js
 unfolding rndPermPrefix shuffle look
 rndPermPrefix-shuffles js = prefix-from [] 0 js
-
-pub length-shuffleFrom : (f : ℕ → ℕ) (i : ℕ) (ds : List ℕ) → length (shuffleFrom f i ds) ≡ length ds
-unfolding shuffleFrom
-length-shuffleFrom f i [] = refl
-length-shuffleFrom f i (d ∷ ds) = ap suc (length-shuffleFrom (swap f i d) (suc i) ds)
-
-pub length-shuffle : (ds : List ℕ) → length (shuffle ds) ≡ length ds
-unfolding shuffle
-length-shuffle ds = length-shuffleFrom (λ k. k) 0 ds

@@ -3,17 +3,19 @@
 --   scenario-belongs, belongs-listed == a served list's blocks belong, and what belongs is the block of its index
 --   index-tells, index-refuses       == Index answers each sequence that belongs, and refuses every other
 --   shuffle-serves                   == valid draws are served
+--   sample-drawn, draws-one, output-sampled == any different numbers below n are what one list of valid draws puts out, and nothing else is put out
 --   demand-2, demand-3, refusals, buffers == the whole statements, of the definitions that the contracts cite
 -- Assumes nothing.
 use mathlib.Core.Path.{_≡_, refl, sym, ap, _∙_, subst}
 use mathlib.Core.List.{List, [], _∷_}
 use Prim.Native.Nat.{ℕ, _<_}
 use native.Mathlib.Omega.{arith}
-use lib.ListN.{length, getD}
+use lib.ListN.{length, getD, take}
+use Rattle.lists.specs.Lists.{Sample}
 use Rattle.promises.specs.Answer.{served, refused, Served, Refuses}
-use Rattle.promises.specs.Text.{Case8·scratch, Case12, Case12·draws}
+use Rattle.promises.specs.Text.{Case12}
 use Rattle.promises.specs.Meaning.{Belongs}
-use Rattle.promises.specs.Demand3.{ValidDraws, block, Cells, Room, Gives, Whole}
+use Rattle.promises.specs.Demand3.{ValidDraws, Shufflable, block, output, Cells, Room, Gives, Whole}
 use Rattle.promises.specs.Refusals.{Sized, Countable}
 use Rattle.promises.specs.Generator.{generator}
 use Rattle.promises.specs.Calls as promised
@@ -100,7 +102,22 @@ module _ (t : List ℕ) (h : ℕ) (cells : List ℕ) (s : Sized t h cells) (L : 
 -- ---- Shuffle
 
 -- valid draws are served; what the shuffled indices then give is the field `complete` of demand 3
-pub shuffle-serves : (n : ℕ) (ds scratch out : List ℕ) (a : Shuffled) → shuffling.answerOf a ≡ promised.shuffle n ds scratch out → ValidDraws n ds → (Case8·scratch ds scratch → ⊥) → (Case12·draws ds out → ⊥)
-    → a ≡ ShuffleServed
+pub shuffle-serves : (n : ℕ) (ds scratch out : List ℕ) (a : Shuffled) → shuffling.answerOf a ≡ promised.shuffle n ds scratch out → Shufflable n ds scratch out → a ≡ ShuffleServed
 unfolding generator
-shuffle-serves n ds scratch out a c v s8 s12 = shuffle-served a (rw c (demand-2 .permuted n ds scratch out v s8 s12 .0))
+shuffle-serves n ds scratch out a c s = shuffle-served a (rw c (demand-3 .fair n .sampled ds scratch out s .0))
+
+-- 'any z different numbers below n, in any order, are the output of exactly one valid draw list' (02 no. 10)
+module _ (n : ℕ) where
+  pub sample-drawn : (o : List ℕ) → Sample n o → (ds : List ℕ) × (length ds ≡ length o) × ValidDraws n ds
+      × ((scratch out after : List ℕ) → after ≡ promised.shuffled n ds scratch out → Shufflable n ds scratch out → take (length ds) after ≡ o)
+  unfolding generator output
+  sample-drawn o s = let (ds, l, v, f) = demand-3 .fair n .drawn o s in (ds, l, v, λ scratch out after c g. rw c (f scratch out g))
+
+  pub draws-one : (ds es scratch scratch′ out out′ after after′ : List ℕ) → after ≡ promised.shuffled n ds scratch out → after′ ≡ promised.shuffled n es scratch′ out′
+      → Shufflable n ds scratch out → Shufflable n es scratch′ out′ → take (length ds) after ≡ take (length es) after′ → ds ≡ es
+  unfolding generator output
+  draws-one ds es scratch scratch′ out out′ after after′ c d f g q = demand-3 .fair n .by-one ds es scratch scratch′ out out′ f g (rw (c, d) at q)
+
+  pub output-sampled : (ds scratch out after : List ℕ) → after ≡ promised.shuffled n ds scratch out → Shufflable n ds scratch out → Sample n (take (length ds) after)
+  unfolding generator output
+  output-sampled ds scratch out after c f = rw c (demand-3 .fair n .sampled ds scratch out f .1)

@@ -8,7 +8,7 @@ use native.Mathlib.Omega.{arith}
 use lib.ListN.{length, getD}
 use lib.Dec.{eqb, ltb}
 use borrow.Author.Tests.{eq-eqb, ne-eqb, eqb-true, eqb-false, lt-ltb, le-ltb, ltb-true, ltb-false}
-use Rattle.lists.specs.Lists.{any, range, indexOf, Pairwise, more, Permutation}
+use Rattle.lists.specs.Lists.{any, range, indexOf, Pairwise, more, Sample, Permutation}
 use Rattle.lists.proofs.Tests.{contra, case}
 use Rattle.lists.proofs.Members.{any-some, any-in, getD-in}
 use Rattle.lists.proofs.Ordered.{pairwise-imp, range-in, range-ordered}
@@ -54,7 +54,7 @@ permutation-length n l p =
     ∙ length-range n
 
 -- n different numbers below n are all of them
-module _ (n : ℕ) (l : List ℕ) (full : length l ≡ n) (below : (e : ℕ) → In e l → e < n) (once : Pairwise _≢_ l) where
+module _ (n : ℕ) (l : List ℕ) (full : length l ≡ n) (s : Sample n l) where
   all-there : (e : ℕ) → e < n → In e l
   all-there e h = case (any (λ d. eqb d e) l)
       (λ q. let (d, i, p) = any-some (λ d. eqb d e) l q in subst (λ x. In x l) (eqb-true d e p) i)
@@ -62,15 +62,15 @@ module _ (n : ℕ) (l : List ℕ) (full : length l ≡ n) (below : (e : ℕ) →
     where
       in-range : (a : ℕ) → In a (e ∷ l) → In a (range n)
       in-range a (here p) = range-in n a .1 (omega arith)
-      in-range a (there i) = range-in n a .1 (below a i)
+      in-range a (there i) = range-in n a .1 (s .below a i)
 
       too-many : any (λ d. eqb d e) l ≡ false → ⊥
       too-many q =
-          let le : length (e ∷ l) ≤ length (range n) = distinct-length (e ∷ l) (range n) (more (λ b i p. contra (any-in (λ d. eqb d e) i (eq-eqb b e (sym p))) q) once) in-range in
+          let le : length (e ∷ l) ≤ length (range n) = distinct-length (e ∷ l) (range n) (more (λ b i p. contra (any-in (λ d. eqb d e) i (eq-eqb b e (sym p))) q) (s .different)) in-range in
           omega (arith, length-range n)
 
   pub full-permutation : Permutation n l
-  full-permutation = record { once = once; just = λ e. (below e, all-there e) }
+  full-permutation = record { once = s .different; just = λ e. (s .below e, all-there e) }
 
 pub indexOf-range : (n a : ℕ) → a < n → indexOf (range n) a ≡ a
 indexOf-range n a h = ap (indexOf (range n)) (sym (getD-range n a h)) ∙ indexOf-at (range n) a (range-permutation n .once) (rw length-range h)

@@ -1,6 +1,7 @@
 -- Lists, tests and sums: the vocabulary of every other specification.
 --   pick b x y      == x where the test b holds, else y
 --   Pairwise R l    == every earlier element of l is in R to every later one
+--   Sample n l      == l has different numbers below n, in any order
 --   Permutation n l == l has every number below n once, and nothing else
 --   any f l         == some element of l passes the test f
 --   filter f l      == the elements of l that pass the test f, in their order
@@ -30,6 +31,10 @@ pick false a b = b
 pub data Pairwise {A : Type 0} (R : A → A → Type 0) : List A → Type 0 where
   none : Pairwise R []
   more : {a : A} {l : List A} → ((b : A) → In b l → R a b) → Pairwise R l → Pairwise R (a ∷ l)
+
+pub record Sample (n : ℕ) (l : List ℕ) : Type 0 where
+  pub different : Pairwise _≢_ l
+  pub below : (e : ℕ) → In e l → e < n
 
 pub record Permutation (n : ℕ) (l : List ℕ) : Type 0 where
   pub once : Pairwise _≢_ l

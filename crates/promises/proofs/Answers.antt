@@ -5,9 +5,9 @@ use mathlib.Core.Path.{_≡_, sym, _∙_}
 use mathlib.Core.Logic.{_⊎_, inl, inr, _≢_, _↔_, ⊎-elim}
 use mathlib.Core.Bool.{true, false, _||_}
 use mathlib.Core.List.{List, [], _∷_, List·Memᴰ as In}
-use Prim.Native.Nat.{ℕ, suc, _+_, _*_, _≤_, _<_}
+use Prim.Native.Nat.{ℕ, zero, suc, _+_, _*_, _≤_, _<_}
 use native.Mathlib.Omega.{arith}
-use native.Mathlib.Nat.{eq-or-lt-of-le}
+use native.Mathlib.Nat.{eq-or-lt-of-le, not-suc-le-zero}
 use lib.ListN.{length, getD, take}
 use lib.Seq.{take-at}
 use lib.Dec.{ltb, leb}
@@ -31,7 +31,8 @@ use Rattle.promises.specs.Text.{decoded, eventsOf, Readable, Case7, Case
 use Rattle.promises.specs.Meaning.{Belongs}
 use Rattle.promises.specs.Rig.{rigAutomaton, start}
 use Rattle.promises.specs.Calls.{unlessAt, outputAfter, total, counted, totalRows, count, scenarios, written, index, badDraw, shuffle, shuffled}
-use Rattle.promises.specs.Demand3.{Once, ValidDraws, block}
+use Rattle.promises.specs.Demand3.{Once, ValidDraws, Shufflable, block, output}
+use Rattle.promises.specs.Generator.{generator}
 use Rattle.promises.proofs.Meaning.{events-just, events-distinct, text-belongs}
 use Rattle.promises.proofs.Checks.{checked-list, check-passed, sized-on, counted-none, counted-most, counted-on, says-none}
 
@@ -184,23 +185,32 @@ valid-from n p (d ∷ ds) v = (omega (arith, v 0 (omega arith) .0), v 0 (omega a
     next : (i : ℕ) → (p + suc i ≤ getD ds i 0) × (getD ds i 0 < n) → (suc p + i ≤ getD ds i 0) × (getD ds i 0 < n)
     next i (a, b) = (omega arith, b)
 
+pub valid-at : (n p : ℕ) (ds : List ℕ) → Valid n p ds → (k : ℕ) → k < length ds → (p + k ≤ getD ds k 0) × (getD ds k 0 < n)
+unfolding Valid
+valid-at n p [] v k h = absurd (not-suc-le-zero h)
+valid-at n p (d ∷ ds) v zero h = (let a = v .0 in omega arith, v .1)
+valid-at n p (d ∷ ds) v (suc k) h = let r = valid-at n (suc p) ds (v .2) k (omega arith) in (let a = r .0 in omega arith, r .1)
+
 pub valid-draws : (n : ℕ) (ds : List ℕ) → ValidDraws n ds → Valid n 0 ds
 unfolding ValidDraws
 valid-draws n ds v = valid-from n 0 ds (λ i l. (omega (arith, v i l .0), v i l .1))
 
-pub shuffle-served : (n : ℕ) (ds scratch o : List ℕ) → ValidDraws n ds → (Case8·scratch ds scratch → ⊥) → (Case12·draws ds o → ⊥) → shuffle n ds scratch o ≡ served []
-unfolding shuffle Case8·scratch Case12·draws ValidDraws badDraw
-shuffle-served n ds scratch o v c8 c12 =
-    rw (tells-false (tells-lt (length scratch) (2 * length ds)) c8, tells-false (tells-lt (length o) (length ds)) c12)
-    (⊎-elim (λ (q, g). q) (λ (k, l, q, b, g). absurd (fair k (v k l) b)) (checked-list 15 (badDraw n) ds (served [])))
-  where
-    fair : (k : ℕ) → (k ≤ getD ds k 0) × (getD ds k 0 < n) → (ltb (getD ds k 0) k || leb n (getD ds k 0)) ≡ true → ⊥
-    fair k (a, b) q = ⊎-elim (λ h. omega arith) (λ h. omega arith) (tells-or (tells-lt (getD ds k 0) k) (tells-le n (getD ds k 0)) .yes q)
+pub draws-valid : (n : ℕ) (ds : List ℕ) → Valid n 0 ds → ValidDraws n ds
+unfolding ValidDraws
+draws-valid n ds v i l = let r = valid-at n 0 ds v i l in (omega arith, r .1)
 
-pub shuffled-is : (n : ℕ) (ds scratch o : List ℕ) → ValidDraws n ds → (Case8·scratch ds scratch → ⊥) → (Case12·draws ds o → ⊥)
-    → take (length ds) (shuffled n ds scratch o) ≡ swapping.shuffle ds
-unfolding shuffled outputAfter
-shuffled-is n ds scratch o v c8 c12 = rw (shuffle-served n ds scratch o v c8 c12) (take-at (swapping.shuffle ds) _ (length ds) (length-shuffle ds))
+pub shuffle-served : (n : ℕ) (ds scratch o : List ℕ) → Shufflable n ds scratch o → shuffle n ds scratch o ≡ served []
+unfolding shuffle Case8·scratch Case12·draws ValidDraws badDraw
+shuffle-served n ds scratch o s =
+    rw (tells-false (tells-lt (length scratch) (2 * length ds)) (s .scratch-room), tells-false (tells-lt (length o) (length ds)) (s .output-room))
+    (⊎-elim (λ (q, g). q) (λ (k, l, q, b, g). absurd (good k (s .valid k l) b)) (checked-list 15 (badDraw n) ds (served [])))
+  where
+    good : (k : ℕ) → (k ≤ getD ds k 0) × (getD ds k 0 < n) → (ltb (getD ds k 0) k || leb n (getD ds k 0)) ≡ true → ⊥
+    good k (a, b) q = ⊎-elim (λ h. omega arith) (λ h. omega arith) (tells-or (tells-lt (getD ds k 0) k) (tells-le n (getD ds k 0)) .yes q)
+
+pub output-is : (n : ℕ) (ds scratch o : List ℕ) → Shufflable n ds scratch o → output generator n ds scratch o ≡ swapping.shuffle ds
+unfolding output generator shuffled outputAfter
+output-is n ds scratch o s = rw (shuffle-served n ds scratch o s) (take-at (swapping.shuffle ds) _ (length ds) (length-shuffle ds))
 
 -- ---- Count, where it serves
 

@@ -30,7 +30,7 @@ use Rattle.promises.specs.Demand2.{Endless, Traced, Traces, Demand2}
 use Rattle.promises.specs.Generator.{generator}
 use Rattle.promises.proofs.Meaning.{rig-start, endless-never-stops, events-just, events-distinct, events-ordered}
 use Rattle.promises.proofs.Checks.{checked-list, counted-most, counted-on, says-none}
-use Rattle.promises.proofs.Answers.{count-is, scenarios-is, scenarios-told, served-below, block-written, index-good, index-none, index-of-scenario, served-none, list-none, shuffle-served, shuffled-is}
+use Rattle.promises.proofs.Answers.{count-is, scenarios-is, scenarios-told, served-below, block-written, index-good, index-none, index-of-scenario, served-none, list-none, shuffle-served, output-is}
 
 module _ (t : List ℕ) (h : ℕ) (r : Readable t) (e : Endless t) (c7 : Case7 h → ⊥) (Φ : ℕ → Bool) (safe : Safe (rigAutomaton t) Φ) where
   start-safe : Φ (start t) ≡ live (rigAutomaton t) (start t)
@@ -136,5 +136,5 @@ demand-2 = record {
   inputs = events-just;
   compared = events-ordered;
   safe-states = λ t r e. (live (rigAutomaton t), live-safe (rigAutomaton t) (endless-never-stops t r e));
-  permuted = λ n ds scratch out v c8 c12. (([], shuffle-served n ds scratch out v c8 c12), shuffled-is n ds scratch out v c8 c12 ∙ sym (rndPermPrefix-shuffles ds));
+  permuted = λ n ds scratch out s. (([], shuffle-served n ds scratch out s), output-is n ds scratch out s ∙ sym (rndPermPrefix-shuffles ds));
 }

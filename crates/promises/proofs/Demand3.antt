@@ -1,6 +1,7 @@
 -- Demand 3 holds of the four calls.
 -- Why: what belongs by the lines is the list of scenarios of the joint automaton; Count tells its length, Scenarios writes its elements by their
--- places, Index tells the places, and a full shuffle puts out every place once. Assumes nothing.
+-- places, Index tells the places, and a full shuffle puts out every place once; a shuffle puts out any different numbers for one list of draws
+-- only. Assumes nothing.
 use mathlib.Core.Path.{_≡_, refl, sym, ap, _∙_, subst}
 use mathlib.Core.Logic.{_↔_}
 use mathlib.Core.List.{List, [], _∷_, List·Memᴰ as In, List·Memᴰ·eq-of-singleton}
@@ -18,18 +19,18 @@ use Rattle.automaton.specs.Shuffle as swapping
 use Rattle.automaton.specs.Shuffle.{Valid}
 use Rattle.automaton.proofs.Counting.{scenarios-distinct, scenarios-sound, scenarios-complete}
 use Rattle.automaton.proofs.Ranking.{index-belongs, belongs-index, index-one, index-order}
-use Rattle.automaton.proofs.Shuffle.{shuffle-below, shuffle-distinct, shuffle-all, length-shuffle}
+use Rattle.automaton.proofs.Shuffle.{shuffle-sample, shuffle-permutes, sample-drawn, shuffle-one, length-shuffle}
 use Rattle.promises.specs.Answer.{Answer, served, Served, Refuses, SaysNone}
 use Rattle.promises.specs.Text.{decoded, Readable, Case7, Case8, Case8·scratch, Case12, Case12·draws, jointStates}
 use Rattle.promises.specs.Meaning.{Belongs, Earlier, Comes}
 use Rattle.promises.specs.Rig.{rigAutomaton, start}
 use Rattle.promises.specs.Calls.{total, counted, count, scenarios, written, index, shuffle, shuffled}
-use Rattle.promises.specs.Demand3.{Once, ValidDraws, block, Cells, Room, Gives, None, Whole, Demand}
+use Rattle.promises.specs.Demand3.{Once, Shufflable, block, output, Cells, Room, Gives, None, Whole, Fair, Demand}
 use Rattle.promises.specs.Generator.{generator}
 use Rattle.promises.proofs.Meaning.{events-ordered, events-distinct, text-belongs}
 use Rattle.promises.proofs.Order.{comes-lex}
 use Rattle.promises.proofs.Checks.{counted-on, says-none}
-use Rattle.promises.proofs.Answers.{belongs-listed, listed-length, none-belongs, count-is, scenarios-is, list-none, served-none, index-none, index-of-scenario, index-of-others, scenarioOf, scenarios-served, block-written, valid-draws, shuffle-served, shuffled-is}
+use Rattle.promises.proofs.Answers.{belongs-listed, listed-length, none-belongs, count-is, scenarios-is, list-none, served-none, index-none, index-of-scenario, index-of-others, scenarioOf, scenarios-served, block-written, valid-draws, draws-valid, shuffle-served, output-is}
 
 -- ---- what an index gives
 
@@ -73,10 +74,9 @@ none-said t h r c7 = record {
 -- what the shuffled indices give, n of them
 abbrev Complete : List ℕ → ℕ → ℕ → Type 0
 Complete t h n =
-    (ds scratch o cells out : List ℕ) → ValidDraws n ds → length ds ≡ n → (Case8·scratch ds scratch → ⊥) → (Case12·draws ds o → ⊥)
-    → (Case8 t h cells → ⊥) → (Case12 h ds out → ⊥)
+    (ds scratch o cells out : List ℕ) → Shufflable n ds scratch o → length ds ≡ n → (Case8 t h cells → ⊥) → (Case12 h ds out → ⊥)
     → Served (shuffle n ds scratch o)
-    × ((is : List ℕ) → is ≡ take n (shuffled n ds scratch o)
+    × ((is : List ℕ) → is ≡ output generator n ds scratch o
     → (length is ≡ n) × Served (scenarios t h is cells out)
     × ((k : ℕ) → k < n → Belongs t h (block h k (written t h is cells out)))
     × ((w : List ℕ) → Belongs t h w → (k : ℕ) × (k < n) × (block h k (written t h is cells out) ≡ w))
@@ -101,10 +101,10 @@ module _ (t : List ℕ) (h : ℕ) (r : Readable t) (c7 : Case7 h → ⊥) (ge : 
 
   complete-at : Complete t h (total t h)
   unfolding Served Case12
-  complete-at ds scratch o cells out v l s8 s12 c8 c12 = (([], shuffle-served (total t h) ds scratch o v s8 s12), λ is q. for is (q ∙ ap (λ n. take n (shuffled (total t h) ds scratch o)) (sym l) ∙ shuffled-is (total t h) ds scratch o v s8 s12))
+  complete-at ds scratch o cells out v l c8 c12 = (([], shuffle-served (total t h) ds scratch o v), λ is q. for is (q ∙ output-is (total t h) ds scratch o v))
     where
       valid : Valid (total t h) 0 ds
-      valid = valid-draws (total t h) ds v
+      valid = valid-draws (total t h) ds (v .valid)
 
       for : (is : List ℕ) → is ≡ swapping.shuffle ds
           → (length is ≡ total t h) × Served (scenarios t h is cells out)
@@ -115,8 +115,8 @@ module _ (t : List ℕ) (h : ℕ) (r : Readable t) (c7 : Case7 h → ⊥) (ge : 
         long,
         ([], s),
         (λ k m. rw (is-block k m) (index-belongs-text (getD is k 0) (at-below k m))),
-        (λ w b. placed w (belongs-ranked w b .1) (in-place 0 {l = is} (rw q (shuffle-all (total t h) ds valid l (rank (rigAutomaton t) (start t) w) (belongs-ranked w b .0))))),
-        (λ j k a b e. distinct-once 0 is (rw q (shuffle-distinct (total t h) ds valid)) j k (omega (arith, long)) (omega (arith, long)) (only-index (getD is j 0) (getD is k 0) (at-below j a) (at-below k b) (sym (is-block j a) ∙ e ∙ is-block k b))),
+        (λ w b. placed w (belongs-ranked w b .1) (in-place 0 {l = is} (rw q (shuffle-permutes (total t h) ds valid l .just (rank (rigAutomaton t) (start t) w) .1 (belongs-ranked w b .0))))),
+        (λ j k a b e. distinct-once 0 is (rw q (shuffle-sample (total t h) ds valid .different)) j k (omega (arith, long)) (omega (arith, long)) (only-index (getD is j 0) (getD is k 0) (at-below j a) (at-below k b) (sym (is-block j a) ∙ e ∙ is-block k b))),
       )
         where
           long : length is ≡ total t h
@@ -126,7 +126,7 @@ module _ (t : List ℕ) (h : ℕ) (r : Readable t) (c7 : Case7 h → ⊥) (ge : 
           room c = c12 (rw (long ∙ sym l) at c)
 
           below : (i : ℕ) → In i is → i < total t h
-          below i m = shuffle-below (total t h) ds valid i (rw q at m)
+          below i m = shuffle-sample (total t h) ds valid .below i (rw q at m)
 
           s : scenarios t h is cells out ≡ served []
           s = scenarios-served t h r c7 ge lt is cells out c8 room below
@@ -168,6 +168,14 @@ module _ (t : List ℕ) (h : ℕ) (r : Readable t) (c7 : Case7 h → ⊥) (ge : 
           index-of-others t s cells r (λ c. c7 (rw e at c)) (λ c. c8 (rw e at c)) (rw e ge) (rw e lt)
           (λ w. n (belongs-listed t h r s .1 (subst (λ k. In s (counting.scenarios (rigAutomaton t) k (start t))) e (scenarios-complete (rigAutomaton t) (start t) s w))))
 
+fair-shuffle : (n : ℕ) → Fair generator n
+unfolding generator Served
+fair-shuffle n = record {
+  drawn = λ o s. let (ds, v, q) = sample-drawn n o s in (ds, sym (length-shuffle ds) ∙ ap length q, draws-valid n ds v, λ scratch out f. output-is n ds scratch out f ∙ q);
+  by-one = λ ds es scratch scratch′ out out′ f g q. shuffle-one ds es (sym (output-is n ds scratch out f) ∙ q ∙ output-is n es scratch′ out′ g);
+  sampled = λ ds scratch out f. (([], shuffle-served n ds scratch out f), rw (output-is n ds scratch out f) (shuffle-sample n ds (valid-draws n ds (f .valid))));
+}
+
 -- Demand 3
 pub demand-3 : Demand generator
 unfolding Once
@@ -175,4 +183,5 @@ demand-3 = record {
   finite = λ t h r c7. (counting.scenarios (rigAutomaton t) h (start t), distinct-once [] _ (scenarios-distinct (rigAutomaton t) (events-distinct t r) h (start t)), λ w. let b = belongs-listed t h r w in (b .1, b .0));
   none = none-said;
   whole = λ t h r c7 L once all ge lt. let q : length L ≡ total t h = listed-length t h r L once all in whole-said t h r c7 (rw q at ge) (rw q at lt) L q;
+  fair = fair-shuffle;
 }

@@ -6,15 +6,16 @@ use mathlib.Core.Logic.{⊎-elim}
 use mathlib.Core.Bool.{Bool}
 use mathlib.Core.Option.{some}
 use mathlib.Core.List.{List, [], _∷_, append-nil, List·Memᴰ as In, List·Memᴰ·head as here, List·Memᴰ·tail as there, List·Memᴰ·not-nil}
-use Prim.Native.Nat.{ℕ, _+_, _-_, _*_, _≤_, _<_}
+use Prim.Native.Nat.{ℕ, zero, suc, _+_, _-_, _*_, _≤_, _<_}
 use native.Mathlib.Omega.{arith}
 use lib.ListN.{length, getD, take, drop, replicate, length-replicate, getD-replicate}
 use lib.Seq.{take-at, drop-at}
 use lib.Dec.{leb, eqb}
-use Rattle.lists.specs.Lists.{concatMap, indexOf}
+use Rattle.lists.specs.Lists.{concatMap, range, indexOf}
 use Rattle.lists.proofs.Tests.{case}
 use Rattle.lists.proofs.Tells.{tells-true, tells-lt, tells-le, tells-eq}
 use Rattle.lists.proofs.Members.{any-in}
+use Rattle.lists.proofs.Tables.{length-range, getD-range}
 use Rattle.lists.proofs.Blocks.{block-at}
 use Rattle.automaton.specs.Automaton.{Automaton}
 use Rattle.automaton.specs.Pruning.{passes, LastPass}
@@ -27,13 +28,13 @@ use Rattle.promises.specs.Rig.{rigAutomaton, start}
 use Rattle.promises.specs.Answer.{served, refused, Served, SaysNone}
 use Rattle.promises.specs.Meaning.{Belongs, Earlier, Comes}
 use Rattle.promises.specs.Calls.{fills, outputAfter, total, count, scenarios, written}
-use Rattle.promises.specs.Demand3.{Calls, ValidDraws, block, Cells, Room, Gives, Whole, Demand}
+use Rattle.promises.specs.Demand3.{Calls, ValidDraws, Shufflable, block, output, Cells, Room, Gives, Whole, Demand}
 use Rattle.promises.specs.Demand2.{Traced, Demand2}
 use Rattle.promises.specs.Refusals.{Sized}
 use Rattle.promises.specs.Generator.{generator}
 use Rattle.promises.specs.Examples.{A, B, A-ordered, closes, one-state, full-cell}
 use Rattle.promises.specs.Starred.{lent}
-use Rattle.promises.specs.Wrong.{copiesIndex0, untouchedOutput, fillsFirstOnly, byNumber, comparesNumbers, refusesAll, dropsEndings, noneByStart, admitted, noneBeforePruning, eightOfCells, eightOfScratch, twelveOfBytes, twelveOfNumbers, tenOfAnyCell, countsAdmitted, passesAs, lastPassMissing, passesWithin, prunesWithin, forgetsSwaps, PassesTold, Rejected}
+use Rattle.promises.specs.Wrong.{copiesIndex0, untouchedOutput, fillsFirstOnly, byNumber, comparesNumbers, refusesAll, dropsEndings, noneByStart, admitted, noneBeforePruning, eightOfCells, eightOfScratch, twelveOfBytes, twelveOfNumbers, tenOfAnyCell, countsAdmitted, passesAs, lastPassMissing, passesWithin, prunesWithin, forgetsSwaps, ignoresDraws, PassesTold, Rejected}
 use Rattle.promises.proofs.Meaning.{rig-states, rig-start}
 use Rattle.promises.proofs.Checks.{check-failed, sized-on, counted-on}
 use Rattle.promises.proofs.Answers.{served-none, refused-none, scenarioOf, block-written, shuffle-served, count-told}
@@ -231,26 +232,30 @@ module _ (more : ℕ) where
 abbrev fours : ℕ → List ℕ
 fours m = replicate m 4
 
-fours-valid : (m : ℕ) → m ≤ 5 → (n : ℕ) → n ≡ 5 → ValidDraws n (fours m)
-unfolding ValidDraws
-fours-valid m le n e i l =
-    let z : length (fours m) ≡ m = length-replicate {A = ℕ} m 4 in
-    let q : _≡_ {A = ℕ} (getD (fours m) i 0) 4 = getD-replicate {A = ℕ} m i 4 0 (omega arith) in
-    (omega arith, omega arith)
+fours-valid : (m : ℕ) → m ≤ 5 → (n : ℕ) → n ≡ 5 → Shufflable n (fours m) (lent (2 * m)) (lent m)
+unfolding ValidDraws Case8·scratch Case12·draws
+fours-valid m le n e = record {
+  valid = λ i l. let q : _≡_ {A = ℕ} (getD (fours m) i 0) 4 = getD-replicate {A = ℕ} m i 4 0 (omega (arith, z)) in (omega (arith, z), omega arith);
+  scratch-room = λ c. omega (arith, z, length-replicate {A = ℕ} (2 * m) 7);
+  output-room = λ c. omega (arith, z, length-replicate {A = ℕ} m 7);
+}
+  where
+    z : length (fours m) ≡ m
+    z = length-replicate {A = ℕ} m 4
 
 -- a full shuffle of A's five indices
 record Full (C : Calls) : Type 0 where
   serves : Served (C .shuffle 5 (fours 5) (lent 10) (lent 5))
-  differ : (is : List ℕ) → is ≡ take 5 (C .shuffled 5 (fours 5) (lent 10) (lent 5)) → Served (C .scenarios A 3 is (lent 8) (lent 15))
+  differ : (is : List ℕ) → is ≡ output C 5 (fours 5) (lent 10) (lent 5) → Served (C .scenarios A 3 is (lent 8) (lent 15))
       × (block 3 0 (C .written A 3 is (lent 8) (lent 15)) ≡ block 3 1 (C .written A 3 is (lent 8) (lent 15)) → ⊥)
 
 full : (C : Calls) → Demand C → Full C
-unfolding Cells Room Case12 Case8·scratch Case12·draws
+unfolding Cells Room Case12
 full C d = go (whole A 3 5 (lent 8) known-A C d)
   where
     go : (L : List (List ℕ)) × (length L ≡ 5) × Whole C A 3 L → Full C
     go (L, e, w) =
-        let (s, f) = w .complete (fours 5) (lent 10) (lent 5) (lent 8) (lent 15) (fours-valid 5 (omega arith) (length L) e) (sym e) (λ c. omega arith) (λ c. omega arith) (known-A .fits .room) (λ c. omega arith) in
+        let (s, f) = w .complete (fours 5) (lent 10) (lent 5) (lent 8) (lent 15) (fours-valid 5 (omega arith) (length L) e) (sym e) (known-A .fits .room) (λ c. omega arith) in
         record {
           serves = subst (λ n. Served (C .shuffle n (fours 5) (lent 10) (lent 5))) e s;
           differ = λ is q. let (l, r, a, b, c) = f is (rw e q) in (r, λ same. let z : _≡_ {A = ℕ} 0 1 = c 0 1 (omega arith) (omega arith) same in omega arith);
@@ -265,27 +270,66 @@ unfolding twelveOfNumbers
 numbers-rejected more d = refused-serves 12 0 (rw (tells-true (tells-le 5 (5 + more)) (omega arith)) at (full (twelveOfNumbers more) d .serves))
 
 -- where swaps are forgotten draws 4 4 .. put out 4 4 ..
-forgotten : (m : ℕ) → m ≤ 5 → (scratch o : List ℕ) → (Case8·scratch (fours m) scratch → ⊥) → (Case12·draws (fours m) o → ⊥) → take m (forgetsSwaps .shuffled 5 (fours m) scratch o) ≡ fours m
-unfolding forgetsSwaps outputAfter
-forgotten m le scratch o c8 c12 = rw (shuffle-served 5 (fours m) scratch o (fours-valid m le 5 refl) c8 c12) (take-at (fours m) _ m (length-replicate {A = ℕ} m 4))
+forgotten : (m : ℕ) → m ≤ 5 → output forgetsSwaps 5 (fours m) (lent (2 * m)) (lent m) ≡ fours m
+unfolding output forgetsSwaps outputAfter
+forgotten m le = rw (shuffle-served 5 (fours m) (lent (2 * m)) (lent m) (fours-valid m le 5 refl)) (take-at (fours m) _ (length (fours m)) refl)
 
 swaps-rejected-2 : Demand2 forgetsSwaps → ⊥
-unfolding Case8·scratch Case12·draws look rndPermPrefixFrom rndPermPrefix
+unfolding look rndPermPrefixFrom rndPermPrefix
 swaps-rejected-2 d =
-    let (s, q) = d .permuted 5 (fours 3) (lent 6) (lent 3) (fours-valid 3 (omega arith) 5 refl) (λ c. omega arith) (λ c. omega arith) in
-    let z : _≡_ {A = ℕ} 4 0 = ap (λ l. getD l 1 0) (sym (forgotten 3 (omega arith) (lent 6) (lent 3) (λ c. omega arith) (λ c. omega arith)) ∙ q) in
+    let (s, q) = d .permuted 5 (fours 3) (lent 6) (lent 3) (fours-valid 3 (omega arith) 5 refl) in
+    let z : _≡_ {A = ℕ} 4 0 = ap (λ l. getD l 1 0) (sym (forgotten 3 (omega arith)) ∙ q) in
     omega arith
 
 swaps-rejected-3 : Demand forgetsSwaps → ⊥
-unfolding forgetsSwaps Case8·scratch Case12·draws Case12
+unfolding forgetsSwaps Case12
 swaps-rejected-3 d =
-    let (s, n) = full forgetsSwaps d .differ (fours 5) (sym (forgotten 5 (omega arith) (lent 10) (lent 5) (λ c. omega arith) (λ c. omega arith))) in
+    let (s, n) = full forgetsSwaps d .differ (fours 5) (sym (forgotten 5 (omega arith))) in
     n (at 0 (omega arith) s ∙ sym (at 1 (omega arith) s))
   where
     at : (n : ℕ) → n < 5 → Served (scenarios A 3 (fours 5) (lent 8) (lent 15)) → block 3 n (written A 3 (fours 5) (lent 8) (lent 15)) ≡ scenarioOf A 3 4
     at n l s =
         block-written A 3 (known-A .fits .readable) (known-A .fits .horizon) (some-total A 3 5 (lent 8) known-A) (few-total A 3 5 (lent 8) known-A) (fours 5) (lent 8) (lent 15) (known-A .fits .room) (λ c. omega arith) s n l
         ∙ ap (scenarioOf A 3) (getD-replicate {A = ℕ} 5 n 4 0 l)
+
+-- the draws 0, 1, 2, … are valid
+each-once : (t : List ℕ) (h : ℕ) (L : List (List ℕ)) → Whole generator t h L → Whole ignoresDraws t h L
+unfolding ValidDraws Case8·scratch Case12·draws Cells Room Case12 Gives output generator ignoresDraws
+each-once t h L w = record {
+  counted = w .counted;
+  listed = w .listed;
+  gives = w .gives;
+  given = w .given;
+  by-one = w .by-one;
+  ordered = w .ordered;
+  indexed = w .indexed;
+  others = w .others;
+  complete = λ ds scratch o cells out v l c8 c12. (
+    w .complete ds scratch o cells out v l c8 c12 .0,
+    λ is q. w .complete (range (length ds)) scratch o cells out (in-order ds scratch o v l) (length-range (length ds) ∙ l) c8 (rw (length-range (length ds)) c12) .1 is (rw (length-range (length ds)) q),
+  );
+}
+  where
+    in-order : (ds scratch o : List ℕ) → Shufflable (length L) ds scratch o → length ds ≡ length L → Shufflable (length L) (range (length ds)) scratch o
+    in-order ds scratch o v l = let z = length-range (length ds) in record {
+      valid = λ i b. let q = getD-range (length ds) i (omega arith) in (omega arith, omega arith);
+      scratch-room = rw z (v .scratch-room);
+      output-room = rw z (v .output-room);
+    }
+
+draws-rejected : Demand ignoresDraws → ⊥
+unfolding ValidDraws Case8·scratch Case12·draws output ignoresDraws
+draws-rejected d =
+    let q = d .fair 2 .by-one (0 ∷ []) (1 ∷ []) (lent 2) (lent 2) (lent 1) (lent 1) (one-valid 0 (omega arith)) (one-valid 1 (omega arith)) refl in
+    let z : _≡_ {A = ℕ} 0 1 = ap (λ l. getD l 0 0) q in
+    omega arith
+  where
+    one-valid : (k : ℕ) → k < 2 → Shufflable 2 (k ∷ []) (lent 2) (lent 1)
+    one-valid k lt = record { valid = at; scratch-room = λ c. omega arith; output-room = λ c. omega arith }
+      where
+        at : (i : ℕ) → i < 1 → (i ≤ getD (k ∷ []) i 0) × (getD (k ∷ []) i 0 < 2)
+        at zero l = (omega arith, lt)
+        at (suc i) l = absurd (omega arith)
 
 -- ---- counts
 
@@ -371,6 +415,8 @@ rejected = record {
   ten-of-any-cell = ten-rejected;
   forgets-swaps-2 = swaps-rejected-2;
   forgets-swaps-3 = swaps-rejected-3;
+  each-once = each-once;
+  ignores-draws = draws-rejected;
   prunes-within = λ d.
       let q : passesWithin (rigAutomaton B) ≡ 3 = passes-rejected passesWithin d B 1 (lent 8) 1 3 (starred .b-1) in
       omega (arith, values .B-within);

@@ -11,23 +11,23 @@ use mathlib.Core.Bool.{Bool, true, false}
 use mathlib.Core.Option.{none, some}
 use mathlib.Core.List.{List, [], _∷_, List·Memᴰ as In}
 use Prim.Native.Nat.{ℕ, _≤_, _<_}
-use lib.ListN.{length, getD, take}
+use lib.ListN.{length, getD}
 use Rattle.lists.specs.Lists.{Pairwise}
 use Rattle.automaton.specs.Counting.{most}
 use Rattle.automaton.specs.Source000.{Safe, nb-traces, trace}
 use Rattle.automaton.specs.Source001.{rndPermPrefix}
 use Rattle.promises.specs.Answer.{served, refused, Served, SaysNone}
-use Rattle.promises.specs.Text.{Monitor, monitors, decoded, statesOf, eventsOf, Readable, Case7, Case8, Case8·scratch, Case12, Case12·draws, Case13}
+use Rattle.promises.specs.Text.{Monitor, monitors, decoded, statesOf, eventsOf, Readable, Case7, Case8, Case12, Case13}
 use Rattle.promises.specs.Meaning.{MayStop, Earlier}
 use Rattle.promises.specs.Rig.{rigAutomaton, start}
-use Rattle.promises.specs.Demand3.{Calls, ValidDraws, block}
+use Rattle.promises.specs.Demand3.{Calls, Shufflable, block, output}
 
 -- 'Rigs in which some monitor has no marked state are still compared with source document 000' (02 no. 4): a state is marked if the monitor may stop in it
 unfoldable pub Endless : List ℕ → Type 0
 Endless t = (m : Monitor) × In m (monitors (decoded t)) × ((s : ℕ) → s < statesOf (m .kind) → MayStop m s [] → ⊥)
 
 module _ (C : Calls) where
-  open Calls C using (count, scenarios, written, index, shuffle, shuffled)
+  open Calls C using (count, scenarios, written, index, shuffle)
 
   -- where the start is safe and nb_traces(h) is a number that can be told
   pub record Traced (t : List ℕ) (h : ℕ) (Φ : ℕ → Bool) : Type 0 where
@@ -62,5 +62,4 @@ module _ (C : Calls) where
     pub compared : (t : List ℕ) → Readable t → Pairwise (Earlier (decoded t)) (rigAutomaton t .events)
     pub safe-states : (t : List ℕ) → Readable t → Endless t → (Φ : ℕ → Bool) × Safe (rigAutomaton t) Φ
     -- rndPermPrefix on the same draws; 01 also allows no draws and n 0, where it puts out nothing
-    pub permuted : (n : ℕ) (ds scratch out : List ℕ) → ValidDraws n ds → (Case8·scratch ds scratch → ⊥) → (Case12·draws ds out → ⊥)
-        → Served (shuffle n ds scratch out) × (take (length ds) (shuffled n ds scratch out) ≡ rndPermPrefix ds)
+    pub permuted : (n : ℕ) (ds scratch out : List ℕ) → Shufflable n ds scratch out → Served (shuffle n ds scratch out) × (output C n ds scratch out ≡ rndPermPrefix ds)

@@ -1,10 +1,14 @@
 -- Demand 3, stated of any four calls: what each answers, and what the outputs hold afterwards, as functions of what it is given.
 -- Its words are those of Text and Meaning; no cell, set, count or record is named here.
 --   Calls              == four calls as functions of their inputs and of what the buffers hold before
+--   ValidDraws n ds    == the draws ds are valid
+--   Shufflable n ds scratch out == valid draws, and buffers as sized for them
 --   block h n out      == the h bytes that stand at place n of the output
+--   output C n ds scratch out == what Shuffle puts out: as many numbers as there are draws
 --   Gives C t h i w    == the index i gives the sequence w
 --   None C t h         == 'None' is said exactly when no sequence belongs
 --   Whole C t h L      == what holds where the sequences of L, each once, are those that belong
+--   Fair C n           == any different numbers below n are the output of exactly one valid draw list (02 no. 10)
 --   Demand C           == demand 3
 -- Assumes nothing.
 use mathlib.Core.Path.{_≡_}
@@ -12,6 +16,7 @@ use mathlib.Core.Logic.{_↔_}
 use mathlib.Core.List.{List, [], _∷_, List·Memᴰ as In}
 use Prim.Native.Nat.{ℕ, _*_, _≤_, _<_}
 use lib.ListN.{length, getD, take, drop}
+use Rattle.lists.specs.Lists.{Sample}
 use Rattle.automaton.specs.Counting.{most}
 use Rattle.promises.specs.Answer.{Answer, served, Served, SaysNone, Refuses}
 use Rattle.promises.specs.Text.{Readable, Case7, Case8, Case8·scratch, Case12, Case12·draws, Case13}
@@ -24,6 +29,12 @@ Once l = (i j : ℕ) → i < length l → j < length l → getD l i [] ≡ getD 
 -- 'Draws are valid if draw i is from i to n−1 for every i.'
 unfoldable pub ValidDraws : ℕ → List ℕ → Type 0
 ValidDraws n ds = (i : ℕ) → i < length ds → (i ≤ getD ds i 0) × (getD ds i 0 < n)
+
+-- 'The buffers are as sized if neither case 8 nor case 12 holds of them'
+pub record Shufflable (n : ℕ) (ds scratch out : List ℕ) : Type 0 where
+  pub valid : ValidDraws n ds
+  pub scratch-room : Case8·scratch ds scratch → ⊥
+  pub output-room : Case12·draws ds out → ⊥
 
 -- Buffers are their contents before the call.
 pub record Calls : Type 0 where
@@ -40,6 +51,10 @@ block h n out = take h (drop (n * h) out)
 
 module _ (C : Calls) where
   open Calls C using (count, scenarios, written, index, shuffle, shuffled)
+
+  -- 'the first n numbers of Shuffle's output', for n draws
+  unfoldable pub output : ℕ → List ℕ → List ℕ → List ℕ → List ℕ
+  output n ds scratch out = take (length ds) (shuffled n ds scratch out)
 
   module _ (t : List ℕ) (h : ℕ) where
     -- 'The buffers are as sized if neither case 8 nor case 12 holds of them, whatever a call answers and whatever they hold before it.'
@@ -80,14 +95,24 @@ module _ (C : Calls) where
       -- 'for any valid draws, as many as the count, the scenarios of the shuffled indices are every belonging sequence exactly once': served,
       -- each block belongs, each that belongs is a block, and no two blocks are equal. 'The shuffled indices are the first n numbers of
       -- Shuffle's output'; 'Unchanged, they are the list of a Scenarios call with the same text and h.'
-      pub complete : (ds scratch o cells out : List ℕ) → ValidDraws (length L) ds → length ds ≡ length L → (Case8·scratch ds scratch → ⊥) → (Case12·draws ds o → ⊥)
-          → Cells cells → Room ds out
+      pub complete : (ds scratch o cells out : List ℕ) → Shufflable (length L) ds scratch o → length ds ≡ length L → Cells cells → Room ds out
           → Served (shuffle (length L) ds scratch o)
-          × ((is : List ℕ) → is ≡ take (length L) (shuffled (length L) ds scratch o)
+          × ((is : List ℕ) → is ≡ output (length L) ds scratch o
           → (length is ≡ length L) × Served (scenarios t h is cells out)
           × ((n : ℕ) → n < length L → Belongs t h (block h n (written t h is cells out)))
           × ((w : List ℕ) → Belongs t h w → (n : ℕ) × (n < length L) × (block h n (written t h is cells out) ≡ w))
           × ((m n : ℕ) → m < length L → n < length L → block h m (written t h is cells out) ≡ block h n (written t h is cells out) → m ≡ n))
+
+  -- 02 no. 10, 'for part lists as well as full ones'
+  pub record Fair (n : ℕ) : Type 0 where
+    -- 'any z different numbers below n, in any order, are the output of' a 'valid draw list', whatever the buffers hold; z is then at most n
+    pub drawn : (o : List ℕ) → Sample n o → (ds : List ℕ) × (length ds ≡ length o) × ValidDraws n ds
+        × ((scratch out : List ℕ) → Shufflable n ds scratch out → output n ds scratch out ≡ o)
+    -- 'exactly one': any two valid draw lists with the same output are equal
+    pub by-one : (ds es scratch scratch′ out out′ : List ℕ) → Shufflable n ds scratch out → Shufflable n es scratch′ out′
+        → output n ds scratch out ≡ output n es scratch′ out′ → ds ≡ es
+    -- and valid draws are served and put out nothing else: so the valid lists of z draws are as many as the z different numbers, in any order
+    pub sampled : (ds scratch out : List ℕ) → Shufflable n ds scratch out → Served (shuffle n ds scratch out) × Sample n (output n ds scratch out)
 
   -- 'For any readable rig and horizon up to 1,000, with buffers as 01 sizes them'
   pub record Demand : Type 0 where
@@ -97,3 +122,5 @@ module _ (C : Calls) where
     -- 'Where 1 to 2^64−2 belong'
     pub whole : (t : List ℕ) (h : ℕ) → Readable t → (Case7 h → ⊥) → (L : List (List ℕ)) → Once L → ((w : List ℕ) → In w L ↔ Belongs t h w)
         → 1 ≤ length L → length L < most → Whole t h L
+    -- 'This joins what is owed of the shuffle' (02 no. 10), rig or not
+    pub fair : (n : ℕ) → Fair n

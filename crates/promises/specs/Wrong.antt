@@ -1,4 +1,4 @@
--- The wrong generators that paper 01 names, and three for paper 02, each the generator with one answer or output changed, and the demand that rejects each.
+-- The wrong generators that paper 01 names, and four for paper 02, each the generator with one answer or output changed, and the demand that rejects each.
 --   countAs f, scenariosAs f, writtenAs f, shuffleAs f, shuffledAs f == the generator, but one call answers or leaves what f says
 --   copiesIndex0, untouchedOutput, fillsFirstOnly == Scenarios writes something else
 --   byNumber t, comparesNumbers                   == the automaton of t with its events lower first; Scenarios writes what the indices give then, `ord` or not
@@ -13,6 +13,7 @@
 --   passesAs f, lastPassMissing                 == Count tells other passes; one fewer
 --   passesWithin A, prunesWithin                  == the passes, where a pass prunes by its own removals; Count tells them
 --   forgetsSwaps                                  == Shuffle puts out the draws
+--   ignoresDraws                                  == Shuffle puts out what the draws 0, 1, 2, … give, whatever the draws
 --   PassesTold C                                  == the passes that Count tells are those of the sets
 --   Rejected                                      == each wrong generator is rejected
 -- Assumes nothing.
@@ -32,7 +33,7 @@ use Rattle.promises.specs.Text.{eventsOf, decoded, jointStates}
 use Rattle.promises.specs.Rig.{rigAutomaton, start}
 use Rattle.promises.specs.Calls as calls
 use Rattle.promises.specs.Calls.{rows, sized, countRows, counted, total, totalRows, outputAfter}
-use Rattle.promises.specs.Demand3.{Calls, Demand}
+use Rattle.promises.specs.Demand3.{Calls, Whole, Demand}
 use Rattle.promises.specs.Demand2.{Demand2}
 use Rattle.promises.specs.Refusals.{Sized}
 use Rattle.promises.specs.Generator.{generator}
@@ -220,6 +221,10 @@ prunesWithin = passesAs passesWithin
 unfoldable pub forgetsSwaps : Calls
 forgetsSwaps = shuffledAs (λ n ds scratch out. outputAfter (calls.shuffle n ds scratch out) ds out)
 
+-- 'can't call a sample uniform on 'each once' alone' (02 no. 10): one order, 0, 1, 2, …, for all draws
+unfoldable pub ignoresDraws : Calls
+ignoresDraws = shuffledAs (λ n ds scratch out. calls.shuffled n (range (length ds)) scratch out)
+
 -- ---- what rejects them
 
 -- 'Passes end with the first pass that removes nothing, and that pass is counted.'
@@ -260,5 +265,8 @@ pub record Rejected : Type 0 where
   -- 'Forgetting that a swapped place can be drawn again: 4 4 4.'
   pub forgets-swaps-2 : Demand2 forgetsSwaps → ⊥
   pub forgets-swaps-3 : Demand forgetsSwaps → ⊥
+  -- 'each once' is met by a shuffle that ignores its draws, the fair shuffle (02 no. 10) is not
+  pub each-once : (t : List ℕ) (h : ℕ) (L : List (List ℕ)) → Whole generator t h L → Whole ignoresDraws t h L
+  pub ignores-draws : Demand ignoresDraws → ⊥
   -- 'Pruning within a pass by that pass's own removals, and counting fewer passes.'
   pub prunes-within : PassesTold prunesWithin → ⊥

@@ -16,10 +16,11 @@ use Rattle.lists.specs.Lists.{pick, tabulate}
 use Rattle.lists.proofs.Tests.{case, contra, and-left, and-right, and-intro}
 use Rattle.lists.proofs.Tables.{length-tabulate, getD-tabulate}
 use Rattle.automaton.specs.Shuffle.{Valid}
+use Rattle.promises.proofs.Answers.{valid-at}
 use Rattle.shuffle.specs.Buckets.{bucketOf}
 use Rattle.shuffle.specs.Places.{latestStep, inBucket, multiple, chained, moved, Linked, Prepared, Kept}
 use Rattle.shuffle.proofs.Mixing.{bucket-below}
-use Rattle.shuffle.proofs.Draws.{valid-at, valid-few}
+use Rattle.shuffle.proofs.Draws.{valid-few}
 use Rattle.shuffle.proofs.Arrangement.{moved-other, length-moved, drop-moved}
 
 -- ---- the last step that passes a test

@@ -2,8 +2,7 @@
 use mathlib.Core.Path.{_≡_}
 use mathlib.Core.Bool.{Bool, true, false}
 use mathlib.Core.List.{List, [], _∷_}
-use Prim.Native.Nat.{ℕ, zero, suc, _+_, _<_, _≤_}
-use native.Mathlib.Nat.{not-suc-le-zero}
+use Prim.Native.Nat.{ℕ, suc, _+_, _<_, _≤_}
 use native.Mathlib.Numerals.{add-one}
 use native.Mathlib.Omega.{arith}
 use lib.ListN.{length, getD, drop}
@@ -13,6 +12,7 @@ use borrow.Author.Tests.{lt-ltb, le-ltb, le-leb, lt-leb, ltb-false, leb-false}
 use Rattle.lists.proofs.Tests.{case, contra, or-right}
 use Rattle.automaton.specs.Shuffle.{Valid}
 use Rattle.promises.specs.Calls.{badDraw, firstBad, firstBadFrom}
+use Rattle.promises.proofs.Answers.{valid-at}
 
 -- ---- the first bad one
 
@@ -67,12 +67,6 @@ valid-from n p (d ∷ ds) h = case (badDraw n p d)
 pub draws-valid : (n : ℕ) (ds : List ℕ) → length ds ≤ firstBad (badDraw n) ds → Valid n 0 ds
 unfolding firstBad
 draws-valid n ds h = valid-from n 0 ds (omega arith)
-
-pub valid-at : (n p : ℕ) (ds : List ℕ) → Valid n p ds → (k : ℕ) → k < length ds → (p + k ≤ getD ds k 0) × (getD ds k 0 < n)
-unfolding Valid
-valid-at n p [] v k h = absurd (not-suc-le-zero h)
-valid-at n p (d ∷ ds) v zero h = (let a = v .0 in omega arith, v .1)
-valid-at n p (d ∷ ds) v (suc k) h = let r = valid-at n (suc p) ds (v .2) k (omega arith) in (let a = r .0 in omega arith, r .1)
 
 -- as many draws as there are numbers at most
 pub valid-few : (n : ℕ) (ds : List ℕ) → Valid n 0 ds → length ds ≤ n

@@ -2,8 +2,8 @@
 -- from which the swaps start; each of the three calls keeps what lies past the first 2 × z numbers.
 use native.Mathlib.Omega.{arith}
 use borrow.Author.Needs.{needs}
+use Rattle.promises.proofs.Answers.{valid-at}
 use Rattle.shuffle.specs.Places.{multiple, Kept}
-use Rattle.shuffle.proofs.Draws.{valid-at}
 use Rattle.shuffle.proofs.Arrangement.{held-first}
 use Rattle.shuffle.proofs.Chains.{ready-counted, kept-filled, kept-trans}
 use Rattle.shuffle.proofs.serve.Statement.{statement}
