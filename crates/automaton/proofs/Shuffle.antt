@@ -114,7 +114,7 @@ drawn-from n i f [] p at = ([], tt, refl)
 drawn-from n i f (v ∷ o) (more apart p) at =
     let (d, a, b, q) = at v (here refl) in
     let (ds, valid, r) = drawn-from n (suc i) (swap f i d) o p (λ u m. stands-later n i d f u a b (λ e. apart u m (q ∙ sym e)) (at u (there m))) in
-    (d ∷ ds, (a, b, valid), ap₂ _∷_ (swap-first f i d ∙ sym q) r)
+    (d ∷ ds, (omega arith, b, valid), ap₂ _∷_ (swap-first f i d ∙ sym q) r)
 
 pub sample-drawn : (n : ℕ) (o : List ℕ) → Sample n o → (ds : List ℕ) × Valid n 0 ds × (shuffle ds ≡ o)
 unfolding shuffle
