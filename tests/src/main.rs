@@ -196,7 +196,7 @@ fn index(tally: &mut Tally, rng: &mut Random, t: &[u8], sequence: &[u8], cells: 
     want
 }
 
-/// Compares one Shuffle call, and gives back the output that is expected of it.
+/// Compares one Shuffle call, and gives back the output as the library left it.
 fn shuffle(tally: &mut Tally, rng: &mut Random, n: u64, draws: &[u64], scratch: usize, out: usize) -> Vec<u64> {
     let (draws, was, out_was) = (words(draws, rng), noise_words(scratch, rng), noise_words(out, rng));
     let (draws0, mut now, mut out_now) = (draws.clone(), was.clone(), out_was.clone());
@@ -210,7 +210,7 @@ fn shuffle(tally: &mut Tally, rng: &mut Random, n: u64, draws: &[u64], scratch: 
     tally.note("shuffle", number, wrong, || {
         format!("n {n}, {} draws {:?}, {scratch} scratch, {out} output", draws.lent().len(), &draws.lent()[..draws.lent().len().min(20)])
     });
-    want
+    out_now.lent().to_vec()
 }
 
 /// The worked examples of the paper and of its table of refusals, with the answers written there.
@@ -1432,22 +1432,62 @@ fn draws(rng: &mut Random, n: u64, z: usize) -> Vec<u64> {
     ds
 }
 
-/// Every list of up to five draws from 0 to n, valid or not, for every n up to 5; each permutation of n numbers comes from one of them.
-fn all_shuffles(tally: &mut Tally, rng: &mut Random) {
-    for n in 0..=5u64 {
-        let mut permutations = vec![];
-        for z in 0..=5usize {
+/// Every list of up to six draws from 0 to n, valid or not, for every n up to 6. What the library puts out for the valid lists of z draws is
+/// every z different numbers below n, in every order, once each. Gives back how many lists are valid.
+fn all_shuffles(tally: &mut Tally, rng: &mut Random) -> usize {
+    let mut valid = 0;
+    for n in 0..=6u64 {
+        for z in 0..=6usize {
+            let (mut outputs, mut samples) = (vec![], vec![]);
             for code in 0..(n + 1).pow(z as u32) {
-                let ds: Vec<u64> = (0..z as u32).map(|i| code / (n + 1).pow(i) % (n + 1)).collect();
-                let out = shuffle(tally, rng, n, &ds, 2 * z, z);
-                if z as u64 == n && (0..z).all(|i| (i as u64..n).contains(&ds[i])) {
-                    permutations.push(out);
+                let list: Vec<u64> = (0..z as u32).map(|i| code / (n + 1).pow(i) % (n + 1)).collect();
+                let out = shuffle(tally, rng, n, &list, 2 * z, z);
+                if (0..z).all(|i| (i as u64..n).contains(&list[i])) {
+                    outputs.push(out);
+                }
+                if (0..z).all(|i| list[i] < n && !list[..i].contains(&list[i])) {
+                    samples.push(list);
                 }
             }
+            outputs.sort();
+            samples.sort();
+            assert_eq!(samples.len() as u64, (0..z as u64).map(|i| n.saturating_sub(i)).product(), "the samples of {z} numbers below {n}");
+            assert_eq!(outputs, samples, "what all valid lists of {z} draws put out for {n} numbers");
+            valid += outputs.len();
         }
-        permutations.sort();
-        permutations.dedup();
-        assert_eq!(permutations.len() as u64, (1..=n).product(), "the independent shuffle gives each permutation once");
+    }
+    valid
+}
+
+/// z different numbers below n, in any order.
+fn sample(rng: &mut Random, n: u64, z: u64) -> Vec<u64> {
+    let (near, mut seen) = (rng.chance(1, 2), HashSet::new());
+    let mut all = vec![];
+    while (all.len() as u64) < z {
+        let v = rng.below(if near { n.min(z + z / 4) } else { n });
+        if seen.insert(v) {
+            all.push(v);
+        }
+    }
+    all
+}
+
+/// Any sample is what the library puts out for some valid draws.
+fn samples(tally: &mut Tally, rng: &mut Random, rounds: u64) {
+    let mut sizes: Vec<(u64, u64)> = vec![(u64::MAX, 50_000), (1 << 32, 20_000), (50_000, 50_000), (50_001, 50_000), (120_000, 50_000)];
+    for _ in 0..rounds {
+        let n = match rng.below(4) {
+            0 => rng.below(60),
+            1 => rng.below(500),
+            2 => *rng.pick(&[u64::MAX, u64::MAX - 1, 1 << 63, 1 << 32]),
+            _ => rng.word(),
+        };
+        sizes.push((n, rng.below(n.min(100) + 1)));
+    }
+    for (n, z) in sizes {
+        let wanted = sample(rng, n, z);
+        let out = shuffle(tally, rng, n, &model::draws_of(&wanted), 2 * z as usize, z as usize);
+        assert!(out == wanted, "{z} numbers below {n} that the library does not put out: {:?}", &wanted[..wanted.len().min(20)]);
     }
 }
 
@@ -1478,12 +1518,7 @@ fn shuffles(tally: &mut Tally, rng: &mut Random, rounds: u64) {
         (50_001, 50_000),
     ] {
         let ds: Vec<u64> = (0..z).map(|i| rng.from_to(i, n - 1)).collect();
-        let sorted = |mut v: Vec<u64>| {
-            v.sort();
-            v
-        };
-        let out = shuffle(tally, rng, n, &ds, 2 * z as usize, z as usize);
-        assert!(n != z || sorted(out).iter().copied().eq(0..n), "the independent shuffle is a permutation");
+        shuffle(tally, rng, n, &ds, 2 * z as usize, z as usize);
     }
 }
 
@@ -1816,8 +1851,9 @@ fn main() {
     bands(&mut tally, rng);
     hours(&mut tally, rng);
     long_sequences(&mut tally, rng);
-    all_shuffles(&mut tally, rng);
+    let valid = all_shuffles(&mut tally, rng);
     shuffles(&mut tally, rng, 200_000);
+    samples(&mut tally, rng, 20_000);
     limits(&mut tally, rng);
     large(&mut tally, rng);
     worked_small(&mut tally, rng);
@@ -1921,6 +1957,7 @@ fn main() {
     println!("texts refused, by the line's word and the number: {:?}", tally.lines);
     println!("texts refused 5, by the line's word and the latest monitor's: {:?}", tally.others);
     println!("texts refused for a `bal`, `amp`, `day` or `open` line, by its cause: {:?}", tally.causes);
+    println!("{valid} lists of valid draws, all that there are for up to 6 numbers, put out every sample once");
     println!("{} of the lines have too short an output", tally.short);
     println!("{} horizons have fewer scenarios and {} none, where a shorter one has too many", tally.fewer, tally.gone);
     println!("{} comparisons, {} differences", tally.comparisons, tally.differences);

@@ -84,7 +84,7 @@ different-from n i f (d ∷ ds) inj h = more (λ v m q. apart v (out-from n (suc
 pub shuffle-sample : (n : ℕ) (ds : List ℕ) → Valid n 0 ds → Sample n (shuffle ds)
 unfolding shuffle Injective
 shuffle-sample n ds h = record {
-  different = different-from n 0 (λ k. k) ds (λ a b q. q) h;
+  once = different-from n 0 (λ k. k) ds (λ a b q. q) h;
   below = λ v m. let (k, a, b, q) = out-from n 0 (λ k. k) ds h v m in omega arith;
 }
 
@@ -114,11 +114,11 @@ drawn-from n i f [] p at = ([], tt, refl)
 drawn-from n i f (v ∷ o) (more apart p) at =
     let (d, a, b, q) = at v (here refl) in
     let (ds, valid, r) = drawn-from n (suc i) (swap f i d) o p (λ u m. stands-later n i d f u a b (λ e. apart u m (q ∙ sym e)) (at u (there m))) in
-    (d ∷ ds, (omega arith, b, valid), ap₂ _∷_ (swap-first f i d ∙ sym q) r)
+    (d ∷ ds, (omega arith, omega arith, valid), ap₂ _∷_ (swap-first f i d ∙ sym q) r)
 
 pub sample-drawn : (n : ℕ) (o : List ℕ) → Sample n o → (ds : List ℕ) × Valid n 0 ds × (shuffle ds ≡ o)
 unfolding shuffle
-sample-drawn n o s = drawn-from n 0 (λ k. k) o (s .different) (λ v m. (v, omega arith, s .below v m, refl))
+sample-drawn n o s = drawn-from n 0 (λ k. k) o (s .once) (λ v m. (v, omega arith, s .below v m, refl))
 
 -- what is put out tells the draws
 one-from : (i : ℕ) (f : ℕ → ℕ) → Injective f → (ds es : List ℕ) → shuffleFrom f i ds ≡ shuffleFrom f i es → ds ≡ es

@@ -66,11 +66,11 @@ module _ (n : ℕ) (l : List ℕ) (full : length l ≡ n) (s : Sample n l) where
 
       too-many : any (λ d. eqb d e) l ≡ false → ⊥
       too-many q =
-          let le : length (e ∷ l) ≤ length (range n) = distinct-length (e ∷ l) (range n) (more (λ b i p. contra (any-in (λ d. eqb d e) i (eq-eqb b e (sym p))) q) (s .different)) in-range in
+          let le : length (e ∷ l) ≤ length (range n) = distinct-length (e ∷ l) (range n) (more (λ b i p. contra (any-in (λ d. eqb d e) i (eq-eqb b e (sym p))) q) (s .once)) in-range in
           omega (arith, length-range n)
 
   pub full-permutation : Permutation n l
-  full-permutation = record { once = s .different; just = λ e. (s .below e, all-there e) }
+  full-permutation = record { once = s .once; just = λ e. (s .below e, all-there e) }
 
 pub indexOf-range : (n a : ℕ) → a < n → indexOf (range n) a ≡ a
 indexOf-range n a h = ap (indexOf (range n)) (sym (getD-range n a h)) ∙ indexOf-at (range n) a (range-permutation n .once) (rw length-range h)

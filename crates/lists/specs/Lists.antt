@@ -33,7 +33,7 @@ pub data Pairwise {A : Type 0} (R : A → A → Type 0) : List A → Type 0 wher
   more : {a : A} {l : List A} → ((b : A) → In b l → R a b) → Pairwise R l → Pairwise R (a ∷ l)
 
 pub record Sample (n : ℕ) (l : List ℕ) : Type 0 where
-  pub different : Pairwise _≢_ l
+  pub once : Pairwise _≢_ l
   pub below : (e : ℕ) → In e l → e < n
 
 pub record Permutation (n : ℕ) (l : List ℕ) : Type 0 where

@@ -116,7 +116,7 @@ module _ (t : List ℕ) (h : ℕ) (r : Readable t) (c7 : Case7 h → ⊥) (ge : 
         ([], s),
         (λ k m. rw (is-block k m) (index-belongs-text (getD is k 0) (at-below k m))),
         (λ w b. placed w (belongs-ranked w b .1) (in-place 0 {l = is} (rw q (shuffle-permutes (total t h) ds valid l .just (rank (rigAutomaton t) (start t) w) .1 (belongs-ranked w b .0))))),
-        (λ j k a b e. distinct-once 0 is (rw q (shuffle-sample (total t h) ds valid .different)) j k (omega (arith, long)) (omega (arith, long)) (only-index (getD is j 0) (getD is k 0) (at-below j a) (at-below k b) (sym (is-block j a) ∙ e ∙ is-block k b))),
+        (λ j k a b e. distinct-once 0 is (rw q (shuffle-sample (total t h) ds valid .once)) j k (omega (arith, long)) (omega (arith, long)) (only-index (getD is j 0) (getD is k 0) (at-below j a) (at-below k b) (sym (is-block j a) ∙ e ∙ is-block k b))),
       )
         where
           long : length is ≡ total t h

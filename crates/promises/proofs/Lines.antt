@@ -250,7 +250,7 @@ module _ (ls : List Line) (es : List ℕ) (s : Sound ls (ord es)) where
   pub sound-listed : Permutation (eventsOf ls) es
   unfolding Case2 Case3 Case16 cases Twice
   sound-listed = full-permutation (eventsOf ls) es (full (ℕ-discrete (length es) (eventsOf ls))) (record {
-    different = once-distinct 0 es (λ i j a b q. one i j a b q (ℕ-trichotomy i j));
+    once = once-distinct 0 es (λ i j a b q. one i j a b q (ℕ-trichotomy i j));
     below = λ e i. within (suc e) (eventsOf ls) (λ h. s .ranged (e, i, omega arith));
   })
     where

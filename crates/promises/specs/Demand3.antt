@@ -1,15 +1,15 @@
 -- Demand 3, stated of any four calls: what each answers, and what the outputs hold afterwards, as functions of what it is given.
 -- Its words are those of Text and Meaning; no cell, set, count or record is named here.
---   Calls              == four calls as functions of their inputs and of what the buffers hold before
---   ValidDraws n ds    == the draws ds are valid
+--   Calls                       == four calls as functions of their inputs and of what the buffers hold before
+--   ValidDraws n ds             == the draws ds are valid
 --   Shufflable n ds scratch out == valid draws, and buffers as sized for them
---   block h n out      == the h bytes that stand at place n of the output
---   output C n ds scratch out == what Shuffle puts out: as many numbers as there are draws
---   Gives C t h i w    == the index i gives the sequence w
---   None C t h         == 'None' is said exactly when no sequence belongs
---   Whole C t h L      == what holds where the sequences of L, each once, are those that belong
---   Fair C n           == any different numbers below n are the output of exactly one valid draw list (02 no. 10)
---   Demand C           == demand 3
+--   block h n out               == the h bytes that stand at place n of the output
+--   output C n ds scratch out   == what Shuffle puts out: as many numbers as there are draws
+--   Gives C t h i w             == the index i gives the sequence w
+--   None C t h                  == 'None' is said exactly when no sequence belongs
+--   Whole C t h L               == what holds where the sequences of L, each once, are those that belong
+--   Fair C n                    == any different numbers below n are the output of exactly one valid draw list (02 no. 10)
+--   Demand C                    == demand 3
 -- Assumes nothing.
 use mathlib.Core.Path.{_≡_}
 use mathlib.Core.Logic.{_↔_}

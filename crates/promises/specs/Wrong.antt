@@ -221,7 +221,7 @@ prunesWithin = passesAs passesWithin
 unfoldable pub forgetsSwaps : Calls
 forgetsSwaps = shuffledAs (λ n ds scratch out. outputAfter (calls.shuffle n ds scratch out) ds out)
 
--- 'can't call a sample uniform on 'each once' alone' (02 no. 10): one order, 0, 1, 2, …, for all draws
+-- a shuffle that gives one order, 0, 1, 2, …, for all draws
 unfoldable pub ignoresDraws : Calls
 ignoresDraws = shuffledAs (λ n ds scratch out. calls.shuffled n (range (length ds)) scratch out)
 
@@ -265,7 +265,7 @@ pub record Rejected : Type 0 where
   -- 'Forgetting that a swapped place can be drawn again: 4 4 4.'
   pub forgets-swaps-2 : Demand2 forgetsSwaps → ⊥
   pub forgets-swaps-3 : Demand forgetsSwaps → ⊥
-  -- 'each once' is met by a shuffle that ignores its draws, the fair shuffle (02 no. 10) is not
+  -- 'can't call a sample uniform on 'each once' alone' (02 no. 10): a shuffle that ignores its draws gives each once, and is not fair
   pub each-once : (t : List ℕ) (h : ℕ) (L : List (List ℕ)) → Whole generator t h L → Whole ignoresDraws t h L
   pub ignores-draws : Demand ignoresDraws → ⊥
   -- 'Pruning within a pass by that pass's own removals, and counting fewer passes.'
