@@ -135,7 +135,9 @@ uint64_t wandukhai_index(const uint8_t *text, size_t text_len, const uint8_t *se
  * scratch: at least 2 * draws_len numbers. The first 2 * draws_len hold anything after a served call; the others are kept, and all of
  * them after a refusal.
  * out: at least draws_len numbers; those past draws_len are kept, and all of them after a refusal.
- * place: 0 where served, else the place. */
+ * place: 0 where served, else the place.
+ * Any different numbers below n, in any order, come out for exactly one list of valid draws: uniform and independent draws, which the caller
+ * has to see to, give a uniform sample. */
 uint64_t wandukhai_shuffle(uint64_t n, const uint64_t *draws, size_t draws_len, uint64_t *scratch, size_t scratch_len, uint64_t *out,
                            size_t out_len, uint64_t *place);
 
