@@ -88,7 +88,7 @@ shuffle-sample n ds h = record {
   below = λ v m. let (k, a, b, q) = out-from n 0 (λ k. k) ds h v m in omega arith;
 }
 
-pub length-shuffleFrom : (f : ℕ → ℕ) (i : ℕ) (ds : List ℕ) → length (shuffleFrom f i ds) ≡ length ds
+length-shuffleFrom : (f : ℕ → ℕ) (i : ℕ) (ds : List ℕ) → length (shuffleFrom f i ds) ≡ length ds
 unfolding shuffleFrom
 length-shuffleFrom f i [] = refl
 length-shuffleFrom f i (d ∷ ds) = ap suc (length-shuffleFrom (swap f i d) (suc i) ds)

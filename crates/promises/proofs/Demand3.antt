@@ -8,7 +8,7 @@ use mathlib.Core.List.{List, [], _∷_, List·Memᴰ as In, List·Memᴰ·eq-of-
 use Prim.Native.Nat.{ℕ, _+_, _*_, _≤_, _<_}
 use native.Mathlib.Omega.{arith}
 use native.Mathlib.Nat.{one-mul}
-use lib.ListN.{length, getD, take, replicate, length-replicate}
+use lib.ListN.{length, getD, replicate, length-replicate}
 use Rattle.lists.proofs.Members.{getD-in}
 use Rattle.lists.proofs.Distinct.{in-place, distinct-once}
 use Rattle.automaton.specs.Pruning.{passes}
@@ -21,10 +21,10 @@ use Rattle.automaton.proofs.Counting.{scenarios-distinct, scenarios-sound, scen
 use Rattle.automaton.proofs.Ranking.{index-belongs, belongs-index, index-one, index-order}
 use Rattle.automaton.proofs.Shuffle.{shuffle-sample, shuffle-permutes, sample-drawn, shuffle-one, length-shuffle}
 use Rattle.promises.specs.Answer.{Answer, served, Served, Refuses, SaysNone}
-use Rattle.promises.specs.Text.{decoded, Readable, Case7, Case8, Case8·scratch, Case12, Case12·draws, jointStates}
+use Rattle.promises.specs.Text.{decoded, Readable, Case7, Case8, Case12, jointStates}
 use Rattle.promises.specs.Meaning.{Belongs, Earlier, Comes}
 use Rattle.promises.specs.Rig.{rigAutomaton, start}
-use Rattle.promises.specs.Calls.{total, counted, count, scenarios, written, index, shuffle, shuffled}
+use Rattle.promises.specs.Calls.{total, counted, count, scenarios, written, index, shuffle}
 use Rattle.promises.specs.Demand3.{Once, Shufflable, block, output, Cells, Room, Gives, None, Whole, Fair, Demand}
 use Rattle.promises.specs.Generator.{generator}
 use Rattle.promises.proofs.Meaning.{events-ordered, events-distinct, text-belongs}

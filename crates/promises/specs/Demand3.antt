@@ -30,7 +30,7 @@ Once l = (i j : ℕ) → i < length l → j < length l → getD l i [] ≡ getD 
 unfoldable pub ValidDraws : ℕ → List ℕ → Type 0
 ValidDraws n ds = (i : ℕ) → i < length ds → (i ≤ getD ds i 0) × (getD ds i 0 < n)
 
--- 'The buffers are as sized if neither case 8 nor case 12 holds of them'
+-- valid draws, and buffers as sized: 'neither case 8 nor case 12 holds of them'
 pub record Shufflable (n : ℕ) (ds scratch out : List ℕ) : Type 0 where
   pub valid : ValidDraws n ds
   pub scratch-room : Case8·scratch ds scratch → ⊥
