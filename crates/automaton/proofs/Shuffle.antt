@@ -3,6 +3,7 @@
 -- back; a draw is the place of the number it puts out, and the numbers still to come stand at later places after the swap. Assumes nothing.
 use mathlib.Core.Path.{_≡_, refl, sym, ap, ap₂, _∙_, fun-ext}
 use mathlib.Core.Logic.{_≢_}
+use mathlib.Mathlib.Logic.Function.Defs.{Injective}
 use mathlib.Core.List.{List, [], _∷_, List·Memᴰ as In, List·Memᴰ·head as here, List·Memᴰ·tail as there}
 use Prim.Native.Nat.{ℕ, suc, _≤_, _<_}
 use native.Mathlib.Omega.{arith}
@@ -15,9 +16,6 @@ use Rattle.lists.proofs.Tests.{case}
 use Rattle.lists.proofs.Permutations.{full-permutation}
 use Rattle.automaton.specs.Shuffle.{swap, shuffleFrom, shuffle, Valid}
 use Rattle.automaton.specs.Source001.{look, rndPermPrefixFrom, rndPermPrefix}
-
-Injective : (ℕ → ℕ) → Type 0
-Injective f = (a b : ℕ) → f a ≡ f b → a ≡ b
 
 -- a swap is a choice of the other place
 pub swap-first : (f : ℕ → ℕ) (i j : ℕ) → swap f i j i ≡ f j
@@ -54,7 +52,6 @@ unfolding turn
 turn-turn i j k = turn-cases (λ k m. turn i j m ≡ k) i j k (swap-second (λ k. k) i j) (swap-first (λ k. k) i j) (λ p q. swap-other (λ k. k) i j k p q)
 
 swap-injective : (f : ℕ → ℕ) (i j : ℕ) → Injective f → Injective (swap f i j)
-unfolding Injective
 swap-injective f i j h a b q =
     let e : turn i j a ≡ turn i j b = h (turn i j a) (turn i j b) (sym (swap-is f i j a) ∙ q ∙ swap-is f i j b) in
     sym (turn-turn i j a) ∙ ap (turn i j) e ∙ turn-turn i j b
@@ -74,7 +71,7 @@ out-from n i f (d ∷ ds) h v (there m) =
     (turn i d k, r .0, r .1, q ∙ swap-is f i d k)
 
 different-from : (n i : ℕ) (f : ℕ → ℕ) (ds : List ℕ) → Injective f → Valid n i ds → Pairwise _≢_ (shuffleFrom f i ds)
-unfolding shuffleFrom Valid Injective
+unfolding shuffleFrom Valid
 different-from n i f [] inj h = none
 different-from n i f (d ∷ ds) inj h = more (λ v m q. apart v (out-from n (suc i) (swap f i d) ds (h .2) v m) q) (different-from n (suc i) (swap f i d) ds (swap-injective f i d inj) (h .2))
   where
@@ -82,7 +79,7 @@ different-from n i f (d ∷ ds) inj h = more (λ v m q. apart v (out-from n (suc
     apart v (k, a, b, q) p = let e : i ≡ k = swap-injective f i d inj i k (p ∙ q) in omega arith
 
 pub shuffle-sample : (n : ℕ) (ds : List ℕ) → Valid n 0 ds → Sample n (shuffle ds)
-unfolding shuffle Injective
+unfolding shuffle
 shuffle-sample n ds h = record {
   once = different-from n 0 (λ k. k) ds (λ a b q. q) h;
   below = λ v m. let (k, a, b, q) = out-from n 0 (λ k. k) ds h v m in omega arith;
@@ -122,7 +119,7 @@ sample-drawn n o s = drawn-from n 0 (λ k. k) o (s .once) (λ v m. (v, omega ari
 
 -- what is put out tells the draws
 one-from : (i : ℕ) (f : ℕ → ℕ) → Injective f → (ds es : List ℕ) → shuffleFrom f i ds ≡ shuffleFrom f i es → ds ≡ es
-unfolding shuffleFrom Injective
+unfolding shuffleFrom
 one-from i f inj [] [] q = refl
 one-from i f inj [] (e ∷ es) q = absurd (omega (arith, ap length q))
 one-from i f inj (d ∷ ds) [] q = absurd (omega (arith, ap length q))
@@ -133,7 +130,7 @@ one-from i f inj (d ∷ ds) (e ∷ es) q =
     ap₂ _∷_ same (one-from (suc i) (swap f i d) (swap-injective f i d inj) ds es (tail ∙ ap (λ m. shuffleFrom (swap f i m) (suc i) es) (sym same)))
 
 pub shuffle-one : (ds es : List ℕ) → shuffle ds ≡ shuffle es → ds ≡ es
-unfolding shuffle Injective
+unfolding shuffle
 shuffle-one ds es q = one-from 0 (λ k. k) (λ a b r. r) ds es q
 
 -- ---- source document 001

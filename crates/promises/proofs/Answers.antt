@@ -8,7 +8,7 @@ use mathlib.Core.List.{List, [], _∷_, List·Memᴰ as In}
 use Prim.Native.Nat.{ℕ, zero, suc, _+_, _*_, _≤_, _<_}
 use native.Mathlib.Omega.{arith}
 use native.Mathlib.Nat.{eq-or-lt-of-le, not-suc-le-zero}
-use lib.ListN.{length, getD}
+use lib.ListN.{length, getD, take}
 use lib.Seq.{take-at}
 use lib.Dec.{ltb, leb}
 use borrow.Author.Tests.{leb-true, leb-false}
@@ -195,9 +195,9 @@ pub valid-draws : (n : ℕ) (ds : List ℕ) → ValidDraws n ds → Valid n 0 ds
 unfolding ValidDraws
 valid-draws n ds v = valid-from n 0 ds (λ i l. (omega (arith, v i l .0), v i l .1))
 
-pub draws-valid : (n : ℕ) (ds : List ℕ) → Valid n 0 ds → ValidDraws n ds
+pub valid-places : (n : ℕ) (ds : List ℕ) → Valid n 0 ds → ValidDraws n ds
 unfolding ValidDraws
-draws-valid n ds v i l = let r = valid-at n 0 ds v i l in (omega arith, r .1)
+valid-places n ds v i l = let r = valid-at n 0 ds v i l in (omega arith, r .1)
 
 pub shuffle-served : (n : ℕ) (ds scratch o : List ℕ) → Shufflable n ds scratch o → shuffle n ds scratch o ≡ served []
 unfolding shuffle Case8·scratch Case12·draws ValidDraws badDraw
@@ -208,9 +208,13 @@ shuffle-served n ds scratch o s =
     good : (k : ℕ) → (k ≤ getD ds k 0) × (getD ds k 0 < n) → (ltb (getD ds k 0) k || leb n (getD ds k 0)) ≡ true → ⊥
     good k (a, b) q = ⊎-elim (λ h. omega arith) (λ h. omega arith) (tells-or (tells-lt (getD ds k 0) k) (tells-le n (getD ds k 0)) .yes q)
 
+pub shuffled-is : (n : ℕ) (ds scratch o : List ℕ) → Served (shuffle n ds scratch o) → take (length ds) (shuffled n ds scratch o) ≡ swapping.shuffle ds
+unfolding shuffled outputAfter Served
+shuffled-is n ds scratch o (vs, q) = rw q (take-at (swapping.shuffle ds) _ (length ds) (length-shuffle ds))
+
 pub output-is : (n : ℕ) (ds scratch o : List ℕ) → Shufflable n ds scratch o → output generator n ds scratch o ≡ swapping.shuffle ds
-unfolding output generator shuffled outputAfter
-output-is n ds scratch o s = rw (shuffle-served n ds scratch o s) (take-at (swapping.shuffle ds) _ (length ds) (length-shuffle ds))
+unfolding output generator Served
+output-is n ds scratch o s = shuffled-is n ds scratch o ([], shuffle-served n ds scratch o s)
 
 -- ---- Count, where it serves
 

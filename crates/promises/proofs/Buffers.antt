@@ -8,8 +8,8 @@ use mathlib.Core.List.{List, [], _∷_, _++_, List·Memᴰ as In, List·Memᴰ·
 use Prim.Native.Nat.{ℕ, suc, _+_, _-_, _*_, _≤_, _<_}
 use native.Mathlib.Omega.{arith}
 use native.Mathlib.Nat.{suc-mul, mul-le-mul-right}
-use lib.ListN.{length, getD, take, drop, length-append, length-drop, List·getD-append}
-use lib.Seq.{getD-append-add, getD-drop, ext-getD, take-at}
+use lib.ListN.{length, getD, drop, length-append, length-drop, List·getD-append}
+use lib.Seq.{getD-append-add, getD-drop, ext-getD}
 use lib.Dec.{ltb, leb, eqb}
 use borrow.Author.Tests.{ltb-false, ne-eqb}
 use Rattle.lists.specs.Lists.{pick, any, concatMap}
@@ -32,7 +32,7 @@ use Rattle.promises.specs.Buffers.{ServedOr, Fills, CellsLeft, CellsFree
 use Rattle.promises.proofs.Reading.{readable-said, fault-said, fault-number, readable-or-fault}
 use Rattle.promises.proofs.Meaning.{rig-states}
 use Rattle.promises.proofs.Checks.{Avoids, sized-on, counted-none, counted-most}
-use Rattle.promises.proofs.Answers.{served-below, block-written, scenario-long}
+use Rattle.promises.proofs.Answers.{served-below, block-written, scenario-long, shuffled-is}
 
 -- ---- the cells, filled
 
@@ -287,9 +287,6 @@ buffers = record {
   scenarios-output = λ t h is cells out. unfold written in output-left (length is * h) (scenarios t h is cells out) _ out (fresh-listed t h is cells out);
   scenarios-written = λ t h is cells out s. let l = listed t h is cells out s in block-written t h (l .passed .readable) (l .passed .horizon) (l .some) (l .few) is cells out (l .passed .room) (l .room) s;
   shuffle-output = λ n ds scratch out. unfold shuffled in output-left (length ds) (shuffle n ds scratch out) (swapping.shuffle ds) out (λ s. (length-shuffle ds, shuffle-room n ds scratch out s));
-  shuffle-written = λ n ds scratch out s. written-shuffle n ds scratch out s;
+  shuffle-written = shuffled-is;
   shuffle-scratch = λ n ds scratch out left. scratch-left (shuffle n ds scratch out) ds scratch left;
 }
-  where
-    written-shuffle : (n : ℕ) (ds scratch out : List ℕ) → Served (shuffle n ds scratch out) → take (length ds) (shuffled n ds scratch out) ≡ swapping.shuffle ds
-    written-shuffle n ds scratch out (vs, q) = unfold shuffled outputAfter in (rw q (take-at (swapping.shuffle ds) _ (length ds) (length-shuffle ds)))

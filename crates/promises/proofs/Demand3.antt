@@ -30,7 +30,7 @@ use Rattle.promises.specs.Generator.{generator}
 use Rattle.promises.proofs.Meaning.{events-ordered, events-distinct, text-belongs}
 use Rattle.promises.proofs.Order.{comes-lex}
 use Rattle.promises.proofs.Checks.{counted-on, says-none}
-use Rattle.promises.proofs.Answers.{belongs-listed, listed-length, none-belongs, count-is, scenarios-is, list-none, served-none, index-none, index-of-scenario, index-of-others, scenarioOf, scenarios-served, block-written, valid-draws, draws-valid, shuffle-served, output-is}
+use Rattle.promises.proofs.Answers.{belongs-listed, listed-length, none-belongs, count-is, scenarios-is, list-none, served-none, index-none, index-of-scenario, index-of-others, scenarioOf, scenarios-served, block-written, valid-draws, valid-places, shuffle-served, output-is}
 
 -- ---- what an index gives
 
@@ -171,7 +171,7 @@ module _ (t : List ℕ) (h : ℕ) (r : Readable t) (c7 : Case7 h → ⊥) (ge : 
 fair-shuffle : (n : ℕ) → Fair generator n
 unfolding generator Served
 fair-shuffle n = record {
-  drawn = λ o s. let (ds, v, q) = sample-drawn n o s in (ds, sym (length-shuffle ds) ∙ ap length q, draws-valid n ds v, λ scratch out f. output-is n ds scratch out f ∙ q);
+  drawn = λ o s. let (ds, v, q) = sample-drawn n o s in (ds, sym (length-shuffle ds) ∙ ap length q, valid-places n ds v, λ scratch out f. output-is n ds scratch out f ∙ q);
   by-one = λ ds es scratch scratch′ out out′ f g q. shuffle-one ds es (sym (output-is n ds scratch out f) ∙ q ∙ output-is n es scratch′ out′ g);
   sampled = λ ds scratch out f. (([], shuffle-served n ds scratch out f), rw (output-is n ds scratch out f) (shuffle-sample n ds (valid-draws n ds (f .valid))));
 }

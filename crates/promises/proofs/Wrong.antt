@@ -6,7 +6,7 @@ use mathlib.Core.Logic.{⊎-elim}
 use mathlib.Core.Bool.{Bool}
 use mathlib.Core.Option.{some}
 use mathlib.Core.List.{List, [], _∷_, append-nil, List·Memᴰ as In, List·Memᴰ·head as here, List·Memᴰ·tail as there, List·Memᴰ·not-nil}
-use Prim.Native.Nat.{ℕ, zero, suc, _+_, _-_, _*_, _≤_, _<_}
+use Prim.Native.Nat.{ℕ, suc, _+_, _-_, _*_, _≤_, _<_}
 use native.Mathlib.Omega.{arith}
 use lib.ListN.{length, getD, take, drop, replicate, length-replicate, getD-replicate}
 use lib.Seq.{take-at, drop-at}
@@ -228,20 +228,21 @@ module _ (more : ℕ) where
 
 -- ---- the shuffle
 
--- draw 4 each time: valid where n is 5
-abbrev fours : ℕ → List ℕ
-fours m = replicate m 4
-
-fours-valid : (m : ℕ) → m ≤ 5 → (n : ℕ) → n ≡ 5 → Shufflable n (fours m) (lent (2 * m)) (lent m)
+-- one draw each time is valid up to its own place
+same-valid : (m d n : ℕ) → m ≤ suc d → d < n → Shufflable n (replicate m d) (lent (2 * m)) (lent m)
 unfolding ValidDraws Case8·scratch Case12·draws
-fours-valid m le n e = record {
-  valid = λ i l. let q : _≡_ {A = ℕ} (getD (fours m) i 0) 4 = getD-replicate {A = ℕ} m i 4 0 (omega (arith, z)) in (omega (arith, z), omega arith);
+same-valid m d n le lt = record {
+  valid = λ i l. let q = getD-replicate {A = ℕ} m i d 0 (omega (arith, z)) in (omega (arith, z), omega arith);
   scratch-room = λ c. omega (arith, z, length-replicate {A = ℕ} (2 * m) 7);
   output-room = λ c. omega (arith, z, length-replicate {A = ℕ} m 7);
 }
   where
-    z : length (fours m) ≡ m
-    z = length-replicate {A = ℕ} m 4
+    z : length (replicate m d) ≡ m
+    z = length-replicate {A = ℕ} m d
+
+-- draw 4 each time: valid where n is 5
+abbrev fours : ℕ → List ℕ
+fours m = replicate m 4
 
 -- a full shuffle of A's five indices
 record Full (C : Calls) : Type 0 where
@@ -255,7 +256,7 @@ full C d = go (whole A 3 5 (lent 8) known-A C d)
   where
     go : (L : List (List ℕ)) × (length L ≡ 5) × Whole C A 3 L → Full C
     go (L, e, w) =
-        let (s, f) = w .complete (fours 5) (lent 10) (lent 5) (lent 8) (lent 15) (fours-valid 5 (omega arith) (length L) e) (sym e) (known-A .fits .room) (λ c. omega arith) in
+        let (s, f) = w .complete (fours 5) (lent 10) (lent 5) (lent 8) (lent 15) (same-valid 5 4 (length L) (omega arith) (omega arith)) (sym e) (known-A .fits .room) (λ c. omega arith) in
         record {
           serves = subst (λ n. Served (C .shuffle n (fours 5) (lent 10) (lent 5))) e s;
           differ = λ is q. let (l, r, a, b, c) = f is (rw e q) in (r, λ same. let z : _≡_ {A = ℕ} 0 1 = c 0 1 (omega arith) (omega arith) same in omega arith);
@@ -272,12 +273,12 @@ numbers-rejected more d = refused-serves 12 0 (rw (tells-true (tells-le 5 (5 + m
 -- where swaps are forgotten draws 4 4 .. put out 4 4 ..
 forgotten : (m : ℕ) → m ≤ 5 → output forgetsSwaps 5 (fours m) (lent (2 * m)) (lent m) ≡ fours m
 unfolding output forgetsSwaps outputAfter
-forgotten m le = rw (shuffle-served 5 (fours m) (lent (2 * m)) (lent m) (fours-valid m le 5 refl)) (take-at (fours m) _ (length (fours m)) refl)
+forgotten m le = rw (shuffle-served 5 (fours m) (lent (2 * m)) (lent m) (same-valid m 4 5 le (omega arith))) (take-at (fours m) _ (length (fours m)) refl)
 
 swaps-rejected-2 : Demand2 forgetsSwaps → ⊥
 unfolding look rndPermPrefixFrom rndPermPrefix
 swaps-rejected-2 d =
-    let (s, q) = d .permuted 5 (fours 3) (lent 6) (lent 3) (fours-valid 3 (omega arith) 5 refl) in
+    let (s, q) = d .permuted 5 (fours 3) (lent 6) (lent 3) (same-valid 3 4 5 (omega arith) (omega arith)) in
     let z : _≡_ {A = ℕ} 4 0 = ap (λ l. getD l 1 0) (sym (forgotten 3 (omega arith)) ∙ q) in
     omega arith
 
@@ -318,18 +319,11 @@ each-once t h L w = record {
     }
 
 draws-rejected : Demand ignoresDraws → ⊥
-unfolding ValidDraws Case8·scratch Case12·draws output ignoresDraws
+unfolding output ignoresDraws
 draws-rejected d =
-    let q = d .fair 2 .by-one (0 ∷ []) (1 ∷ []) (lent 2) (lent 2) (lent 1) (lent 1) (one-valid 0 (omega arith)) (one-valid 1 (omega arith)) refl in
+    let q = d .fair 2 .by-one (0 ∷ []) (1 ∷ []) (lent 2) (lent 2) (lent 1) (lent 1) (same-valid 1 0 2 (omega arith) (omega arith)) (same-valid 1 1 2 (omega arith) (omega arith)) refl in
     let z : _≡_ {A = ℕ} 0 1 = ap (λ l. getD l 0 0) q in
     omega arith
-  where
-    one-valid : (k : ℕ) → k < 2 → Shufflable 2 (k ∷ []) (lent 2) (lent 1)
-    one-valid k lt = record { valid = at; scratch-room = λ c. omega arith; output-room = λ c. omega arith }
-      where
-        at : (i : ℕ) → i < 1 → (i ≤ getD (k ∷ []) i 0) × (getD (k ∷ []) i 0 < 2)
-        at zero l = (omega arith, lt)
-        at (suc i) l = absurd (omega arith)
 
 -- ---- counts
 
