@@ -2,7 +2,7 @@
 use generator::Counted;
 use generator::Indexed;
 use generator::Listed;
-use shuffle::Shuffled;
+use shuffle::Answered;
 ghost use mathlib.Core.Path.{_≡_};
 ghost use Rattle.promises.specs.Calls.{ShuffleKeeps};
 ghost use Rattle.promises.specs.Calls as promised;
@@ -156,11 +156,11 @@ pub extern "C" fn wandukhai_shuffle(
 {
     let shuffled = generator::shuffle_indices(n, draws, scratch, out);
     match shuffled {
-        Shuffled::Served => {
+        Answered::Served => {
             *place = 0;
             0
         }
-        Shuffled::Refused(number, at) => {
+        Answered::Refused(number, at) => {
             *place = at;
             number
         }

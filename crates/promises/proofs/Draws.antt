@@ -110,7 +110,7 @@ module _ (limit n : ℕ) where
 -- ---- the call
 
 module _ (n z seed limit : ℕ) (out : List ℕ) where
-  draws-is : z ≤ length out → z ≤ n → draws n z seed limit out ≡ said (outcome n z seed limit)
+  pub draws-is : z ≤ length out → z ≤ n → draws n z seed limit out ≡ said (outcome n z seed limit)
   unfolding draws
   draws-is a b = rw (le-ltb (length out) z a, le-ltb n z b)
 
