@@ -6,37 +6,53 @@ use mathlib.Core.List.{List, [], _∷_, _++_, append-assoc, append-nil}
 use mathlib.Core.Option.{none, some}
 use Prim.Native.Nat.{ℕ, suc, _+_, _-_, _%_, _^_, _≤_, _<_}
 use native.Mathlib.Omega.{arith}
-use native.Mathlib.Nat.{mod-eq-sub-mod, sub-zero}
+use native.Mathlib.Nat.{mod-eq-sub-mod, mod-lt, sub-zero}
 use native.Mathlib.Numerals.{add-one}
 use mathlib.Mathlib.Data.Bool.Basic.{eq-true-of-not-eq-false', eq-false-of-not-eq-true'}
 use lib.ListN.{length, set, drop, length-append}
+use lib.Dec.{ltb}
 use borrow.Author.Tests.{lt-ltb, le-ltb}
+use Rattle.lists.proofs.Tests.{case}
 use Rattle.lists.proofs.Fronts.{front-put}
 use Rattle.promises.specs.Answer.{served, refused}
 use Rattle.promises.specs.Calls.{outputAfter}
 use Rattle.promises.specs.SplitMix.{nextState, mix, raw}
 use Rattle.promises.specs.Draws.{thrownAway, taken, Outcome, drawn, failed, onto, drawsFrom, outcome, said, made, draws, drawsOutput}
 use Rattle.promises.proofs.Draws.{draws-is, draws-owed}
-use Rattle.draws.specs.Making.{takenOf, firstFailed, AllMade}
+use Rattle.draws.specs.Making.{enoughFor, takenOf, firstFailed, AllMade}
 use Rattle.draws.specs.declared.Taken.{Taken}
 
+-- ---- one raw number
+
 -- one w less leaves the same remainder
-pub remainder-is : (w : ℕ) → w ≤ 2 ^ 64 → (2 ^ 64 - w) % w ≡ 2 ^ 64 % w
-remainder-is w l = sym (mod-eq-sub-mod l)
+pub remainder-is : (w : ℕ) → w ≤ 2 ^ 64 → 2 ^ 64 % w ≡ (2 ^ 64 - w) % w
+remainder-is w l = mod-eq-sub-mod l
+
+module _ (w r : ℕ) where
+  -- 2^64 mod w is below w
+  pub enough-kept : 0 < w → enoughFor w ≤ r → thrownAway (2 ^ 64) w r ≡ false
+  unfolding enoughFor thrownAway
+  enough-kept p h = case (ltb w (2 ^ 60)) (λ q. rw (le-ltb r (2 ^ 64 % w) (omega (arith, mod-lt (2 ^ 64) p, rw q at h)))) (λ q. rw (le-ltb r (2 ^ 64 % w) (rw q at h)))
+
+  pub few-thrown : 2 ^ 60 ≤ w → r < enoughFor w → thrownAway (2 ^ 64) w r ≡ true
+  unfolding enoughFor thrownAway
+  few-thrown l h = rw (lt-ltb r (2 ^ 64 % w) (rw (le-ltb w (2 ^ 60) l) at h))
+
+-- ---- one draw
 
 module _ (limit k w s u r : ℕ) (within : k < limit) (next : u ≡ nextState s) (is : r ≡ mix u) where
   left : limit - k ≡ suc (limit - (k + 1))
   left = omega arith
 
   -- raw number k is kept
-  pub taken-here : 2 ^ 64 % w ≤ r → taken (limit - k) w s ≡ some (r, u)
-  unfolding taken thrownAway raw
-  taken-here h = rw (left, ← next, ← is, le-ltb r (2 ^ 64 % w) h)
+  pub taken-here : not (thrownAway (2 ^ 64) w r) ≡ true → taken (limit - k) w s ≡ some (r, u)
+  unfolding taken raw
+  taken-here h = rw (left, ← next, ← is, eq-false-of-not-eq-true' {a = thrownAway (2 ^ 64) w r} h)
 
   -- raw number k is thrown away
-  pub taken-later : r < 2 ^ 64 % w → taken (limit - k) w s ≡ taken (limit - (k + 1)) w u
-  unfolding taken thrownAway raw
-  taken-later h = rw (left, ← next, ← is, lt-ltb r (2 ^ 64 % w) h)
+  pub taken-later : not (thrownAway (2 ^ 64) w r) ≡ false → taken (limit - k) w s ≡ taken (limit - (k + 1)) w u
+  unfolding taken raw
+  taken-later h = rw (left, ← next, ← is, eq-true-of-not-eq-false' {a = thrownAway (2 ^ 64) w r} h)
 
 -- none is left
 pub taken-nowhere : (limit k w s : ℕ) → limit ≤ k → taken (limit - k) w s ≡ none

@@ -7,8 +7,8 @@ ghost use mathlib.Core.Path.{_≡_};
 ghost use Prim.Native.Nat.{_%_, _<_, _≤_, _^_};
 ghost use lib.ListN.{length};
 ghost use Rattle.shuffle.specs.Outcome.{answerOf};
-ghost use Rattle.promises.specs.Draws.{taken, outcome, draws as promised, drawsOutput};
-ghost use Rattle.draws.specs.Making.{takenOf, firstFailed, AllMade};
+ghost use Rattle.promises.specs.Draws.{thrownAway, taken, outcome, draws as promised, drawsOutput};
+ghost use Rattle.draws.specs.Making.{enoughFor, takenOf, firstFailed, AllMade};
 
 // The raw number that a draw takes and the state after it, if it is made.
 struct Taken {
@@ -16,6 +16,9 @@ struct Taken {
     raw: u64,
     state: u64,
 }
+
+// 2^60.
+const SMALL: u64 = 1152921504606846976;
 
 // Puts z draws from the seed at the first places of the output, each made of at most `limit` raw numbers.
 pub fn draws(n: u64, z: u64, seed: u64, limit: u8, out: &mut [u64]) -> Answered
@@ -71,22 +74,52 @@ fn take(w: u64, s: u64, limit: u8) -> Taken
     requires { ⌜ 0 < w ⌝ }
     ensures { λ r. ⌜ takenOf r ≡ taken limit w s ⌝ }
 {
-    let least = remainder(w);
+    let enough = enough_for(w);
     let mut state = s;
     for k in 0..limit {
         state = splitmix::next_state(state);
         let raw = splitmix::mix(state);
-        if least <= raw {
+        if !is_thrown(raw, w, enough) {
             return Taken { made: true, raw: raw, state: state };
         }
     }
     Taken { made: false, raw: 0, state: state }
 }
 
-// 2^64 mod w: with one w taken off, it fits.
+// A number from which on every raw number is kept: 2^64 mod w, or w itself where that is small. A raw number is hardly ever below it then, and the
+// division is spared.
+fn enough_for(w: u64) -> u64
+    requires { ⌜ 0 < w ⌝ }
+    ensures { λ r. ⌜ r ≡ enoughFor w ⌝ }
+{
+    if w < SMALL {
+        return w;
+    }
+    remainder(w)
+}
+
+// Whether a raw number is thrown away.
+fn is_thrown(raw: u64, w: u64, enough: u64) -> bool
+    requires { ⌜ (0 < w) × (enough ≡ enoughFor w) ⌝ }
+    ensures { λ r. ⌜ r ≡ thrownAway (2 ^ 64) w raw ⌝ }
+{
+    if enough <= raw {
+        return false;
+    }
+    if w < SMALL {
+        return raw < remainder(w);
+    }
+    true
+}
+
+// 2^64 mod w.
 fn remainder(w: u64) -> u64
     requires { ⌜ 0 < w ⌝ }
     ensures { λ r. ⌜ r ≡ 2 ^ 64 % w ⌝ }
 {
-    (18446744073709551615 - (w - 1)) % w
+    let less = 18446744073709551615 - (w - 1);
+    if less < w {
+        return less;
+    }
+    less % w
 }
