@@ -18,7 +18,7 @@ use Rattle.promises.specs.Calls.{outputAfter}
 use Rattle.promises.specs.Demand3.{Calls, Whole}
 use Rattle.promises.specs.Shapes.{Shaped}
 use Rattle.promises.specs.SplitMix.{nextState, raw, advance, raws, mix, mixFirst, mixSecond, mixThird, Vectors}
-use Rattle.promises.specs.Draws.{thrownAway, taken, Outcome, drawn, failed, onto, drawsFrom, outcome, said, made, draws, drawsOutput, drawList, Taken, AllThrown, Chain, DrawsOwed, CompleteFromSeed}
+use Rattle.promises.specs.Draws.{thrownAway, taken, Outcome, drawn, failed, onto, drawsFrom, outcome, said, made, draws, drawsOutput, drawList, Taken, AllThrown, Chain, DrawsOwed, CompleteFromSeed, DrawsExamples}
 use Rattle.promises.proofs.Answers.{valid-places}
 use Rattle.promises.proofs.Buffers.{refused-serves, output-left}
 use Rattle.promises.proofs.Shapes.{checked}
@@ -27,6 +27,10 @@ use Rattle.promises.proofs.FairDraws.{draw-fair}
 pub vectors : Vectors
 unfolding raws raw mix mixFirst mixSecond mixThird nextState
 vectors = record { seed-1234567 = refl }
+
+pub draws-examples : DrawsExamples
+unfolding drawsOutput draws outcome drawsFrom taken thrownAway onto said made outputAfter raw mix mixFirst mixSecond mixThird nextState
+draws-examples = record { five = refl; half-thrown = refl; third-fails = refl; first-fails = refl }
 
 said-shaped : (o : Outcome) → Shaped 0 (said o)
 unfolding said Shaped

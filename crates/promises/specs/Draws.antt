@@ -13,6 +13,7 @@
 --   giving total w v     == how many of `total` raw numbers give v, with w to choose from
 --   DrawsOwed            == what the call owes
 --   CompleteFromSeed     == the shuffle by the draws of a seed is complete
+--   DrawsExamples        == small calls
 -- Checks go 12, 15, 19. Assumes nothing.
 use mathlib.Core.Path.{_≡_}
 use mathlib.Core.Logic.{_↔_}
@@ -140,3 +141,14 @@ CompleteFromSeed C t h L =
     → (ds : List ℕ) → ds ≡ drawList (length L) (length L) seed limit d
     → (Case8·scratch ds scratch → ⊥) → (Case12·draws ds o → ⊥) → Cells C t h cells → Room C t h ds out
     → Complete C t h (length L) ds scratch o cells out
+
+-- small calls, worked out apart from the definitions
+pub record DrawsExamples : Type 0 where
+  -- the remainders of the published vectors by 5, 4, 3, 2 and 1, each after its place; the rest of the output is kept
+  pub five : drawsOutput 5 5 1234567 1 (9 ∷ 9 ∷ 9 ∷ 9 ∷ 9 ∷ 9 ∷ []) ≡ 2 ∷ 2 ∷ 2 ∷ 4 ∷ 4 ∷ 9 ∷ []
+  -- of 2^63 + 8, where nearly half is thrown away: before the four draws one raw number, none, two and one
+  pub half-thrown : drawsOutput 9223372036854775816 4 3 3 (9 ∷ 9 ∷ 9 ∷ 9 ∷ [])
+      ≡ 3694763184872335745 ∷ 2084015055746161915 ∷ 2512858195355979523 ∷ 7170589470788784660 ∷ []
+  -- so with two raw numbers per draw the third can't be made, and with one the first
+  pub third-fails : draws 9223372036854775816 4 3 2 (9 ∷ 9 ∷ 9 ∷ 9 ∷ []) ≡ refused 19 2
+  pub first-fails : draws 9223372036854775816 4 3 1 (9 ∷ 9 ∷ 9 ∷ 9 ∷ []) ≡ refused 19 0
