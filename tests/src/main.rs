@@ -1662,18 +1662,26 @@ fn seeded(tally: &mut Tally, rng: &mut Random, rounds: u64) {
     }
 }
 
-/// Raw numbers just below and at the least one that isn't thrown away, at multiples of w, and at both ends: a seed is worked out that gives such a one to one of
-/// the draws. Where n is so small that no other raw number is thrown away, 19 is expected just where that one is.
+/// Raw numbers just below and at the least one that isn't thrown away, about w and its multiples, and at both ends: a seed is worked out that gives such a one
+/// to one of the draws. Where n is so small that no other raw number is thrown away, 19 is expected just where that one is.
 fn edges(tally: &mut Tally, rng: &mut Random, rounds: u64) {
     for _ in 0..rounds {
         let n = any_n(rng).max(1);
         let z = rng.from_to(1, n.min(9));
         let (i, limit) = (rng.below(z), *rng.pick(&[1, 1, 2, 255]));
         let w = n - i;
-        let least = model::least_kept(w);
-        let multiple = w * rng.from_to(1, u64::MAX / w);
-        let raw =
-            *rng.pick(&[least.saturating_sub(1), least.saturating_sub(1), least, least, least + 1, 0, multiple - 1, multiple, u64::MAX]);
+        let (least, multiple) = (model::least_kept(w), w * rng.from_to(1, u64::MAX / w));
+        let raw = match rng.below(12) {
+            0..=2 => least.saturating_sub(1),
+            3 | 4 => least,
+            5 => least + 1,
+            6 => 0,
+            7 => w - rng.below(2),
+            8 => rng.below(w),
+            9 => multiple,
+            10 => multiple - 1,
+            _ => u64::MAX,
+        };
         let (told, _) = draws(tally, rng, n, z, model::seed_of(i, raw), limit, z as usize);
         if n < 1 << 32 {
             let thrown = raw < least && limit == 1;
