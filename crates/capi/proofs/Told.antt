@@ -11,6 +11,7 @@ use Rattle.promises.specs.Shapes.{Shaped}
 use Rattle.promises.proofs.Shapes.{shapes}
 use Rattle.promises.proofs.Small.{small-owed}
 use Rattle.promises.proofs.Forward.{forward-owed}
+use Rattle.promises.proofs.Draws.{draws-owed}
 use Rattle.capi.specs.Words.{numberOf}
 use Rattle.capi.specs.Told.{CountTold, IndexTold, PlaceTold, Told}
 
@@ -49,4 +50,5 @@ told = record {
   of-small = λ t h is cells out. place-told _ (small-owed t h is cells out .shaped);
   of-index = λ t s cells. index-told _ (shapes .of-index t s cells);
   of-shuffle = λ n ds scratch out. place-told _ (shapes .of-shuffle n ds scratch out);
+  of-draws = λ n z seed limit out. place-told _ (draws-owed n z seed limit out .shaped);
 }

@@ -1,7 +1,7 @@
 -- What a C caller reads in the numbers that it is told, by the words of include/wandukhai.h, and that it reads the call's answer.
 --   readCount n ws   == the answer of Count, from either end, that was told by the number n and the words ws
 --   readIndex n w    == the answer of Index that was told by the number n and the word w
---   readPlace n w    == the answer of Scenarios, on either bench, or Shuffle that was told by the number n and the place w
+--   readPlace n w    == the answer of Scenarios, on either bench, Shuffle or the draws that was told by the number n and the place w
 --   Told             == 0 is returned exactly where a call is served, and what is told is the answer
 -- Assumes nothing.
 use mathlib.Core.Path.{_≡_}
@@ -13,6 +13,7 @@ use Rattle.promises.specs.Answer.{Answer, served, refused, Served, Refuses}
 use Rattle.promises.specs.Calls.{count, scenarios, index, shuffle}
 use Rattle.promises.specs.Small.{small}
 use Rattle.promises.specs.Forward.{forward}
+use Rattle.promises.specs.Draws.{draws}
 use Rattle.capi.specs.Words.{numberOf, wordsOf, wordOf}
 
 -- 'Returned: 0 where the call is served, else the number of refusal, with a place'
@@ -53,3 +54,4 @@ pub record Told : Type 0 where
   pub of-small : (t : List ℕ) (h : ℕ) (is cells out : List ℕ) → PlaceTold (small t h is cells out)
   pub of-index : (t s cells : List ℕ) → IndexTold (index t s cells)
   pub of-shuffle : (n : ℕ) (ds scratch out : List ℕ) → PlaceTold (shuffle n ds scratch out)
+  pub of-draws : (n z seed limit : ℕ) (out : List ℕ) → PlaceTold (draws n z seed limit out)

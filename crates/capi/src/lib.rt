@@ -2,12 +2,14 @@
 use generator::Counted;
 use generator::Indexed;
 use generator::Listed;
-use shuffle::Shuffled;
+use shuffle::Answered;
 ghost use mathlib.Core.Path.{_≡_};
 ghost use Rattle.promises.specs.Calls.{ShuffleKeeps};
 ghost use Rattle.promises.specs.Calls as promised;
 ghost use Rattle.promises.specs.Small.{small, smallOutput, SmallKeeps};
 ghost use Rattle.promises.specs.Forward.{forward, ForwardKeeps};
+ghost use Rattle.promises.specs.Draws.{draws as drawn, drawsOutput};
+ghost use Rattle.shuffle.specs.Outcome.{answerOf};
 ghost use Rattle.generator.specs.Outcomes.{countAnswer, listAnswer};
 ghost use Rattle.capi.specs.Words.{numberOf, wordsOf, wordOf};
 
@@ -154,13 +156,39 @@ pub extern "C" fn wandukhai_shuffle(
     ensures { λ _. ⌜ now (out .exit) ≡ promised.shuffled n (now (draws .entry)) (now (scratch .entry)) (now (out .entry)) ⌝ }
     ensures { λ _. ⌜ ShuffleKeeps n (now (draws .entry)) (now (scratch .entry)) (now (out .entry)) (now (scratch .exit)) ⌝ }
 {
-    let shuffled = generator::shuffle_indices(n, draws, scratch, out);
-    match shuffled {
-        Shuffled::Served => {
+    let answered = generator::shuffle_indices(n, draws, scratch, out);
+    tell_answered(answered, place)
+}
+
+// Draws from a seed. The place is 0 where served.
+#[no_mangle]
+pub extern "C" fn wandukhai_draws(
+    n: u64,
+    z: u64,
+    seed: u64,
+    limit: u8,
+    out: &mut [u64],
+    place: &mut u64,
+) -> u64
+    ensures { λ r. ⌜ r ≡ numberOf (drawn n z seed limit (now (out .entry))) ⌝ }
+    ensures { λ _. ⌜ now (place .exit) ≡ wordOf (drawn n z seed limit (now (out .entry))) ⌝ }
+    ensures { λ _. ⌜ now (out .exit) ≡ drawsOutput n z seed limit (now (out .entry)) ⌝ }
+{
+    let answered = draws::draws(n, z, seed, limit, out);
+    tell_answered(answered, place)
+}
+
+// Tells the answer of a call that shuffles or draws: its number, and the place.
+fn tell_answered(answered: Answered, place: &mut u64) -> u64
+    ensures { λ r. ⌜ r ≡ numberOf (answerOf answered) ⌝ }
+    ensures { λ _. ⌜ now (place .exit) ≡ wordOf (answerOf answered) ⌝ }
+{
+    match answered {
+        Answered::Served => {
             *place = 0;
             0
         }
-        Shuffled::Refused(number, at) => {
+        Answered::Refused(number, at) => {
             *place = at;
             number
         }

@@ -24,8 +24,8 @@ pub use Rattle.promises.proofs.Demand3.{demand-3}
 pub use Rattle.promises.proofs.Refusals.{refusals}
 pub use Rattle.promises.proofs.Buffers.{buffers}
 use Rattle.shuffle.specs.Outcome as shuffling
-use Rattle.shuffle.specs.declared.Shuffled.{Shuffled}
-use Rattle.shuffle.specs.declared.Shuffled.the-variants.{Served as ShuffleServed, Refused as ShuffleRefused}
+use Rattle.shuffle.specs.declared.Answered.{Answered}
+use Rattle.shuffle.specs.declared.Answered.the-variants.{Served as ShuffleServed, Refused as ShuffleRefused}
 use Rattle.generator.specs.Outcomes.{countAnswer, listAnswer, indexAnswer}
 use Rattle.generator.specs.declared.Counted.{Counted}
 use Rattle.generator.specs.declared.Counted.the-variants.{Served as CountServed, Refused as CountRefused}
@@ -53,7 +53,7 @@ unfolding Refuses
 index-refused (IndexRefused m q) (n, p, e) = (m, q, refl)
 index-refused (IndexServed j) (n, p, e) = let z : _≡_ {A = ℕ} 0 1 = cc in absurd (omega arith)
 
-shuffle-served : (a : Shuffled) → Served (shuffling.answerOf a) → a ≡ ShuffleServed
+shuffle-served : (a : Answered) → Served (shuffling.answerOf a) → a ≡ ShuffleServed
 unfolding Served
 shuffle-served ShuffleServed s = refl
 shuffle-served (ShuffleRefused m q) (vs, e) = let z : _≡_ {A = ℕ} 0 1 = cc in absurd (omega arith)
@@ -102,7 +102,7 @@ module _ (t : List ℕ) (h : ℕ) (cells : List ℕ) (s : Sized t h cells) (L : 
 -- ---- Shuffle
 
 -- valid draws are served; what the shuffled indices then give is the field `complete` of demand 3
-pub shuffle-serves : (n : ℕ) (ds scratch out : List ℕ) (a : Shuffled) → shuffling.answerOf a ≡ promised.shuffle n ds scratch out → Shufflable n ds scratch out → a ≡ ShuffleServed
+pub shuffle-serves : (n : ℕ) (ds scratch out : List ℕ) (a : Answered) → shuffling.answerOf a ≡ promised.shuffle n ds scratch out → Shufflable n ds scratch out → a ≡ ShuffleServed
 unfolding generator
 shuffle-serves n ds scratch out a c s = shuffle-served a (rw c (demand-3 .fair n .sampled ds scratch out s .0))
 

@@ -3,7 +3,7 @@ use checks::Checked;
 use checks::Rows;
 use ranking::Ranked;
 use rig::Rig;
-use shuffle::Shuffled;
+use shuffle::Answered;
 ghost use mathlib.Core.Path.{_≡_};
 ghost use Prim.Native.Nat.{_*_, _≤_};
 ghost use lib.ListN.{length};
@@ -155,7 +155,7 @@ pub fn index(text: &[u8], sequence: &[u8], cells: &mut [u64]) -> Indexed
 }
 
 // 'Shuffle: n, a list of z draws, 2 × z scratch numbers, output for z numbers, all 64-bit, n any of them.'
-pub fn shuffle_indices(n: u64, draws: &[u64], scratch: &mut [u64], out: &mut [u64]) -> Shuffled
+pub fn shuffle_indices(n: u64, draws: &[u64], scratch: &mut [u64], out: &mut [u64]) -> Answered
     ensures { λ r. ⌜ shuffleAnswer r ≡ promised.shuffle n (now (draws .entry)) (now (scratch .entry)) (now (out .entry)) ⌝ }
     ensures { λ r. ⌜ now (out .exit) ≡ promised.shuffled n (now (draws .entry)) (now (scratch .entry)) (now (out .entry)) ⌝ }
     ensures { λ _. ⌜ ShuffleKeeps n (now (draws .entry)) (now (scratch .entry)) (now (out .entry)) (now (scratch .exit)) ⌝ }

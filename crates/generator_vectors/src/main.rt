@@ -4,7 +4,7 @@ use generator::Counted;
 use generator::Indexed;
 use generator::Listed;
 use libc::STDOUT_FILENO;
-use shuffle::Shuffled;
+use shuffle::Answered;
 ghost use Prim.Native.Nat.{_≤_};
 ghost use lib.ListN.{length};
 
@@ -360,10 +360,10 @@ fn show_shuffle(n: u64, draws: &[u64]) {
     let mut out = [7u64; 5];
     say(b"shuffle");
     match generator::shuffle_indices(n, draws, &mut scratch[..6], &mut out[..3]) {
-        Shuffled::Served => {
+        Answered::Served => {
             say(b"\tserved");
         }
-        Shuffled::Refused(number, place) => {
+        Answered::Refused(number, place) => {
             say_refusal(number, place);
         }
     }

@@ -25,7 +25,7 @@ use Rattle.promises.specs.Text.{decoded, Readable, Case7, Case8, Case12,
 use Rattle.promises.specs.Meaning.{Belongs, Earlier, Comes}
 use Rattle.promises.specs.Rig.{rigAutomaton, start}
 use Rattle.promises.specs.Calls.{total, counted, count, scenarios, written, index, shuffle}
-use Rattle.promises.specs.Demand3.{Once, Shufflable, block, output, Cells, Room, Gives, None, Whole, Fair, Demand}
+use Rattle.promises.specs.Demand3.{Once, Shufflable, block, output, Cells, Room, Gives, None, EachOnce, Complete, Whole, Fair, Demand}
 use Rattle.promises.specs.Generator.{generator}
 use Rattle.promises.proofs.Meaning.{events-ordered, events-distinct, text-belongs}
 use Rattle.promises.proofs.Order.{comes-lex}
@@ -71,17 +71,6 @@ none-said t h r c7 = record {
     says : (a : Answer) → SaysNone a ↔ (total t h ≡ 0) → SaysNone a ↔ ((w : List ℕ) → Belongs t h w → ⊥)
     says a e = let n = none-belongs t h r in (λ s. n .0 (e .0 s), λ f. e .1 (n .1 f))
 
--- what the shuffled indices give, n of them
-abbrev Complete : List ℕ → ℕ → ℕ → Type 0
-Complete t h n =
-    (ds scratch o cells out : List ℕ) → Shufflable n ds scratch o → length ds ≡ n → (Case8 t h cells → ⊥) → (Case12 h ds out → ⊥)
-    → Served (shuffle n ds scratch o)
-    × ((is : List ℕ) → is ≡ output generator n ds scratch o
-    → (length is ≡ n) × Served (scenarios t h is cells out)
-    × ((k : ℕ) → k < n → Belongs t h (block h k (written t h is cells out)))
-    × ((w : List ℕ) → Belongs t h w → (k : ℕ) × (k < n) × (block h k (written t h is cells out) ≡ w))
-    × ((j k : ℕ) → j < n → k < n → block h j (written t h is cells out) ≡ block h k (written t h is cells out) → j ≡ k))
-
 module _ (t : List ℕ) (h : ℕ) (r : Readable t) (c7 : Case7 h → ⊥) (ge : 1 ≤ total t h) (lt : total t h < most) where
   belongs-ranked : (w : List ℕ) → Belongs t h w → (rank (rigAutomaton t) (start t) w < total t h) × (unrank (rigAutomaton t) h (start t) (rank (rigAutomaton t) (start t) w) ≡ w)
   unfolding total
@@ -99,18 +88,15 @@ module _ (t : List ℕ) (h : ℕ) (r : Readable t) (c7 : Case7 h → ⊥) (ge : 
   unfolding total
   in-order i j l k = rw comes-lex (index-order (rigAutomaton t) (Earlier (decoded t)) (events-ordered t r) h (start t) i j l k)
 
-  complete-at : Complete t h (total t h)
-  unfolding Served Case12
-  complete-at ds scratch o cells out v l c8 c12 = (([], shuffle-served (total t h) ds scratch o v), λ is q. for is (q ∙ output-is (total t h) ds scratch o v))
+  complete-at : (ds scratch o cells out : List ℕ) → Shufflable (total t h) ds scratch o → length ds ≡ total t h → (Case8 t h cells → ⊥) → (Case12 h ds out → ⊥)
+      → Complete generator t h (total t h) ds scratch o cells out
+  unfolding Served Case12 generator
+  complete-at ds scratch o cells out v l c8 c12 = (([], shuffle-served (total t h) ds scratch o v), for (output generator (total t h) ds scratch o) (output-is (total t h) ds scratch o v))
     where
       valid : Valid (total t h) 0 ds
       valid = valid-draws (total t h) ds (v .valid)
 
-      for : (is : List ℕ) → is ≡ swapping.shuffle ds
-          → (length is ≡ total t h) × Served (scenarios t h is cells out)
-          × ((k : ℕ) → k < total t h → Belongs t h (block h k (written t h is cells out)))
-          × ((w : List ℕ) → Belongs t h w → (k : ℕ) × (k < total t h) × (block h k (written t h is cells out) ≡ w))
-          × ((j k : ℕ) → j < total t h → k < total t h → block h j (written t h is cells out) ≡ block h k (written t h is cells out) → j ≡ k)
+      for : (is : List ℕ) → is ≡ swapping.shuffle ds → EachOnce generator t h (total t h) is cells out
       for is q = (
         long,
         ([], s),
@@ -152,7 +138,7 @@ module _ (t : List ℕ) (h : ℕ) (r : Readable t) (c7 : Case7 h → ⊥) (ge : 
     ordered = λ i j v w l m f g. let m′ : j < total t h = rw q at m in rw (gives-only t h r c7 ge lt i v (omega arith) f, gives-only t h r c7 ge lt j w m′ g) (in-order i j l m′);
     indexed = λ w cells c8 b. let (l, u) = belongs-ranked w b in (rank (rigAutomaton t) (start t) w, rw q l, subst (Gives generator t h (rank (rigAutomaton t) (start t) w)) u (gives-scenario t h r c7 ge lt (rank (rigAutomaton t) (start t) w) l), told w cells c8 b);
     others = λ s cells c8 l n. refuses s cells c8 l n;
-    complete = subst (Complete t h) (sym q) complete-at;
+    complete = rw q complete-at;
   }
     where
       stays : (w : List ℕ) → Belongs t h w → Stays (rigAutomaton t) (start t) w

@@ -30,5 +30,7 @@ pub mod Buffers
 pub mod Shapes
 pub mod Small
 pub mod Forward
+pub mod FairDraws
+pub mod Draws
 pub mod Known
 pub mod Wrong

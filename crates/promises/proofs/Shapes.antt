@@ -19,7 +19,7 @@ use Rattle.promises.specs.Calls.{firstBad, unlessAt, sizedFor, totalRows
 use Rattle.promises.specs.Generator.{generator}
 use Rattle.promises.specs.Shapes.{Shaped, Shapes}
 
-checked : (m n p : ℕ) (bad : Bool) (a : Answer) → (bad ≡ true → n ≢ 0) → Shaped m a → Shaped m (unless n p bad a)
+pub checked : (m n p : ℕ) (bad : Bool) (a : Answer) → (bad ≡ true → n ≢ 0) → Shaped m a → Shaped m (unless n p bad a)
 unfolding Shaped
 checked m n p true a ne s = ne refl
 checked m n p false a ne s = s

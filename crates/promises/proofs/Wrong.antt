@@ -28,7 +28,7 @@ use Rattle.promises.specs.Rig.{rigAutomaton, start}
 use Rattle.promises.specs.Answer.{served, refused, Served, SaysNone}
 use Rattle.promises.specs.Meaning.{Belongs, Earlier, Comes}
 use Rattle.promises.specs.Calls.{fills, outputAfter, total, count, scenarios, written}
-use Rattle.promises.specs.Demand3.{Calls, ValidDraws, Shufflable, block, output, Cells, Room, Gives, Whole, Demand}
+use Rattle.promises.specs.Demand3.{Calls, ValidDraws, Shufflable, block, output, Cells, Room, Gives, EachOnce, Whole, Demand}
 use Rattle.promises.specs.Demand2.{Traced, Demand2}
 use Rattle.promises.specs.Refusals.{Sized}
 use Rattle.promises.specs.Generator.{generator}
@@ -259,7 +259,7 @@ full C d = go (whole A 3 5 (lent 8) known-A C d)
         let (s, f) = w .complete (fours 5) (lent 10) (lent 5) (lent 8) (lent 15) (same-valid 5 4 (length L) (omega arith) (omega arith)) (sym e) (known-A .fits .room) (λ c. omega arith) in
         record {
           serves = subst (λ n. Served (C .shuffle n (fours 5) (lent 10) (lent 5))) e s;
-          differ = λ is q. let (l, r, a, b, c) = f is (rw e q) in (r, λ same. let z : _≡_ {A = ℕ} 0 1 = c 0 1 (omega arith) (omega arith) same in omega arith);
+          differ = λ is q. let (l, r, a, b, c) = subst (λ i. EachOnce C A 3 5 i (lent 8) (lent 15)) (sym q) (rw e at f) in (r, λ same. let z : _≡_ {A = ℕ} 0 1 = c 0 1 (omega arith) (omega arith) same in omega arith);
         }
 
 scratch-rejected : (more : ℕ) → Demand (eightOfScratch more) → ⊥
@@ -307,7 +307,7 @@ each-once t h L w = record {
   others = w .others;
   complete = λ ds scratch o cells out v l c8 c12. (
     w .complete ds scratch o cells out v l c8 c12 .0,
-    λ is q. w .complete (range (length ds)) scratch o cells out (in-order ds scratch o v l) (length-range (length ds) ∙ l) c8 (rw (length-range (length ds)) c12) .1 is (rw (length-range (length ds)) q),
+    rw (length-range (length ds)) at (w .complete (range (length ds)) scratch o cells out (in-order ds scratch o v l) (length-range (length ds) ∙ l) c8 (rw (length-range (length ds)) c12) .1),
   );
 }
   where

@@ -7,6 +7,8 @@
 --   output C n ds scratch out   == what Shuffle puts out: as many numbers as there are draws
 --   Gives C t h i w             == the index i gives the sequence w
 --   None C t h                  == 'None' is said exactly when no sequence belongs
+--   EachOnce C t h n is cells out == the scenarios of a list of n indices are every belonging sequence exactly once
+--   Complete C t h n ds scratch o cells out == so are those of the indices that the draws ds shuffle
 --   Whole C t h L               == what holds where the sequences of L, each once, are those that belong
 --   Fair C n                    == any different numbers below n are the output of exactly one valid draw list (02 no. 10)
 --   Demand C                    == demand 3
@@ -77,6 +79,20 @@ module _ (C : Calls) where
       pub by-index : (s cells : List ℕ) → Cells cells → length s ≡ h → ((p : ℕ) → Case13 t s p → ⊥)
           → SaysNone (index t s cells) ↔ ((w : List ℕ) → Belongs t h w → ⊥)
 
+    -- the scenarios of the list `is` are n, 'every belonging sequence exactly once': served, each block belongs, each that belongs is a block, and no
+    -- two blocks are equal
+    abbrev pub EachOnce : ℕ → List ℕ → List ℕ → List ℕ → Type 0
+    EachOnce n is cells out =
+        (length is ≡ n) × Served (scenarios t h is cells out)
+        × ((k : ℕ) → k < n → Belongs t h (block h k (written t h is cells out)))
+        × ((w : List ℕ) → Belongs t h w → (k : ℕ) × (k < n) × (block h k (written t h is cells out) ≡ w))
+        × ((j k : ℕ) → j < n → k < n → block h j (written t h is cells out) ≡ block h k (written t h is cells out) → j ≡ k)
+
+    -- the draws are served, and so are the indices that they shuffle: 'The shuffled indices are the first n numbers of Shuffle's output'; 'Unchanged,
+    -- they are the list of a Scenarios call with the same text and h.'
+    abbrev pub Complete : ℕ → List ℕ → List ℕ → List ℕ → List ℕ → List ℕ → Type 0
+    Complete n ds scratch o cells out = Served (shuffle n ds scratch o) × EachOnce n (output n ds scratch o) cells out
+
     pub record Whole (L : List (List ℕ)) : Type 0 where
       -- 'the count is their number'
       pub counted : (cells : List ℕ) → Cells cells → (passes : ℕ) × (count t h cells ≡ served (length L ∷ passes ∷ []))
@@ -92,16 +108,9 @@ module _ (C : Calls) where
       -- 'the index call answers each with its index and refuses every other of that length'
       pub indexed : (w cells : List ℕ) → Cells cells → Belongs t h w → (i : ℕ) × (i < length L) × Gives i w × (index t w cells ≡ served (i ∷ []))
       pub others : (s cells : List ℕ) → Cells cells → length s ≡ h → (Belongs t h s → ⊥) → Refuses (index t s cells)
-      -- 'for any valid draws, as many as the count, the scenarios of the shuffled indices are every belonging sequence exactly once': served,
-      -- each block belongs, each that belongs is a block, and no two blocks are equal. 'The shuffled indices are the first n numbers of
-      -- Shuffle's output'; 'Unchanged, they are the list of a Scenarios call with the same text and h.'
+      -- 'for any valid draws, as many as the count, the scenarios of the shuffled indices are every belonging sequence exactly once'
       pub complete : (ds scratch o cells out : List ℕ) → Shufflable (length L) ds scratch o → length ds ≡ length L → Cells cells → Room ds out
-          → Served (shuffle (length L) ds scratch o)
-          × ((is : List ℕ) → is ≡ output (length L) ds scratch o
-          → (length is ≡ length L) × Served (scenarios t h is cells out)
-          × ((n : ℕ) → n < length L → Belongs t h (block h n (written t h is cells out)))
-          × ((w : List ℕ) → Belongs t h w → (n : ℕ) × (n < length L) × (block h n (written t h is cells out) ≡ w))
-          × ((m n : ℕ) → m < length L → n < length L → block h m (written t h is cells out) ≡ block h n (written t h is cells out) → m ≡ n))
+          → Complete (length L) ds scratch o cells out
 
   -- 02 no. 10, 'for part lists as well as full ones'
   pub record Fair (n : ℕ) : Type 0 where

@@ -15,6 +15,8 @@ pub mod Generator
 pub mod Shapes
 pub mod Small
 pub mod Forward
+pub mod SplitMix
+pub mod Draws
 pub mod Examples
 pub mod Starred
 pub mod Starts

@@ -3,9 +3,9 @@
 -- Assumes nothing.
 use mathlib.Core.List.{[]}
 use Rattle.promises.specs.Answer.{Answer, served, refused}
-use Rattle.shuffle.specs.declared.Shuffled.{Shuffled}
-use Rattle.shuffle.specs.declared.Shuffled.the-variants.{Served, Refused}
+use Rattle.shuffle.specs.declared.Answered.{Answered}
+use Rattle.shuffle.specs.declared.Answered.the-variants.{Served, Refused}
 
-abbrev pub answerOf : Shuffled → Answer
+abbrev pub answerOf : Answered → Answer
 answerOf Served = served []
 answerOf (Refused number place) = refused number place

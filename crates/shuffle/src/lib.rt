@@ -17,31 +17,31 @@ ghost use Rattle.shuffle.specs.Buckets.{spread, bucketOf};
 ghost use Rattle.shuffle.specs.Places.{drawn, latestStep, multiple, chained, moved, Linked, Walkable, Held, Prepared, Kept};
 
 // Served, or refused with a number and a place.
-pub enum Shuffled {
+pub enum Answered {
     Served,
     Refused(u64, u64),
 }
 
 // Swaps the numbers at i and at draw i, for each draw, and puts out the number that comes to i. Draws and room are checked before
 // anything is written.
-pub fn shuffle(n: u64, draws: &[u64], scratch: &mut [u64], out: &mut [u64]) -> Shuffled
+pub fn shuffle(n: u64, draws: &[u64], scratch: &mut [u64], out: &mut [u64]) -> Answered
     ensures { λ r. ⌜ answerOf r ≡ promised n (now (draws .entry)) (now (scratch .entry)) (now (out .entry)) ⌝ }
     ensures { λ r. ⌜ now (out .exit) ≡ promisedOutput n (now (draws .entry)) (now (scratch .entry)) (now (out .entry)) ⌝ }
     ensures { λ _. ⌜ ShuffleKeeps n (now (draws .entry)) (now (scratch .entry)) (now (out .entry)) (now (scratch .exit)) ⌝ }
 {
     let z = draws.len();
     if scratch.len() / 2 < z {
-        return Shuffled::Refused(8, 0);
+        return Answered::Refused(8, 0);
     }
     if out.len() < z {
-        return Shuffled::Refused(12, 0);
+        return Answered::Refused(12, 0);
     }
     let bad = first_bad(n, draws);
     if bad < z {
-        return Shuffled::Refused(15, bad as u64);
+        return Answered::Refused(15, bad as u64);
     }
     serve(n, draws, scratch, out);
-    Shuffled::Served
+    Answered::Served
 }
 
 // The position of the first draw that is out of range, or the number of draws.

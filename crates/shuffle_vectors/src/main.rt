@@ -1,6 +1,6 @@
 // Runs the shuffle on small lists of draws and on lists of 1,000, and writes what it answers and leaves. Scratch begins with 7 everywhere
 // and output with 9, so that what is kept shows.
-use shuffle::Shuffled;
+use shuffle::Answered;
 
 fn main() {
     let again = [4u64, 4, 4];
@@ -112,13 +112,13 @@ fn show(n: u64, draws: &[u64], scratch: &mut [u64], out: &mut [u64]) {
 }
 
 // The answer, and how many scratch numbers still are 7: all of them after a refusal, else those past twice the draws.
-fn answer(r: Shuffled, draws: &[u64], scratch: &[u64]) {
+fn answer(r: Answered, draws: &[u64], scratch: &[u64]) {
     match r {
-        Shuffled::Served => {
+        Answered::Served => {
             io::write_all(1, b" served kept");
             number(sevens(scratch, 2 * draws.len()));
         }
-        Shuffled::Refused(refusal, place) => {
+        Answered::Refused(refusal, place) => {
             io::write_all(1, b" no");
             number(refusal);
             number(place);
