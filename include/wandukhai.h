@@ -1,4 +1,4 @@
-/* Wandukhai: counts the scenarios of a rig, turns indices into scenarios and back, and shuffles indices.
+/* Wandukhai: counts the scenarios of a rig, turns indices into scenarios and back, and shuffles indices by draws, which it makes from a seed.
  *
  * Link with libcapi.a (`rt staticlib capi` writes target/staticlib/libcapi.a, for x86-64). The functions keep no state, allocate nothing,
  * and end on any input. How much stack each uses is stated below, as WANDUKHAI_..._STACK.
@@ -62,15 +62,17 @@
  *    9  N is 0: no scenario of this horizon
  *   10  N is 18,446,744,073,709,551,615 or more
  *   11  index not below N                                                        place: position in the list, from 0
- *   12  out_len below indices_len * h, or below draws_len
+ *   12  out_len below indices_len * h, below draws_len, or below z
  *   13  event byte E or more                                                     place: position in the sequence, from 0
  *   14  the sequence is no scenario                                              place: the first event that is not admitted or leads to a
  *                                                                                state not live, from 0
  *   15  draw i not from i to n-1                                                 place: position, from 0
+ *       z over n                                                                 place: n
  *   16  an event named twice in `ord`                                            place: line
  *   17  a equals b in `reply`                                                    place: line
  *   18  a not below b in `open`                                                  place: line
- * Checks go in the order 1, 2 to 6 and 16 to 18 line by line (on one line 2, 5, 3, 16, 17 or 18, 4, 6), 7, 8, 12, 13, 9, 10, 11, 14, 15.
+ *   19  all raw numbers of a draw thrown away; with limit 0 that is draw 0       place: the first such draw, from 0
+ * Checks go in the order 1, 2 to 6 and 16 to 18 line by line (on one line 2, 5, 3, 16, 17 or 18, 4, 6), 7, 8, 12, 13, 9, 10, 11, 14, 15, 19.
  */
 #ifndef WANDUKHAI_H
 #define WANDUKHAI_H
@@ -90,6 +92,7 @@ extern "C" {
 #define WANDUKHAI_SCENARIOS_SMALL_STACK 73728
 #define WANDUKHAI_INDEX_STACK 57344
 #define WANDUKHAI_SHUFFLE_STACK 4096
+#define WANDUKHAI_DRAWS_STACK 4096
 
 /* Counts the scenarios of h events.
  * cells: at least (h + 1) * P numbers. Served or refused with 9 or 10, the cell at r * P + x holds the number of admitted sequences of r
@@ -137,9 +140,20 @@ uint64_t wandukhai_index(const uint8_t *text, size_t text_len, const uint8_t *se
  * out: at least draws_len numbers; those past draws_len are kept, and all of them after a refusal.
  * place: 0 where served, else the place.
  * Any different numbers below n, in any order, come out for exactly one list of valid draws: uniform and independent draws, which the caller
- * has to see to, give a uniform sample. */
+ * has to see to, give a uniform sample. wandukhai_draws makes valid draws from a seed. */
 uint64_t wandukhai_shuffle(uint64_t n, const uint64_t *draws, size_t draws_len, uint64_t *scratch, size_t scratch_len, uint64_t *out,
                            size_t out_len, uint64_t *place);
+
+/* Makes z draws for wandukhai_shuffle from a seed; z is at most n. The same n and seed give the same draws: fewer draws are the first of more,
+ * and a limit that serves them changes none.
+ * The raw numbers are those of SplitMix64: the state, 64 bits, begins as the seed; each raw number adds 9E3779B97F4A7C15 (hexadecimal) to it,
+ * modulo 2^64, and mixes a copy. The state goes on from draw to draw. For draw i, with w = n - i, a raw number below 2^64 mod w is thrown away;
+ * the first other one gives the draw: i plus that number mod w. So each number from i to n-1 is the draw for equally many raw numbers. That
+ * the raw numbers of a seed are uniform or independent is not said.
+ * limit: the most raw numbers for one draw. Of all raw numbers less than half are thrown away, whatever w is: with 255 no 19 is to be expected.
+ * out: at least z numbers, of which the first z become the draws; those past z are kept, and all of them after a refusal.
+ * place: 0 where served, else the place. */
+uint64_t wandukhai_draws(uint64_t n, uint64_t z, uint64_t seed, uint8_t limit, uint64_t *out, size_t out_len, uint64_t *place);
 
 #ifdef __cplusplus
 }

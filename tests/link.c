@@ -1,5 +1,5 @@
-/* Counts the scenarios of a rig, with two rows of cells and with all; lists them in a shuffled order, each with its index and its events; and
- * one of a longer horizon, with fewer rows of cells. */
+/* Counts the scenarios of a rig, with two rows of cells and with all; lists them in an order shuffled from a seed, each with its index and its
+ * events; and one of a longer horizon, with fewer rows of cells. */
 #include <stdio.h>
 #include <string.h>
 #include "wandukhai.h"
@@ -34,9 +34,9 @@ int main(void)
     const char *rig = "rig\t2\ngap\t1\t2\nbal\t-2\t0\namp\t1\t-1\n";
     const uint8_t *text = (const uint8_t *)rig;
     const size_t len = strlen(rig);
-    /* Draw i is from i to N-1; a real caller draws them at random. */
-    const uint64_t draws[MOST] = {4, 2, 4, 3, 4};
-    uint64_t cells[CELLS], few_cells[FEW_CELLS], scratch[2 * MOST], order[MOST], answer[2], place, index;
+    /* The same seed gives the same list; a real caller takes another for another list. */
+    const uint64_t seed = 1234567;
+    uint64_t cells[CELLS], few_cells[FEW_CELLS], draws[MOST], scratch[2 * MOST], order[MOST], answer[2], place, index;
     uint8_t events[MOST * HORIZON], long_events[LONG];
     size_t i;
 
@@ -44,7 +44,9 @@ int main(void)
         return 1;
     if (print_count(wandukhai_count(text, len, HORIZON, cells, CELLS, answer), answer) != 0)
         return 1;
-    if (answer[0] > MOST || wandukhai_shuffle(answer[0], draws, answer[0], scratch, 2 * MOST, order, MOST, &place) != 0)
+    if (answer[0] > MOST || wandukhai_draws(answer[0], answer[0], seed, 255, draws, MOST, &place) != 0)
+        return 1;
+    if (wandukhai_shuffle(answer[0], draws, answer[0], scratch, 2 * MOST, order, MOST, &place) != 0)
         return 1;
     if (wandukhai_scenarios(text, len, HORIZON, order, answer[0], cells, CELLS, events, sizeof events, &place) != 0)
         return 1;

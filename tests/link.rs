@@ -1,5 +1,5 @@
-//! Counts the scenarios of a rig, with two rows of cells and with all; lists them in a shuffled order, each with its index and its events; and
-//! one of a longer horizon, with fewer rows of cells.
+//! Counts the scenarios of a rig, with two rows of cells and with all; lists them in an order shuffled from a seed, each with its index and its
+//! events; and one of a longer horizon, with fewer rows of cells.
 extern "C" {
     fn wandukhai_count(text: *const u8, len: usize, h: u64, cells: *mut u64, cells_len: usize, answer: *mut u64) -> u64;
     fn wandukhai_count_forward(text: *const u8, len: usize, h: u64, cells: *mut u64, cells_len: usize, answer: *mut u64) -> u64;
@@ -15,6 +15,7 @@ extern "C" {
         n: u64, draws: *const u64, draws_len: usize, scratch: *mut u64, scratch_len: usize,
         out: *mut u64, out_len: usize, place: *mut u64,
     ) -> u64;
+    fn wandukhai_draws(n: u64, z: u64, seed: u64, limit: u8, out: *mut u64, out_len: usize, place: *mut u64) -> u64;
 }
 
 type Count = unsafe extern "C" fn(*const u8, usize, u64, *mut u64, usize, *mut u64) -> u64;
@@ -39,6 +40,13 @@ fn scenarios(call: Scenarios, text: &[u8], h: u64, list: &[u64], cells: &mut [u6
     if number == 0 { Ok(()) } else { Err((number, place)) }
 }
 
+/// Fills `out` with draws of n numbers.
+fn draws(n: u64, seed: u64, limit: u8, out: &mut [u64]) -> Result<(), (u64, u64)> {
+    let mut place = 0;
+    let number = unsafe { wandukhai_draws(n, out.len() as u64, seed, limit, out.as_mut_ptr(), out.len(), &mut place) };
+    if number == 0 { Ok(()) } else { Err((number, place)) }
+}
+
 fn shuffle(n: u64, draws: &[u64], scratch: &mut [u64], out: &mut [u64]) -> Result<(), (u64, u64)> {
     let mut place = 0;
     let number = unsafe {
@@ -60,10 +68,11 @@ fn main() -> Result<(), (u64, u64)> {
     let mut cells = vec![0; (h + 1) * states];
     let (n, passes) = count(wandukhai_count, rig, h as u64, &mut cells)?;
     println!("count\t{n}\t{passes}");
-    // Draw i is from i to n - 1; a real caller draws them at random.
-    let draws = [4, 2, 4, 3, 4];
-    let mut order = vec![0; draws.len()];
-    shuffle(n, &draws, &mut vec![0; 2 * draws.len()], &mut order)?;
+    // The same seed gives the same list; a real caller takes another for another list.
+    let (seed, all) = (1234567, n as usize);
+    let (mut drawn, mut order) = (vec![0; all], vec![0; all]);
+    draws(n, seed, 255, &mut drawn)?;
+    shuffle(n, &drawn, &mut vec![0; 2 * all], &mut order)?;
     let mut events = vec![0; order.len() * h];
     scenarios(wandukhai_scenarios, rig, h as u64, &order, &mut cells, &mut events)?;
     for (&index, scenario) in order.iter().zip(events.chunks(h)) {

@@ -10,12 +10,15 @@
 
 enum { EVENTS = 16, S = 32, HORIZON = 1000, CELLS = (HORIZON + 1) * S * S, TWO_ROWS = 2 * S * S, FEW_CELLS = (HORIZON / 16 + 16) * S * S };
 enum { INDICES = 2100, DRAWS = 100000 };
+/* Just above 2^63: nearly half of all raw numbers are thrown away. */
+#define HALF (UINT64_MAX / 2 + DRAWS)
 enum { GUARD = 1 << 16, STACK = 1 << 20, PATTERN = 0xA5 };
 
 static char text[65535];
 static uint64_t cells[CELLS], answer[2], indices[INDICES], draws[DRAWS], scratch[2 * DRAWS], out[DRAWS], number;
 static uint8_t events[INDICES * HORIZON];
 static uint64_t n;
+static uint8_t limit;
 
 /* Two monitors of 32 states that admit every event in every state, but none in the last of the first; all the others are marked. In the first
  * only events 14 and 15 lead on for ever, 14 once: N is h + 1; or, where `many`, all of them do: N is 16 ^ h. */
@@ -113,6 +116,11 @@ static void shuffle(void)
     number = wandukhai_shuffle(n, draws, DRAWS, scratch, 2 * DRAWS, out, DRAWS, answer);
 }
 
+static void draw(void)
+{
+    number = wandukhai_draws(n, DRAWS, 1, limit, draws, DRAWS, answer);
+}
+
 /* Where the stack begins for the call. */
 static unsigned char *top;
 
@@ -159,7 +167,7 @@ static int keeps(const char *name, long most, long stated)
 
 int main(void)
 {
-    long counted, counted_forward, listed, listed_small, found, shuffled;
+    long counted, counted_forward, listed, listed_small, found, shuffled, drawn;
     int good = 1;
     size_t i;
 
@@ -187,11 +195,18 @@ int main(void)
     for (i = 0; i < DRAWS; i++)
         draws[i] = UINT64_MAX - 1 - (i * 7919) % 1000;
     shuffled = more(shuffled, used(shuffle, 0));
+    limit = 255;
+    drawn = used(draw, 0);
+    n = HALF;
+    drawn = more(drawn, used(draw, 0));
+    limit = 10;
+    drawn = more(drawn, used(draw, 19));
     good &= keeps("wandukhai_count", counted, WANDUKHAI_COUNT_STACK);
     good &= keeps("wandukhai_count_forward", counted_forward, WANDUKHAI_COUNT_FORWARD_STACK);
     good &= keeps("wandukhai_scenarios", listed, WANDUKHAI_SCENARIOS_STACK);
     good &= keeps("wandukhai_scenarios_small", listed_small, WANDUKHAI_SCENARIOS_SMALL_STACK);
     good &= keeps("wandukhai_index", found, WANDUKHAI_INDEX_STACK);
     good &= keeps("wandukhai_shuffle", shuffled, WANDUKHAI_SHUFFLE_STACK);
+    good &= keeps("wandukhai_draws", drawn, WANDUKHAI_DRAWS_STACK);
     return good ? 0 : 1;
 }

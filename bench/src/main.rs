@@ -1,6 +1,6 @@
 //! How long the calls take beside plain Rust and plain C on the same input, in the same run: the best of some rounds, taken in turn. Buffers are
 //! lent as the round before left them. Every answer is compared. And how long the forward count takes beside Count, the small scenarios call beside the
-//! other one, and `gap`, `reply`, `bal` and `day` lines to read beside the moves they stand for.
+//! other one, and `gap`, `reply`, `bal` and `day` lines to read beside the moves they stand for; and how long one draw takes, by n.
 mod plain;
 
 use outside::texts::{chain, lower_first, slow_growth, written_out, End};
@@ -286,6 +286,35 @@ fn growths() {
     growth("random, of 2^64 - 1, a map", &mut map, &most, &mut random);
 }
 
+/// Best nanoseconds a draw for 10^6 draws from a seed, of ours, plain Rust and plain C, and the ratios of the first to the others. The others write as they
+/// go; ours keeps its output where it refuses.
+fn drawing(name: &str, n: u64) {
+    let (z, seed, limit) = (1_000_000, 20_261_117, 255);
+    let [mut a, mut b, mut c] = [(); 3].map(|_| vec![0; z]);
+    let times = best(
+        20,
+        &mut [
+            &mut || assert!(calls::draws(n, z as u64, seed, limit, &mut a).number == 0),
+            &mut || assert!(plain::draws(n, seed, limit, &mut b)),
+            &mut || assert!(plain::c_draws(n, seed, limit, &mut c)),
+        ],
+    );
+    assert!(a == b && a == c);
+    let ns: String = times.iter().map(|t| format!(" {:6.2}", t * 1e6 / z as f64)).collect();
+    println!("{name:58}{ns} {:7.2} {:7.2}", times[0] / times[1], times[0] / times[2]);
+}
+
+fn drawings() {
+    println!("\n{:58} {:>6} {:>6} {:>6} {:>7} {:>7}", "10^6 draws from a seed, ns a draw", "ours", "Rust", "C", "/ Rust", "/ C");
+    drawing("of 10^6", 1_000_000);
+    drawing("of 2^32", 1 << 32);
+    drawing("of 2^61 + 12,345", (1 << 61) + 12_345);
+    drawing("of 3 * 2^61, a quarter of raw numbers thrown away", 3 << 61);
+    drawing("of 2^63 + 1,000,001, half thrown away", (1 << 63) + 1_000_001);
+    drawing("of 3 * 2^62, a quarter thrown away", 3 << 62);
+    drawing("of 2^64 - 1", u64::MAX);
+}
+
 /// Best microseconds that reading takes, of `gap`, `reply`, `bal` and `day` lines and of the same monitors as `mon`, `go` and `stop` lines. The horizon 1,001
 /// is refused once the text is read, so nothing else is timed.
 fn reading(name: &str, rules: &str) {
@@ -372,4 +401,5 @@ fn main() {
     smalls(rng);
     readings();
     growths();
+    drawings();
 }

@@ -1,4 +1,4 @@
-//! Safe wrappers of the six C functions of include/wandukhai.h, and of the line writer's in crate `line_capi`: slices are valid, non-null
+//! Safe wrappers of the seven C functions of include/wandukhai.h, and of the line writer's in crate `line_capi`: slices are valid, non-null
 //! also when empty, and don't overlap.
 
 extern "C" {
@@ -47,10 +47,11 @@ extern "C" {
         out_len: usize,
         place: *mut u64,
     ) -> u64;
+    fn wandukhai_draws(n: u64, z: u64, seed: u64, limit: u8, out: *mut u64, out_len: usize, place: *mut u64) -> u64;
     fn wandukhai_line(index: u64, events: *const u8, events_len: usize, out: *mut u8, out_len: usize) -> usize;
 }
 
-/// What a function returns and the words it writes beside. Both scenarios calls, Index and Shuffle write one word: the second is 0.
+/// What a function returns and the words it writes beside. Both scenarios calls, Index, Shuffle and Draws write one word: the second is 0.
 #[derive(Clone, Copy, Debug, PartialEq, Eq)]
 pub struct Told {
     pub number: u64,
@@ -118,6 +119,10 @@ pub fn shuffle(n: u64, draws: &[u64], scratch: &mut [u64], out: &mut [u64]) -> T
     told::<1>(|place| unsafe {
         wandukhai_shuffle(n, draws.as_ptr(), draws.len(), scratch.as_mut_ptr(), scratch.len(), out.as_mut_ptr(), out.len(), place)
     })
+}
+
+pub fn draws(n: u64, z: u64, seed: u64, limit: u8, out: &mut [u64]) -> Told {
+    told::<1>(|place| unsafe { wandukhai_draws(n, z, seed, limit, out.as_mut_ptr(), out.len(), place) })
 }
 
 /// The length of the line that is written at the front of `out`, 0 where `out` is too short for every such line.

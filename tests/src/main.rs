@@ -50,6 +50,10 @@ struct Tally {
     /// How many horizons of rigs have fewer scenarios than 2^64 - 1, and how many have none, where a shorter horizon has that many or more.
     fewer: u64,
     gone: u64,
+    /// How many Draws calls were served with raw numbers thrown away.
+    thrown: u64,
+    /// By place, that from 8 on as 8: how many Draws calls were refused 19 there.
+    ended: BTreeMap<u64, u64>,
 }
 
 impl Tally {
@@ -211,6 +215,23 @@ fn shuffle(tally: &mut Tally, rng: &mut Random, n: u64, draws: &[u64], scratch: 
         format!("n {n}, {} draws {:?}, {scratch} scratch, {out} output", draws.lent().len(), &draws.lent()[..draws.lent().len().min(20)])
     });
     out_now.lent().to_vec()
+}
+
+/// Compares one Draws call, and gives back what is expected of it and the output as the library left it. Where it is served, the draws are valid.
+fn draws(tally: &mut Tally, rng: &mut Random, n: u64, z: u64, seed: u64, limit: u8, out: usize) -> (Refusal, Vec<u64>) {
+    let was = any_words(out, rng);
+    let mut now = was.clone();
+    let told = calls::draws(n, z, seed, limit, now.lend());
+    let ((number, place), want) = model::draws(n, z, seed, limit, was.lent());
+    let valid = number != 0 || now.lent().iter().zip(0..z).all(|(d, i)| (i..n).contains(d));
+    let wrong = told_differs(told, number, [place, 0])
+        .or(named("output", &now, &was, &want, 0))
+        .or((!valid).then(|| "a draw that isn't valid".into()));
+    tally.note("draws", number, wrong, || format!("n {n}, {z} draws, seed {seed}, limit {limit}, {out} output"));
+    if number == 19 {
+        *tally.ended.entry(place.min(8)).or_default() += 1;
+    }
+    ((number, place), now.lent().to_vec())
 }
 
 /// The worked examples of the paper and of its table of refusals, with the answers written there.
@@ -869,6 +890,60 @@ fn worked_forward(tally: &mut Tally, rng: &mut Random) {
     }
 }
 
+/// Worked examples of Draws: no draws are served whatever the rest; 12 before 15, 15 before 19. And every limit with a seed of which 33 raw numbers in a row
+/// are below 2^63 - 1, the first ones, so that draw 0 of 2^63 + 1 numbers throws them away.
+fn worked_draws(tally: &mut Tally, rng: &mut Random) {
+    let (half, long, thrown) = ((1 << 63) + 1, 8023464001174401705, 33);
+    for (n, z, seed, limit, out, number, place) in [
+        (0, 0, 0, 0, 0, 0, 0),
+        (0, 0, 7, 255, 3, 0, 0),
+        (5, 0, 7, 0, 3, 0, 0),
+        (u64::MAX, 0, u64::MAX, 0, 0, 0, 0),
+        (5, 5, 7, 1, 5, 0, 0),
+        (5, 5, 7, 1, 4, 12, 0),
+        (5, 6, 7, 1, 6, 15, 5),
+        (5, 6, 7, 1, 5, 12, 0),
+        (5, 6, 7, 0, 6, 15, 5),
+        (5, 6, 7, 0, 5, 12, 0),
+        (5, 5, 7, 0, 5, 19, 0),
+        (5, 5, 7, 0, 4, 12, 0),
+        (0, 1, 7, 0, 1, 15, 0),
+        (0, 1, 7, 255, 0, 12, 0),
+        (1, 1, 7, 0, 1, 19, 0),
+        (1, 1, 7, 1, 1, 0, 0),
+        (300, 301, 7, 1, 301, 15, 300),
+        (u64::MAX, u64::MAX, 7, 255, 9, 12, 0),
+        (0, u64::MAX, 7, 0, 9, 12, 0),
+        (u64::MAX, 1 << 32, 7, 1, 0, 12, 0),
+        (u64::MAX, (1 << 32) + 1, 7, 1, 1, 12, 0),
+        (u64::MAX, 1 << 63, 7, 1, 9, 12, 0),
+        (half, 1, long, thrown, 1, 19, 0),
+        (half, 1, long, thrown + 1, 1, 0, 0),
+    ] {
+        let (told, _) = draws(tally, rng, n, z, seed, limit, out);
+        assert_eq!(told, (number, place), "the independent draws of a worked example: n {n}, {z} draws, limit {limit}, {out} output");
+    }
+    for limit in 0..=255 {
+        let (told, _) = draws(tally, rng, half, 2, long, limit, 2);
+        assert_eq!(told, if limit > thrown { (0, 0) } else { (19, 0) }, "the independent draws with a limit of {limit}");
+    }
+}
+
+/// The published raw numbers, as the library's draws tell them: of 2^64 - 1 numbers draw i is i more than a raw number from i + 1 to 2^64 - 2 - i. And draws of
+/// 5 numbers by them: they leave 2, 1, 0, 1 and 0 when divided by 5, 4, 3, 2 and 1.
+fn published(tally: &mut Tally, rng: &mut Random) {
+    for (seed, raw) in model::PUBLISHED {
+        for many in 1..=raw.len() {
+            let (_, out) = draws(tally, rng, u64::MAX, many as u64, seed, 1, many);
+            let told: Vec<u64> = out.iter().zip(0..).map(|(d, i)| d.wrapping_sub(i)).collect();
+            let wrong = (told != raw[..many]).then(|| format!("{told:?}"));
+            tally.note("published", 0, wrong, || format!("{many} raw numbers of the seed {seed}"));
+        }
+    }
+    let (_, out) = draws(tally, rng, 5, 5, model::PUBLISHED[0].0, 1, 5);
+    tally.note("published", 0, (out != [2, 2, 2, 4, 4]).then(|| format!("{out:?}")), || "5 draws of 5 numbers".into());
+}
+
 /// A length at, below or above what is needed.
 fn about(rng: &mut Random, need: usize) -> usize {
     match rng.below(12) {
@@ -1055,7 +1130,7 @@ fn calls_on(tally: &mut Tally, rng: &mut Random, t: &[u8]) {
 fn demand(tally: &mut Tally, rng: &mut Random, t: &[u8], h: usize) -> bool {
     let rig = model::read(t).expect("a readable text");
     let runs = Runs::of(&rig);
-    let names = ["demand 3: count", "demand 3: scenarios", "demand 3: index", "demand 3: shuffle"];
+    let names = ["demand 3: count", "demand 3: scenarios", "demand 3: index", "demand 3: shuffle", "demand 3: seed"];
     held(tally, rng, names, t, runs.passes(), &sequences(&rig, &runs, h))
 }
 
@@ -1065,15 +1140,31 @@ fn by_sentences(tally: &mut Tally, rng: &mut Random, rules: &[Rule], order: &[us
     let passes = if all_marked(rules) { 1 } else { Runs::of(&model::read(&t).expect("a readable text")).passes() };
     let all = rules::sequences(rules, order, h);
     tally.dropped += all.iter().filter(|(w, bad)| bad.is_some() && admitted(rules, w)).count() as u64;
-    let names = ["sentences: count", "sentences: scenarios", "sentences: index", "sentences: shuffle"];
+    let names = ["sentences: count", "sentences: scenarios", "sentences: index", "sentences: shuffle", "sentences: seed"];
     if held(tally, rng, names, &t, passes, &all) {
         let kinds: BTreeSet<&str> = rules.iter().map(Rule::word).collect();
         *tally.mixed.entry(kinds.into_iter().collect()).or_default() += 1;
     }
 }
 
-/// Demand 3: both counts, order, scenarios, indices and full shuffles against every sequence of some length. Gives back whether any belongs.
-fn held(tally: &mut Tally, rng: &mut Random, names: [&'static str; 4], t: &[u8], passes: u64, all: &[Judged]) -> bool {
+/// Shuffles by these draws, one for each sequence that belongs, and lists: what is wrong, unless each of those comes exactly once.
+fn incomplete(t: &[u8], draws: &[u64], cells: &mut [u64], belong: &[&Vec<u8>]) -> Option<String> {
+    let (n, h) = (belong.len(), belong[0].len());
+    let (mut scratch, mut mixed) = (vec![9u64; 2 * n], vec![1u64; n + 2]);
+    let told = calls::shuffle(n as u64, draws, &mut scratch, &mut mixed);
+    let mut out = vec![0u8; n * h];
+    let listed = calls::scenarios(t, h as u64, &mixed[..n], cells, &mut out);
+    let mut given: Vec<Vec<u8>> = (0..n).map(|k| out[k * h..(k + 1) * h].to_vec()).collect();
+    let mut each: Vec<Vec<u8>> = belong.iter().map(|w| w.to_vec()).collect();
+    given.sort();
+    each.sort();
+    let once = given == each;
+    told_differs(told, 0, [0, 0]).or(told_differs(listed, 0, [0, 0])).or((!once).then(|| "not each scenario exactly once".into()))
+}
+
+/// Demand 3: both counts, order, scenarios, indices and full shuffles, by draws from outside and from a seed, against every sequence of some length. Gives
+/// back whether any belongs.
+fn held(tally: &mut Tally, rng: &mut Random, names: [&'static str; 5], t: &[u8], passes: u64, all: &[Judged]) -> bool {
     let states = model::read(t).expect("a readable text").joint_states();
     let h = all[0].0.len();
     let belong: Vec<&Vec<u8>> = all.iter().filter(|(_, bad)| bad.is_none()).map(|(w, _)| w).collect();
@@ -1111,22 +1202,19 @@ fn held(tally: &mut Tally, rng: &mut Random, names: [&'static str; 4], t: &[u8],
         let told = calls::index(t, w, &mut cells);
         tally.note(names[2], number, told_differs(told, number, [word, 0]), || format!("sequence {w:?}, {}", shown(t)));
     }
-    for _ in 0..if n == 0 { 0 } else { 3 } {
-        let draws: Vec<u64> = (0..n).map(|i| rng.from_to(i, n - 1)).collect();
-        let (mut scratch, mut mixed) = (vec![9u64; 2 * draws.len()], vec![1u64; draws.len() + 2]);
-        let told = calls::shuffle(n, &draws, &mut scratch, &mut mixed);
-        let mut out = vec![0u8; draws.len() * h];
-        let listed = calls::scenarios(t, h as u64, &mixed[..draws.len()], &mut cells, &mut out);
-        let mut given: Vec<Vec<u8>> = (0..draws.len()).map(|k| out[k * h..(k + 1) * h].to_vec()).collect();
-        let mut each: Vec<Vec<u8>> = belong.iter().map(|w| w.to_vec()).collect();
-        given.sort();
-        each.sort();
-        let once = given == each;
-        let wrong =
-            told_differs(told, 0, [0, 0]).or(told_differs(listed, 0, [0, 0])).or((!once).then(|| "not each scenario exactly once".into()));
-        tally.note(names[3], 0, wrong, input);
+    if n == 0 {
+        return false;
     }
-    n > 0
+    for _ in 0..3 {
+        let draws: Vec<u64> = (0..n).map(|i| rng.from_to(i, n - 1)).collect();
+        tally.note(names[3], 0, incomplete(t, &draws, &mut cells, &belong), input);
+    }
+    // with numbers of its own, so that all others are as without it
+    let own = &mut rng.clone();
+    let mut draws = vec![n; belong.len()];
+    let told = calls::draws(n, n, own.word(), own.from_to(1, 255) as u8, &mut draws);
+    tally.note(names[4], 0, told_differs(told, 0, [0, 0]).or(incomplete(t, &draws, &mut cells, &belong)), input);
+    true
 }
 
 /// A readable rig and the same one with its states renumbered, so that every monitor starts in 0: the library tells the same count and passes,
@@ -1412,7 +1500,7 @@ fn judged(tally: &mut Tally, rng: &mut Random, rules: &[Rule], events: u64, h: u
 }
 
 /// Draws for a shuffle of n numbers, most of them valid.
-fn draws(rng: &mut Random, n: u64, z: usize) -> Vec<u64> {
+fn any_draws(rng: &mut Random, n: u64, z: usize) -> Vec<u64> {
     let kind = rng.below(6);
     let mut ds: Vec<u64> = (0..z as u64)
         .map(|i| match (i < n, kind) {
@@ -1504,7 +1592,7 @@ fn shuffles(tally: &mut Tally, rng: &mut Random, rounds: u64) {
             1 => n.saturating_add(rng.below(3)).min(200) as usize,
             _ => rng.below(n.min(100) + 1) as usize,
         };
-        let ds = draws(rng, n, z);
+        let ds = any_draws(rng, n, z);
         let (scratch, out) = (about(rng, 2 * z), about(rng, z));
         shuffle(tally, rng, n, &ds, scratch, out);
     }
@@ -1519,6 +1607,86 @@ fn shuffles(tally: &mut Tally, rng: &mut Random, rounds: u64) {
     ] {
         let ds: Vec<u64> = (0..z).map(|i| rng.from_to(i, n - 1)).collect();
         shuffle(tally, rng, n, &ds, 2 * z as usize, z as usize);
+    }
+}
+
+/// Every n up to 8, up to 10 draws, every output up to two numbers longer, with four limits and many seeds.
+fn small_draws(tally: &mut Tally, rng: &mut Random) {
+    let seeds: Vec<u64> = [0, 1, 1_234_567, 1 << 63, u64::MAX].into_iter().chain((0..60).map(|_| rng.word())).collect();
+    for (n, z) in (0..=8).flat_map(|n| (0..=10).map(move |z| (n, z))) {
+        for (out, limit) in (0..=z as usize + 2).flat_map(|out| [0, 1, 2, 255].map(|limit| (out, limit))) {
+            for &seed in &seeds {
+                draws(tally, rng, n, z, seed, limit, out);
+            }
+        }
+    }
+}
+
+/// A number of any number of bits; or the greatest, a power of two, three times one, or one near these. Just above 2^63 nearly half of all raw numbers are
+/// thrown away, at three times a power of two from 2^61 on a quarter, at a power of two none.
+fn any_n(rng: &mut Random) -> u64 {
+    match rng.below(8) {
+        0 => u64::MAX - rng.below(3),
+        1 | 2 => (1 << 63) + rng.below(70),
+        3 => (3 << rng.from_to(58, 62)) + rng.below(40) - 20,
+        4 => (1u64 << rng.below(64)).saturating_add(rng.below(12)).saturating_sub(3),
+        _ => (rng.word() | 1 << 63).checked_shr(rng.below(65) as u32).unwrap_or(0),
+    }
+}
+
+/// Draws of any n, by any seed and limit; Shuffle serves what they are where they are served. And some calls of many draws.
+fn seeded(tally: &mut Tally, rng: &mut Random, rounds: u64) {
+    for _ in 0..rounds {
+        let n = any_n(rng);
+        let limit = if rng.chance(1, 5) { rng.word() as u8 } else { *rng.pick(&[0, 1, 1, 2, 2, 3, 10, 255]) };
+        let z = match rng.below(12) {
+            0 => rng.word(),
+            1 => n.min(200),
+            2 => n.saturating_add(rng.below(3)).min(200),
+            _ => rng.below(n.min(60) + 1),
+        };
+        let seed = if rng.chance(1, 10) { *rng.pick(&[0, u64::MAX]) } else { rng.word() };
+        let room = about(rng, z.min(200) as usize);
+        let (told, out) = draws(tally, rng, n, z, seed, limit, room);
+        if told == (0, 0) {
+            tally.thrown += (model::draws(n, z, seed, limit.min(1), &out).0 .0 == 19) as u64;
+            shuffle(tally, rng, n, &out[..z as usize], 2 * z as usize, z as usize);
+        }
+    }
+    let many = 50_000;
+    for n in [many, u64::MAX, 1 << 40, (1 << 63) + 1, (1 << 63) + many, 3 << 61, 3 << 62] {
+        for (limit, room) in [(255, many), (10, many), (8, many + 9)] {
+            let seed = rng.word();
+            draws(tally, rng, n, many, seed, limit, room as usize);
+        }
+    }
+}
+
+/// Raw numbers just below and at the least one that isn't thrown away, about w and its multiples, and at both ends: a seed is worked out that gives such a one
+/// to one of the draws. Where n is so small that no other raw number is thrown away, 19 is expected just where that one is.
+fn edges(tally: &mut Tally, rng: &mut Random, rounds: u64) {
+    for _ in 0..rounds {
+        let n = any_n(rng).max(1);
+        let z = rng.from_to(1, n.min(9));
+        let (i, limit) = (rng.below(z), *rng.pick(&[1, 1, 2, 255]));
+        let w = n - i;
+        let (least, multiple) = (model::least_kept(w), w * rng.from_to(1, u64::MAX / w));
+        let raw = match rng.below(12) {
+            0..=2 => least.saturating_sub(1),
+            3 | 4 => least,
+            5 => least + 1,
+            6 => 0,
+            7 => w - rng.below(2),
+            8 => rng.below(w),
+            9 => multiple,
+            10 => multiple - 1,
+            _ => u64::MAX,
+        };
+        let (told, _) = draws(tally, rng, n, z, model::seed_of(i, raw), limit, z as usize);
+        if n < 1 << 32 {
+            let thrown = raw < least && limit == 1;
+            assert_eq!(told, if thrown { (19, i) } else { (0, 0) }, "the independent draws with raw number {raw} for draw {i} of {n}");
+        }
     }
 }
 
@@ -1861,6 +2029,11 @@ fn main() {
     lines(&mut tally, rng);
     worked_forward(&mut tally, rng);
     beside_count(&mut tally, rng);
+    worked_draws(&mut tally, rng);
+    published(&mut tally, rng);
+    small_draws(&mut tally, rng);
+    seeded(&mut tally, rng, 150_000);
+    edges(&mut tally, rng, 100_000);
     for (call, numbers) in [
         ("count", &[0u64, 1, 2, 3, 4, 5, 6, 7, 8, 9, 10, 16, 17, 18][..]),
         ("count_forward", &[0, 1, 2, 3, 4, 5, 6, 7, 8, 9, 10, 16, 17, 18]),
@@ -1870,6 +2043,8 @@ fn main() {
         ("beside all rows", &[0, 9, 10, 11, 12]),
         ("index", &[0, 1, 2, 3, 4, 5, 6, 7, 8, 9, 10, 13, 14, 16, 17, 18]),
         ("shuffle", &[0, 8, 12, 15]),
+        ("draws", &[0, 12, 15, 19]),
+        ("published", &[0]),
         ("line", &[0]),
         ("some marked: count", &[0, 9]),
         ("some marked: listed", &[0]),
@@ -1939,6 +2114,11 @@ fn main() {
     assert!(tally.short > 1_000, "few lines have too short an output");
     assert!(tally.fewer > 300, "few horizons have fewer scenarios, where a shorter one has too many: {}", tally.fewer);
     assert!(tally.gone > 1_000, "few horizons have no scenario, where a shorter one has too many: {}", tally.gone);
+    assert!(tally.thrown > 1_000, "few Draws calls are served with raw numbers thrown away: {}", tally.thrown);
+    for place in 0..=8 {
+        let times = tally.ended.get(&place).copied().unwrap_or(0);
+        assert!(times > 500, "few Draws calls are refused 19 at place {place}: {times}");
+    }
     for ((call, number), (times, wrong)) in &tally.answers {
         let answer = if *number == 0 { "served".into() } else { format!("refusal {number}") };
         println!("{call:20} {answer:12} {times:8} {wrong:8}");
@@ -1960,6 +2140,8 @@ fn main() {
     println!("{valid} lists of valid draws, all that there are for up to 6 numbers, put out every sample once");
     println!("{} of the lines have too short an output", tally.short);
     println!("{} horizons have fewer scenarios and {} none, where a shorter one has too many", tally.fewer, tally.gone);
+    println!("{} Draws calls are served with raw numbers thrown away", tally.thrown);
+    println!("Draws calls refused 19, by place, from 8 on as 8: {:?}", tally.ended);
     println!("{} comparisons, {} differences", tally.comparisons, tally.differences);
     if tally.differences > 0 {
         std::process::exit(1);
