@@ -14,10 +14,10 @@ use lib.Dec.{ltb}
 use borrow.Author.Tests.{lt-ltb, le-ltb}
 use Rattle.lists.proofs.Tests.{case}
 use Rattle.lists.proofs.Fronts.{front-put}
-use Rattle.promises.specs.Answer.{served, refused}
+use Rattle.promises.specs.Answer.{refused}
 use Rattle.promises.specs.Calls.{outputAfter}
 use Rattle.promises.specs.SplitMix.{nextState, mix, raw}
-use Rattle.promises.specs.Draws.{thrownAway, taken, Outcome, drawn, failed, onto, drawsFrom, outcome, said, made, draws, drawsOutput}
+use Rattle.promises.specs.Draws.{thrownAway, taken, Outcome, drawn, failed, onto, drawsFrom, outcome, said, draws, drawsOutput}
 use Rattle.promises.proofs.Draws.{draws-is, draws-owed}
 use Rattle.draws.specs.Making.{enoughFor, takenOf, firstFailed, AllMade}
 use Rattle.draws.specs.declared.Taken.{Taken}
@@ -135,13 +135,11 @@ module _ (limit n z : ℕ) (o : Outcome) (out₀ : List ℕ) where
               holds = ap (λ l. set l i d) (w .holds) ∙ ap (λ k. set (w .front ++ drop (length (w .front)) out₀) k d) (sym (w .long)) ∙ front-put (w .front) out₀ d (omega (arith, w .long));
             }
 
-    pub written-all : z ≤ i → (made o ≡ w .front) × (out ≡ made o ++ drop (length (made o)) out₀)
-    unfolding made
-    written-all h = let q : made o ≡ w .front = is (w .rest) (sym (from-end limit n z i s h) ∙ w .ahead) (w .all) in (q, rw q (w .holds))
+    pub written-all : z ≤ i → o ≡ drawn (w .front)
+    written-all h = w .all ∙ ap drawn (ap (λ l. w .front ++ l) (none (w .rest) (sym (from-end limit n z i s h) ∙ w .ahead)) ∙ append-nil (w .front))
       where
-        is : (rest : List ℕ) → drawn [] ≡ drawn rest → o ≡ drawn (w .front ++ rest) → made o ≡ w .front
-        is [] e q = rw q (append-nil (w .front))
-        is (x ∷ rest) e q = let z : 0 ≡ suc (length rest) = ap (λ a. length (made a)) e in absurd (omega arith)
+        none : (rest : List ℕ) → drawn [] ≡ drawn rest → rest ≡ []
+        none rest e = cc
 
 -- ---- the call
 
@@ -165,7 +163,3 @@ module _ (n z seed limit : ℕ) (out : List ℕ) where
         go : (o : Outcome) → outcome n z seed limit ≡ o → AllMade (outcome n z seed limit)
         go (drawn ds) q = (ds, q)
         go (failed i) q = let lt = draws-owed n z seed limit out .nineteen a b i .0 (draws-is n z seed limit out a b ∙ ap said q) .0 in absurd (omega (arith, rw q at h))
-
-    pub made-served : AllMade (outcome n z seed limit) → (draws n z seed limit out ≡ served []) × (drawsOutput n z seed limit out ≡ made (outcome n z seed limit) ++ drop (length (made (outcome n z seed limit))) out)
-    unfolding said drawsOutput outputAfter
-    made-served (ds, q) = let e = draws-is n z seed limit out a b ∙ ap said q in (e, rw e)

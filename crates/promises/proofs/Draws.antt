@@ -2,12 +2,12 @@
 -- Why: a draw is i plus a number below n − i, made where the one before left the state; the first that is not made ends the list. Assumes nothing.
 use mathlib.Core.Path.{_≡_, refl, ap, _∙_}
 use mathlib.Core.Logic.{_⊎_, inl, inr, ⊎-elim}
-use mathlib.Core.List.{List, [], _∷_}
+use mathlib.Core.List.{List, [], _∷_, _++_}
 use mathlib.Core.Option.{none, some}
 use Prim.Native.Nat.{ℕ, zero, suc, _+_, _-_, _%_, _^_, _≤_, _<_}
 use native.Mathlib.Omega.{arith}
 use native.Mathlib.Nat.{zero-add, add-zero, mod-lt}
-use lib.ListN.{length}
+use lib.ListN.{length, drop}
 use lib.Seq.{take-at}
 use lib.Dec.{ltb}
 use borrow.Author.Tests.{ltb-true, ltb-false, lt-ltb, le-ltb}
@@ -18,7 +18,7 @@ use Rattle.promises.specs.Calls.{outputAfter}
 use Rattle.promises.specs.Demand3.{Calls, Whole}
 use Rattle.promises.specs.Shapes.{Shaped}
 use Rattle.promises.specs.SplitMix.{nextState, raw, advance, raws, mix, mixFirst, mixSecond, mixThird, Vectors}
-use Rattle.promises.specs.Draws.{thrownAway, taken, Outcome, drawn, failed, onto, drawsFrom, outcome, said, made, draws, drawsOutput, drawList, Taken, AllThrown, Chain, DrawsOwed, CompleteFromSeed, DrawsExamples}
+use Rattle.promises.specs.Draws.{thrownAway, taken, Outcome, drawn, failed, onto, drawsFrom, outcome, said, made, draws, drawsOutput, drawList, TakenAt, AllThrown, Chain, DrawsOwed, CompleteFromSeed, DrawsExamples}
 use Rattle.promises.proofs.Answers.{valid-places}
 use Rattle.promises.proofs.Buffers.{refused-serves, output-left}
 use Rattle.promises.proofs.Shapes.{checked}
@@ -44,7 +44,7 @@ unfolding taken thrownAway AllThrown advance
 taken-none zero w s h = refl
 taken-none (suc limit) w s h = rw (lt-ltb (raw s) (2 ^ 64 % w) (h 0 (omega arith))) (taken-none limit w (nextState s) (λ m l. h (suc m) (omega arith)))
 
-taken-some : (limit w s r k : ℕ) → Taken limit w s r k → taken limit w s ≡ some (r, advance (suc k) s)
+taken-some : (limit w s r k : ℕ) → TakenAt limit w s r k → taken limit w s ≡ some (r, advance (suc k) s)
 unfolding taken thrownAway advance
 taken-some zero w s r k t = absurd (omega (arith, t .within))
 taken-some (suc limit) w s r zero t = rw (le-ltb (raw s) (2 ^ 64 % w) (rw (t .is) (t .kept))) (ap (λ x. some (x, nextState s)) (t .is))
@@ -52,7 +52,7 @@ taken-some (suc limit) w s r (suc k) t =
     rw (lt-ltb (raw s) (2 ^ 64 % w) (t .thrown 0 (omega arith)))
     (taken-some limit w (nextState s) r k (record { within = omega (arith, t .within); is = t .is; kept = t .kept; thrown = λ m l. t .thrown (suc m) (omega arith) }))
 
-taken-or-thrown : (limit w s : ℕ) → AllThrown limit w s ⊎ ((r : ℕ) × (k : ℕ) × Taken limit w s r k)
+taken-or-thrown : (limit w s : ℕ) → AllThrown limit w s ⊎ ((r : ℕ) × (k : ℕ) × TakenAt limit w s r k)
 unfolding AllThrown advance
 taken-or-thrown zero w s = inl (λ m l. absurd (omega arith))
 taken-or-thrown (suc limit) w s =
@@ -64,7 +64,7 @@ taken-or-thrown (suc limit) w s =
     all a b h zero l = a
     all a b h (suc m) l = h m (omega arith)
 
-    later : raw s < 2 ^ 64 % w → (r k : ℕ) → Taken limit w (nextState s) r k → Taken (suc limit) w s r (suc k)
+    later : raw s < 2 ^ 64 % w → (r k : ℕ) → TakenAt limit w (nextState s) r k → TakenAt (suc limit) w s r (suc k)
     later a r k t = record { within = omega (arith, t .within); is = t .is; kept = t .kept; thrown = all a k (t .thrown) }
 
 -- ---- all draws
@@ -129,12 +129,13 @@ module _ (n z seed limit : ℕ) (out : List ℕ) where
       (λ e. (ltb-false (length out) z q, ltb-false n z e)))
 
   -- where the draws are made they are what is written
+  pub drawn-served : z ≤ length out → z ≤ n → (ds : List ℕ) → outcome n z seed limit ≡ drawn ds → (draws n z seed limit out ≡ served []) × (drawsOutput n z seed limit out ≡ ds ++ drop (length ds) out)
+  unfolding said made drawsOutput outputAfter
+  drawn-served a b ds q = let e = draws-is a b ∙ ap said q in (e, rw (e, q))
+
   made-served : z ≤ length out → z ≤ n → (ds : List ℕ) (u : ℕ) → length ds ≡ z → Chain limit n 0 seed ds u → (draws n z seed limit out ≡ served []) × (drawList n z seed limit out ≡ ds)
-  unfolding outcome said made drawsOutput drawList outputAfter
-  made-served a b ds u l c =
-      let q = chain-drawn limit n z 0 seed ds u c l in
-      let e = draws-is a b ∙ ap said q in
-      (e, rw (e, q) (take-at ds _ z l))
+  unfolding outcome drawList
+  made-served a b ds u l c = let (e, o) = drawn-served a b ds (chain-drawn limit n z 0 seed ds u c l) in (e, rw o (take-at ds _ z l))
 
   stuck-refused : z ≤ length out → z ≤ n → (ds : List ℕ) (u : ℕ) → length ds < z → Chain limit n 0 seed ds u → AllThrown limit (n - (0 + length ds)) u → draws n z seed limit out ≡ refused 19 (length ds)
   unfolding outcome said

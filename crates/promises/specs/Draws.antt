@@ -6,8 +6,8 @@
 --   outcome n z seed limit  == z draws from the seed; said, made: its answer and its draws
 --   draws, drawsOutput   == the call's answer, and the output afterwards
 --   drawList             == the draws that stand in the output
--- and in words, with `Taken`, `AllThrown` and `Chain` apart from the definitions above:
---   Taken limit w s r k  == r is the raw number k, from 0, after the state s, and the first that isn't thrown away
+-- and in words, apart from the definitions above:
+--   TakenAt limit w s r k == r is the raw number k, from 0, after the state s, and the first that isn't thrown away
 --   AllThrown limit w s  == all raw numbers of a draw are thrown away
 --   Chain limit n i s ds u == the draws ds, from place i on, are made from the state s on, and u is the state after them
 --   giving total w v     == how many of `total` raw numbers give v, with w to choose from
@@ -93,7 +93,7 @@ drawList n z seed limit out = take z (drawsOutput n z seed limit out)
 -- ---- in words
 
 -- 'a raw number below 2^64 mod w is thrown away'; 'The caller gives the most raw numbers per draw'
-pub record Taken (limit w s r k : ℕ) : Type 0 where
+pub record TakenAt (limit w s r k : ℕ) : Type 0 where
   pub within : k < limit
   pub is : raw (advance k s) ≡ r
   pub kept : 2 ^ 64 % w ≤ r
@@ -107,7 +107,7 @@ AllThrown limit w s = (m : ℕ) → m < limit → raw (advance m s) < 2 ^ 64 % w
 unfoldable pub Chain : ℕ → ℕ → ℕ → ℕ → List ℕ → ℕ → Type 0
 Chain limit n i s [] u = s ≡ u
 Chain limit n i s (d ∷ ds) u =
-    (r : ℕ) × (k : ℕ) × Taken limit (n - i) s r k × (d ≡ i + r % (n - i)) × Chain limit n (suc i) (advance (suc k) s) ds u
+    (r : ℕ) × (k : ℕ) × TakenAt limit (n - i) s r k × (d ≡ i + r % (n - i)) × Chain limit n (suc i) (advance (suc k) s) ds u
 
 unfoldable pub giving : ℕ → ℕ → ℕ → ℕ
 giving total w v = count (λ r. not (thrownAway total w r) && eqb (r % w) v) total

@@ -1,8 +1,8 @@
 -- `draws::draws` meets its contract. Each refusal is that of its row and leaves the output; past the rows all draws are made.
 use mathlib.Core.Path.{sym}
 use native.Mathlib.Omega.{arith}
-use Rattle.promises.proofs.Draws.{draws-owed}
-use Rattle.draws.proofs.Laws.{refused-output, failed-refused, all-made, made-served}
+use Rattle.promises.proofs.Draws.{draws-owed, drawn-served}
+use Rattle.draws.proofs.Laws.{refused-output, failed-refused, all-made}
 use borrow.Author.Needs.{needs}
 use Rattle.draws.proofs.draws.Statement.{statement}
 use Rattle.draws.proofs.draws.Tie as tie
@@ -51,7 +51,8 @@ same-length c = search needs
 returns-4 : tie.Need-returns-4
 returns-4 c =
     let st = c .before .before .before .before .before .before .before .before .before .args in
-    (sym (made-served (st .n) (st .z) (st .seed) (st .limit) (st .out .now) (omega arith) (omega arith) (all-made (st .n) (st .z) (st .seed) (st .limit) (st .out .now) (omega arith) (omega arith) (omega (arith, c .before .before .before .before .before .first-failed .ensures))) .0), c .before .before .write-draws .ensures)
+    let (ds, q) = all-made (st .n) (st .z) (st .seed) (st .limit) (st .out .now) (omega arith) (omega arith) (omega (arith, c .before .before .before .before .before .first-failed .ensures)) in
+    (sym (drawn-served (st .n) (st .z) (st .seed) (st .limit) (st .out .now) (omega arith) (omega arith) ds q .0), c .before .before .write-draws .ensures)
 
 pub draws-spec : {M : Type 1} → statement M
 draws-spec =

@@ -5,7 +5,8 @@ use native.Mathlib.Omega.{arith}
 use native.Mathlib.Nat.{mod-lt}
 use lib.ListN.{length, length-set}
 use Rattle.promises.specs.Draws.{outcome}
-use Rattle.draws.proofs.Laws.{Written, written-first, written-more, written-all, made-served}
+use Rattle.promises.proofs.Draws.{drawn-served}
+use Rattle.draws.proofs.Laws.{Written, written-first, written-more, written-all}
 use borrow.Author.Needs.{needs}
 use Rattle.draws.proofs.write_draws.Statement.{statement}
 use Rattle.draws.proofs.write_draws.Tie as tie
@@ -72,8 +73,8 @@ returns : tie.Need-returns Inv-loop μ-loop
 returns c =
     let st = c .before .before .before .args in
     let lp = c .before .loop in
-    written-all (st .limit) (st .n) (st .z) _ (st .out .now) (lp .i) (lp .state) (lp .out) (lp .inv .2) (omega arith) .1
-    ∙ sym (made-served (st .n) (st .z) (st .seed) (st .limit) (st .out .now) (omega arith) (omega arith) (c .before .before .before .pre .2) .1)
+    let w = lp .inv .2 in
+    w .holds ∙ sym (drawn-served (st .n) (st .z) (st .seed) (st .limit) (st .out .now) (omega arith) (omega arith) (w .front) (written-all (st .limit) (st .n) (st .z) _ (st .out .now) (lp .i) (lp .state) (lp .out) w (omega arith)) .1)
 
 pub write-draws-spec : {M : Type 1} → statement M
 write-draws-spec =
