@@ -80,10 +80,18 @@ fn take(w: u64, s: u64, limit: u8) -> Taken
         state = splitmix::next_state(state);
         let raw = splitmix::mix(state);
         if !is_thrown(raw, w, enough) {
-            return Taken { made: true, raw: raw, state: state };
+            return Taken {
+                made: true,
+                raw: raw,
+                state: state,
+            };
         }
     }
-    Taken { made: false, raw: 0, state: state }
+    Taken {
+        made: false,
+        raw: 0,
+        state: state,
+    }
 }
 
 // A number from which on every raw number is kept: 2^64 mod w, or w itself where that is small. A raw number is hardly ever below it then, and the

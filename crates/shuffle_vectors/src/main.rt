@@ -1,5 +1,5 @@
-// Runs the shuffle on small lists of draws and on lists of 1,000, and writes what it answers and leaves. Scratch begins with 7 everywhere
-// and output with 9, so that what is kept shows.
+// Runs the shuffle on small lists of draws and on lists of 1,000, and writes what it answers and leaves; then the published vectors of SplitMix64 as
+// the code makes them, and what the draws call answers and leaves. Scratch begins with 7 everywhere and output with 9, so that what is kept shows.
 use shuffle::Answered;
 
 fn main() {
@@ -22,6 +22,8 @@ fn main() {
     refusals();
     full_shuffle();
     thousand_clustered();
+    raws(1234567);
+    seeds();
 }
 
 // Calls that are refused.
@@ -37,6 +39,21 @@ fn refusals() {
     run(5, &bad, 6, 2);
 }
 
+// Draws from a seed: served, and refused.
+fn seeds() {
+    draw(5, 5, 1234567, 1, 6);
+    draw(1, 1, 0, 1, 1);
+    draw(0, 0, 0, 0, 1);
+    draw(18446744073709551615, 4, 1234567, 255, 5);
+    draw(9223372036854775816, 4, 3, 3, 4);
+    draw(9223372036854775816, 4, 3, 2, 4);
+    draw(9223372036854775816, 4, 3, 1, 4);
+    draw(5, 5, 1234567, 0, 6);
+    draw(5, 0, 1234567, 0, 6);
+    draw(4, 5, 1234567, 0, 5);
+    draw(4, 5, 1234567, 0, 4);
+}
+
 // One case, with as much scratch and output as is said: at most 24 and 12 numbers.
 fn run(n: u64, draws: &[u64], scratch_len: usize, out_len: usize) {
     let mut scratch = [7u64; 24];
@@ -45,6 +62,34 @@ fn run(n: u64, draws: &[u64], scratch_len: usize, out_len: usize) {
         if out_len <= 12 {
             show(n, draws, &mut scratch[..scratch_len], &mut out[..out_len]);
         }
+    }
+}
+
+// The first five raw numbers of a seed.
+fn raws(seed: u64) {
+    io::write_all(1, b"seed");
+    number(seed);
+    io::write_all(1, b" raw");
+    let first = raw(seed);
+    let second = raw(first);
+    let third = raw(second);
+    let fourth = raw(third);
+    raw(fourth);
+    io::write_all(1, b"\n");
+}
+
+// Writes the raw number that follows a state; gives back the state after it.
+fn raw(s: u64) -> u64 {
+    let next = splitmix::next_state(s);
+    number(splitmix::mix(next));
+    next
+}
+
+// One call for draws, with as much output as is said: at most 12 numbers.
+fn draw(n: u64, z: u64, seed: u64, limit: u8, out_len: usize) {
+    let mut out = [9u64; 12];
+    if out_len <= 12 {
+        show_draws(n, z, seed, limit, &mut out[..out_len]);
     }
 }
 
@@ -109,6 +154,36 @@ fn show(n: u64, draws: &[u64], scratch: &mut [u64], out: &mut [u64]) {
     io::write_all(1, b" output");
     list(out);
     io::write_all(1, b"\n");
+}
+
+// The call for draws, the answer, and the whole output afterwards.
+fn show_draws(n: u64, z: u64, seed: u64, limit: u8, out: &mut [u64]) {
+    io::write_all(1, b"n");
+    number(n);
+    io::write_all(1, b" z");
+    number(z);
+    io::write_all(1, b" seed");
+    number(seed);
+    io::write_all(1, b" limit");
+    number(limit as u64);
+    outcome(draws::draws(n, z, seed, limit, out));
+    io::write_all(1, b" output");
+    list(out);
+    io::write_all(1, b"\n");
+}
+
+// The answer.
+fn outcome(r: Answered) {
+    match r {
+        Answered::Served => {
+            io::write_all(1, b" served");
+        }
+        Answered::Refused(refusal, place) => {
+            io::write_all(1, b" no");
+            number(refusal);
+            number(place);
+        }
+    }
 }
 
 // The answer, and how many scratch numbers still are 7: all of them after a refusal, else those past twice the draws.
@@ -176,12 +251,12 @@ fn spread_draws(draws: &mut [u64]) {
     let mut x: u64 = 1;
     for i in 0..draws.len() {
         x = next(x);
-        draws[i] = draw(i as u64, n, x);
+        draws[i] = drawn(i as u64, n, x);
     }
 }
 
 // x as a number from i to n - 1.
-fn draw(i: u64, n: u64, x: u64) -> u64 {
+fn drawn(i: u64, n: u64, x: u64) -> u64 {
     if i < n { i + x % (n - i) } else { 0 }
 }
 

@@ -19,8 +19,8 @@ loop-holds c = search needs
 next-requires : tie.Need-next-requires Inv-loop μ-loop
 next-requires c κs = search needs
 
-draw-requires : tie.Need-draw-requires Inv-loop μ-loop
-draw-requires c κs = search needs
+drawn-requires : tie.Need-drawn-requires Inv-loop μ-loop
+drawn-requires c κs = search needs
 
 mul-draws : tie.Need-mul-draws Inv-loop μ-loop
 mul-draws c = search needs
@@ -51,7 +51,7 @@ spread-draws-spec =
     μ-loop
     loop-holds
     next-requires
-    draw-requires
+    drawn-requires
     mul-draws
     slice-write-draws
     add-i
