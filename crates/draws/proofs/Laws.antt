@@ -20,7 +20,7 @@ use Rattle.promises.specs.SplitMix.{nextState, mix, raw}
 use Rattle.promises.specs.Draws.{thrownAway, taken, Outcome, drawn, failed, onto, drawsFrom, outcome, said, draws, drawsOutput}
 use Rattle.promises.proofs.Draws.{draws-is, draws-owed}
 use Rattle.draws.specs.Making.{enoughFor, takenOf, firstFailed, AllMade}
-use Rattle.draws.specs.declared.Taken.{Taken}
+use Rattle.draws.specs.declared.Draw.{Draw}
 
 -- ---- one raw number
 
@@ -85,11 +85,11 @@ failed-onto z d (drawn ds) = refl
 failed-onto z d (failed i) = refl
 
 -- what the code gives back of a draw: it is not made
-pub not-made : (limit w s : ℕ) (t : Taken) → takenOf t ≡ taken limit w s → not (t .made) ≡ true → taken limit w s ≡ none
+pub not-made : (limit w s : ℕ) (t : Draw) → takenOf t ≡ taken limit w s → not (t .made) ≡ true → taken limit w s ≡ none
 not-made limit w s t q e = sym (rw (eq-false-of-not-eq-true' {a = t .made} e) at q)
 
 -- or it is
-pub is-made : (limit w s : ℕ) (t : Taken) → takenOf t ≡ taken limit w s → not (t .made) ≡ false → taken limit w s ≡ some (t .raw, t .state)
+pub is-made : (limit w s : ℕ) (t : Draw) → takenOf t ≡ taken limit w s → not (t .made) ≡ false → taken limit w s ≡ some (t .raw, t .state)
 is-made limit w s t q e = sym (rw (eq-true-of-not-eq-false' {a = t .made} e) at q)
 
 not-drawn : (i : ℕ) (ds : List ℕ) → failed i ≡ drawn ds → ⊥
@@ -116,7 +116,7 @@ module _ (limit n z : ℕ) (o : Outcome) (out₀ : List ℕ) where
   written-first s q (ds, e) = record { front = []; rest = ds; all = e; ahead = rw sub-zero (sym q ∙ e); long = refl; holds = refl }
 
   module _ (i s : ℕ) (out : List ℕ) (w : Written limit n z o out₀ i s out) where
-    pub written-more : (t : Taken) → i < z → z ≤ length out₀ → takenOf t ≡ taken limit (n - i) s → Written limit n z o out₀ (i + 1) (t .state) (set out i (i + t .raw % (n - i)))
+    pub written-more : (t : Draw) → i < z → z ≤ length out₀ → takenOf t ≡ taken limit (n - i) s → Written limit n z o out₀ (i + 1) (t .state) (set out i (i + t .raw % (n - i)))
     written-more t lt room q = go (not (t .made)) refl
       where
         d : ℕ

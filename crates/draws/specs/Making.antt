@@ -11,12 +11,12 @@ use Prim.Native.Nat.{ℕ, _%_, _^_}
 use lib.Dec.{ltb}
 use Rattle.lists.specs.Lists.{pick}
 use Rattle.promises.specs.Draws.{Outcome, drawn, failed}
-use Rattle.draws.specs.declared.Taken.{Taken}
+use Rattle.draws.specs.declared.Draw.{Draw}
 
 unfoldable pub enoughFor : ℕ → ℕ
 enoughFor w = pick (ltb w (2 ^ 60)) w (2 ^ 64 % w)
 
-abbrev pub takenOf : Taken → Option (ℕ × ℕ)
+abbrev pub takenOf : Draw → Option (ℕ × ℕ)
 takenOf t = pick (t .made) (some (t .raw, t .state)) none
 
 abbrev pub firstFailed : ℕ → Outcome → ℕ

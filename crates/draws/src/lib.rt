@@ -10,8 +10,8 @@ ghost use Rattle.shuffle.specs.Outcome.{answerOf};
 ghost use Rattle.promises.specs.Draws.{thrownAway, taken, outcome, draws as promised, drawsOutput};
 ghost use Rattle.draws.specs.Making.{enoughFor, takenOf, firstFailed, AllMade};
 
-// The raw number that a draw takes and the state after it, if it is made.
-struct Taken {
+// One draw: whether it is made, and then the raw number that it takes and the state after it.
+struct Draw {
     made: bool,
     raw: u64,
     state: u64,
@@ -69,8 +69,8 @@ fn write_draws(n: u64, z: u64, seed: u64, limit: u8, out: &mut [u64])
     }
 }
 
-// One draw, with w to choose from: the first of at most `limit` raw numbers that is not thrown away.
-fn take(w: u64, s: u64, limit: u8) -> Taken
+// A draw with w to choose from: it takes the first of at most `limit` raw numbers that is not thrown away.
+fn take(w: u64, s: u64, limit: u8) -> Draw
     requires { ⌜ 0 < w ⌝ }
     ensures { λ r. ⌜ takenOf r ≡ taken limit w s ⌝ }
 {
@@ -80,14 +80,14 @@ fn take(w: u64, s: u64, limit: u8) -> Taken
         state = splitmix::next_state(state);
         let raw = splitmix::mix(state);
         if !is_thrown(raw, w, enough) {
-            return Taken {
+            return Draw {
                 made: true,
                 raw: raw,
                 state: state,
             };
         }
     }
-    Taken {
+    Draw {
         made: false,
         raw: 0,
         state: state,

@@ -6,30 +6,22 @@ use Rattle.draws.proofs.Laws.{refused-output, failed-refused, all-made}
 use borrow.Author.Needs.{needs}
 use Rattle.draws.proofs.draws.Statement.{statement}
 use Rattle.draws.proofs.draws.Tie as tie
-use Rattle.draws.proofs.draws.Reads as reads
-use Rattle.draws.proofs.draws.Lts as lts
-use Rattle.draws.proofs.first_failed.Reads as first-failed-reads
-use Rattle.draws.proofs.write_draws.Reads as write-draws-reads
 
--- src/lib.rt:26:9
 returns : tie.Need-returns
 returns c =
     let st = c .before .before .args in
     let q = draws-owed (st .n) (st .z) (st .seed) (st .limit) (st .out .now) .twelve (omega arith) in
     (sym q, sym (refused-output (st .n) (st .z) (st .seed) (st .limit) (st .out .now) 12 0 q))
 
--- src/lib.rt:29:9
 returns-2 : tie.Need-returns-2
 returns-2 c =
     let st = c .before .before .before .args in
     let q = draws-owed (st .n) (st .z) (st .seed) (st .limit) (st .out .now) .fifteen (omega arith) (omega arith) in
     (sym q, sym (refused-output (st .n) (st .z) (st .seed) (st .limit) (st .out .now) 15 (st .n) q))
 
--- src/lib.rt:31:9
 first-failed-requires : tie.Need-first-failed-requires
 first-failed-requires c κs = search needs
 
--- src/lib.rt:33:9
 returns-3 : tie.Need-returns-3
 returns-3 c =
     let st = c .before .before .before .before .before .args in
@@ -37,17 +29,14 @@ returns-3 c =
     let q = failed-refused (st .n) (st .z) (st .seed) (st .limit) (st .out .now) (omega arith) (omega arith) (omega (arith, e)) in
     (rw e (sym q), sym (refused-output (st .n) (st .z) (st .seed) (st .limit) (st .out .now) 19 _ q))
 
--- src/lib.rt:35:5
 write-draws-requires : tie.Need-write-draws-requires
 write-draws-requires c κs =
     let st = c .before .before .before .before .before .before .args in
     (omega arith, omega arith, all-made (st .n) (st .z) (st .seed) (st .limit) (st .out .now) (omega arith) (omega arith) (omega (arith, c .before .before .first-failed .ensures)))
 
--- src/lib.rt:21:1
 same-length : tie.Need-same-length
 same-length c = search needs
 
--- src/lib.rt:21:1
 returns-4 : tie.Need-returns-4
 returns-4 c =
     let st = c .before .before .before .before .before .before .before .before .before .args in

@@ -6,20 +6,14 @@ use Rattle.draws.specs.Making.{enoughFor}
 use borrow.Author.Needs.{needs}
 use Rattle.draws.proofs.enough_for.Statement.{statement}
 use Rattle.draws.proofs.enough_for.Tie as tie
-use Rattle.draws.proofs.enough_for.Reads as reads
-use Rattle.draws.proofs.enough_for.Lts as lts
-use Rattle.draws.proofs.remainder.Reads as remainder-reads
 
--- src/lib.rt:97:9
 returns : tie.Need-returns
 unfolding enoughFor
 returns c = rw (lt-ltb (c .before .args .w) (2 ^ 60) (omega arith))
 
--- src/lib.rt:99:5
 remainder-requires : tie.Need-remainder-requires
 remainder-requires c κs = search needs
 
--- src/lib.rt:92:1
 returns-2 : tie.Need-returns-2
 unfolding enoughFor
 returns-2 c = rw (le-ltb (c .before .before .args .w) (2 ^ 60) (omega arith)) (c .remainder .ensures)

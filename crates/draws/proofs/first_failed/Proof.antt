@@ -9,9 +9,6 @@ use Rattle.draws.proofs.Laws.{from-failed, from-more, from-end, not-mad
 use borrow.Author.Needs.{needs}
 use Rattle.draws.proofs.first_failed.Statement.{statement}
 use Rattle.draws.proofs.first_failed.Tie as tie
-use Rattle.draws.proofs.first_failed.Reads as reads
-use Rattle.draws.proofs.first_failed.Lts as lts
-use Rattle.draws.proofs.take.Reads as take-reads
 
 abbrev Inv-loop : tie.InvT-loop
 Inv-loop n z seed limit state₀ i₀ state i = (i ≤ z) × (firstFailed z (outcome n z seed limit) ≡ firstFailed z (drawsFrom limit n (z - i) i state))
@@ -19,20 +16,16 @@ Inv-loop n z seed limit state₀ i₀ state i = (i ≤ z) × (firstFailed z (out
 abbrev μ-loop : tie.MeasureT-loop
 μ-loop n z seed limit state₀ i₀ state i = z - i
 
--- src/lib.rt:46:5
 loop-holds : tie.Need-loop-holds Inv-loop μ-loop
 unfolding outcome
 loop-holds c = (omega arith, rw sub-zero refl)
 
--- src/lib.rt:47:22
 sub-take : tie.Need-sub-take Inv-loop μ-loop
 sub-take c = search needs
 
--- src/lib.rt:47:13
 take-requires : tie.Need-take-requires Inv-loop μ-loop
 take-requires c κs = search needs
 
--- src/lib.rt:49:13
 returns : tie.Need-returns Inv-loop μ-loop
 returns c =
     let st = c .before .before .before .before .before .args in
@@ -40,15 +33,12 @@ returns c =
     let t = c .before .before .take .result in
     sym (lp .inv .1 ∙ ap (firstFailed (st .z)) (from-failed (st .limit) (st .n) (st .z) (lp .i) (lp .state) (omega arith) (not-made (st .limit) (st .n - lp .i) (lp .state) t (c .before .before .take .ensures) (c .if1 .taken))))
 
--- src/lib.rt:46:9
 add-i : tie.Need-add-i Inv-loop μ-loop
 add-i c = search needs
 
--- src/lib.rt:46:5
 loop-less : tie.Need-loop-less Inv-loop μ-loop
 loop-less c = search needs
 
--- src/lib.rt:46:5
 loop-again : tie.Need-loop-again Inv-loop μ-loop
 loop-again c =
     let st = c .before .before .before .before .before .args in
@@ -56,7 +46,6 @@ loop-again c =
     let t = c .before .before .take .result in
     (omega arith, lp .inv .1 ∙ ap (firstFailed (st .z)) (from-more (st .limit) (st .n) (st .z) (lp .i) (lp .state) (omega arith) (t .raw) (t .state) (is-made (st .limit) (st .n - lp .i) (lp .state) t (c .before .before .take .ensures) (c .if1 .left))) ∙ failed-onto (st .z) _ _)
 
--- src/lib.rt:41:1
 returns-2 : tie.Need-returns-2 Inv-loop μ-loop
 returns-2 c =
     let st = c .before .before .args in

@@ -6,24 +6,17 @@ use Rattle.draws.proofs.Laws.{enough-kept, few-thrown}
 use borrow.Author.Needs.{needs}
 use Rattle.draws.proofs.is_thrown.Statement.{statement}
 use Rattle.draws.proofs.is_thrown.Tie as tie
-use Rattle.draws.proofs.is_thrown.Reads as reads
-use Rattle.draws.proofs.is_thrown.Lts as lts
-use Rattle.draws.proofs.remainder.Reads as remainder-reads
 
--- src/lib.rt:108:9
 returns : tie.Need-returns
 returns c = let st = c .before in sym (enough-kept (st .args .w) (st .args .raw) (st .pre .0) (omega (arith, st .pre .1)))
 
--- src/lib.rt:111:16
 remainder-requires : tie.Need-remainder-requires
 remainder-requires c κs = search needs
 
--- src/lib.rt:111:9
 returns-2 : tie.Need-returns-2
 unfolding thrownAway
 returns-2 c = rw (c .remainder .ensures)
 
--- src/lib.rt:103:1
 returns-3 : tie.Need-returns-3
 returns-3 c = let st = c .before .before in sym (few-thrown (st .args .w) (st .args .raw) (omega arith) (omega (arith, st .pre .1)))
 

@@ -7,26 +7,19 @@ use Rattle.draws.proofs.Laws.{remainder-is}
 use borrow.Author.Needs.{needs}
 use Rattle.draws.proofs.remainder.Statement.{statement}
 use Rattle.draws.proofs.remainder.Tie as tie
-use Rattle.draws.proofs.remainder.Reads as reads
-use Rattle.draws.proofs.remainder.Lts as lts
 
--- src/lib.rt:121:40
 sub-less : tie.Need-sub-less
 sub-less c = search needs
 
--- src/lib.rt:121:16
 sub-less-2 : tie.Need-sub-less-2
 sub-less-2 c = search needs
 
--- src/lib.rt:123:9
 returns : tie.Need-returns
 returns c = let w = c .before .args .w in rw (remainder-is w (omega arith), mod-eq-of-lt {n = 2 ^ 64 - w} {m = w} (omega arith)) (omega arith)
 
--- src/lib.rt:125:5
 rem-result : tie.Need-rem-result
 rem-result c = search needs
 
--- src/lib.rt:117:1
 returns-2 : tie.Need-returns-2
 returns-2 c = let w = c .before .args .w in let e : 18446744073709551615 - (w - 1) ≡ 2 ^ 64 - w = omega arith in rw (e, remainder-is w (omega arith))
 

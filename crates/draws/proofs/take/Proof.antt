@@ -8,12 +8,6 @@ use Rattle.draws.proofs.Laws.{taken-here, taken-later, taken-nowhere}
 use borrow.Author.Needs.{needs}
 use Rattle.draws.proofs.take.Statement.{statement}
 use Rattle.draws.proofs.take.Tie as tie
-use Rattle.draws.proofs.take.Reads as reads
-use Rattle.draws.proofs.take.Lts as lts
-use Rattle.draws.proofs.enough_for.Reads as enough-for-reads
-use Rattle.draws.proofs.is_thrown.Reads as is-thrown-reads
-use Rattle.splitmix.proofs.mix.Reads as mix-reads
-use Rattle.splitmix.proofs.next_state.Reads as next-state-reads
 
 abbrev Inv-loop : tie.InvT-loop
 Inv-loop w s limit enough state₀ k₀ state k = (k ≤ limit) × (taken limit w s ≡ taken (limit - k) w state)
@@ -21,49 +15,39 @@ Inv-loop w s limit enough state₀ k₀ state k = (k ≤ limit) × (taken limit 
 abbrev μ-loop : tie.MeasureT-loop
 μ-loop w s limit enough state₀ k₀ state k = limit - k
 
--- src/lib.rt:78:9
 enough-for-requires : tie.Need-enough-for-requires Inv-loop μ-loop
 enough-for-requires c κs = search needs
 
--- src/lib.rt:80:5
 loop-holds : tie.Need-loop-holds Inv-loop μ-loop
 loop-holds c = (omega arith, rw sub-zero refl)
 
--- src/lib.rt:81:9
 next-state-requires : tie.Need-next-state-requires Inv-loop μ-loop
 next-state-requires c κs = search needs
 
--- src/lib.rt:82:13
 mix-requires : tie.Need-mix-requires Inv-loop μ-loop
 mix-requires c κs = search needs
 
--- src/lib.rt:83:12
 is-thrown-requires : tie.Need-is-thrown-requires Inv-loop μ-loop
 is-thrown-requires c κs = (c .before .before .before .before .before .pre, c .before .before .before .before .enough-for .ensures)
 
--- src/lib.rt:84:13
 returns : tie.Need-returns Inv-loop μ-loop
 returns c =
     let st = c .before .before .before .before .before .before .before in
     let lp = c .before .before .before .before .before .loop in
     sym (lp .inv .1 ∙ taken-here (st .args .limit) (lp .k) (st .args .w) (lp .state) _ _ (omega arith) (c .before .before .before .next-state .ensures) (c .before .before .mix .ensures) (rw (c .before .is-thrown .ensures) at (c .if1 .taken)))
 
--- src/lib.rt:80:9
 add-k : tie.Need-add-k Inv-loop μ-loop
 add-k c = search needs
 
--- src/lib.rt:80:5
 loop-less : tie.Need-loop-less Inv-loop μ-loop
 loop-less c = search needs
 
--- src/lib.rt:80:5
 loop-again : tie.Need-loop-again Inv-loop μ-loop
 loop-again c =
     let st = c .before .before .before .before .before .before .before in
     let lp = c .before .before .before .before .before .loop in
     (omega arith, lp .inv .1 ∙ taken-later (st .args .limit) (lp .k) (st .args .w) (lp .state) _ _ (omega arith) (c .before .before .before .next-state .ensures) (c .before .before .mix .ensures) (rw (c .before .is-thrown .ensures) at (c .if1 .left)))
 
--- src/lib.rt:74:1
 returns-2 : tie.Need-returns-2 Inv-loop μ-loop
 returns-2 c =
     let st = c .before .before .before in

@@ -10,9 +10,6 @@ use Rattle.draws.proofs.Laws.{Written, written-first, written-more, wri
 use borrow.Author.Needs.{needs}
 use Rattle.draws.proofs.write_draws.Statement.{statement}
 use Rattle.draws.proofs.write_draws.Tie as tie
-use Rattle.draws.proofs.write_draws.Reads as reads
-use Rattle.draws.proofs.write_draws.Lts as lts
-use Rattle.draws.proofs.take.Reads as take-reads
 
 abbrev Inv-loop : tie.InvT-loop
 Inv-loop n z seed limit out₀ state₀ i₀ out state i = (i ≤ z) × (length out ≡ length out₀) × Written limit n z (outcome n z seed limit) out₀ i state out
@@ -20,55 +17,43 @@ Inv-loop n z seed limit out₀ state₀ i₀ out state i = (i ≤ z) × (length 
 abbrev μ-loop : tie.MeasureT-loop
 μ-loop n z seed limit out₀ state₀ i₀ out state i = z - i
 
--- src/lib.rt:62:5
 loop-holds : tie.Need-loop-holds Inv-loop μ-loop
 unfolding outcome
 loop-holds c = let st = c .before .args in (omega arith, refl, written-first (st .limit) (st .n) (st .z) _ (st .out .now) (st .seed) refl (c .before .pre .2))
 
--- src/lib.rt:63:17
 sub-w : tie.Need-sub-w Inv-loop μ-loop
 sub-w c = search needs
 
--- src/lib.rt:64:13
 take-requires : tie.Need-take-requires Inv-loop μ-loop
 take-requires c κs = search needs
 
--- src/lib.rt:65:31
 rem-out : tie.Need-rem-out Inv-loop μ-loop
 rem-out c = search needs
 
--- src/lib.rt:65:27
 add-out : tie.Need-add-out Inv-loop μ-loop
 add-out c = let st = c .before .before .before .before .before .args in let lp = c .before .before .before .loop in omega (arith, mod-lt (c .before .take .result .raw) {m = st .n - lp .i} (omega arith))
 
--- src/lib.rt:65:9
 mul-out : tie.Need-mul-out Inv-loop μ-loop
 mul-out c = search needs
 
--- src/lib.rt:65:9
 slice-write-out : tie.Need-slice-write-out Inv-loop μ-loop
 slice-write-out c = search needs
 
--- src/lib.rt:62:9
 add-i : tie.Need-add-i Inv-loop μ-loop
 add-i c = search needs
 
--- src/lib.rt:62:5
 loop-less : tie.Need-loop-less Inv-loop μ-loop
 loop-less c = search needs
 
--- src/lib.rt:62:5
 loop-again : tie.Need-loop-again Inv-loop μ-loop
 loop-again c =
     let st = c .before .before .before .before .before .args in
     let lp = c .before .before .before .loop in
     (omega arith, simp length-set (lp .inv .1), written-more (st .limit) (st .n) (st .z) _ (st .out .now) (lp .i) (lp .state) (lp .out) (lp .inv .2) (c .before .take .result) (omega arith) (omega arith) (c .before .take .ensures))
 
--- src/lib.rt:57:1
 same-length : tie.Need-same-length Inv-loop μ-loop
 same-length c = search needs
 
--- src/lib.rt:57:1
 returns : tie.Need-returns Inv-loop μ-loop
 returns c =
     let st = c .before .before .before .args in

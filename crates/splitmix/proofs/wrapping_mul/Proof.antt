@@ -1,34 +1,26 @@
+-- `splitmix::wrapping_mul` meets its contract, by the law of the product from halves.
 use mathlib.Core.Path.{_∙_}
 use native.Mathlib.Omega.{arith}
 use Rattle.splitmix.proofs.Product.{product, halves-fit}
 use borrow.Author.Needs.{needs}
 use Rattle.splitmix.proofs.wrapping_mul.Statement.{statement}
 use Rattle.splitmix.proofs.wrapping_mul.Tie as tie
-use Rattle.splitmix.proofs.wrapping_mul.Reads as reads
-use Rattle.splitmix.proofs.wrapping_mul.Lts as lts
-use Rattle.std.proofs.num.wrapping_add_u64.Reads as wrapping-add-u64-reads
 
--- src/lib.rt:14:44
 mul-wrapping-add-u64 : tie.Need-mul-wrapping-add-u64
 mul-wrapping-add-u64 c = record { fits = halves-fit _ _ (omega arith) (omega arith) }
 
--- src/lib.rt:14:53
 mul-wrapping-add-u64-2 : tie.Need-mul-wrapping-add-u64-2
 mul-wrapping-add-u64-2 c = record { fits = halves-fit _ _ (omega arith) (omega arith) }
 
--- src/lib.rt:14:9
 wrapping-add-u64-requires : tie.Need-wrapping-add-u64-requires
 wrapping-add-u64-requires c κs = search needs
 
--- src/lib.rt:15:32
 mul-wrapping-add-u64-3 : tie.Need-mul-wrapping-add-u64-3
 mul-wrapping-add-u64-3 c = record { fits = halves-fit _ _ (omega arith) (omega arith) }
 
--- src/lib.rt:15:5
 wrapping-add-u64-requires-2 : tie.Need-wrapping-add-u64-requires-2
 wrapping-add-u64-requires-2 c κs = search needs
 
--- src/lib.rt:7:1
 returns : tie.Need-returns
 returns c = (rw (c .before .wrapping-add-u64 .ensures) at (c .wrapping-add-u642 .ensures)) ∙ product (c .before .before .args .a) (c .before .before .args .b) 4294967296
 
