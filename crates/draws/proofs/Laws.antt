@@ -40,19 +40,20 @@ module _ (w r : ℕ) where
 
 -- ---- one draw
 
-module _ (limit k w s u r : ℕ) (within : k < limit) (next : u ≡ nextState s) (is : r ≡ mix u) where
-  left : limit - k ≡ suc (limit - (k + 1))
-  left = omega arith
+-- one less is left
+left : (m k : ℕ) → k < m → m - k ≡ suc (m - (k + 1))
+left m k h = omega arith
 
+module _ (limit k w s u r : ℕ) (within : k < limit) (next : u ≡ nextState s) (is : r ≡ mix u) where
   -- raw number k is kept
   pub taken-here : not (thrownAway (2 ^ 64) w r) ≡ true → taken (limit - k) w s ≡ some (r, u)
   unfolding taken raw
-  taken-here h = rw (left, ← next, ← is, eq-false-of-not-eq-true' {a = thrownAway (2 ^ 64) w r} h)
+  taken-here h = rw (left limit k within, ← next, ← is, eq-false-of-not-eq-true' {a = thrownAway (2 ^ 64) w r} h)
 
   -- raw number k is thrown away
   pub taken-later : not (thrownAway (2 ^ 64) w r) ≡ false → taken (limit - k) w s ≡ taken (limit - (k + 1)) w u
   unfolding taken raw
-  taken-later h = rw (left, ← next, ← is, eq-true-of-not-eq-false' {a = thrownAway (2 ^ 64) w r} h)
+  taken-later h = rw (left limit k within, ← next, ← is, eq-true-of-not-eq-false' {a = thrownAway (2 ^ 64) w r} h)
 
 -- none is left
 pub taken-nowhere : (limit k w s : ℕ) → limit ≤ k → taken (limit - k) w s ≡ none
@@ -63,16 +64,13 @@ taken-nowhere limit k w s h = let e : limit - k ≡ 0 = omega arith in rw e
 
 module _ (limit n z i s : ℕ) where
   module _ (within : i < z) where
-    left-draws : z - i ≡ suc (z - (i + 1))
-    left-draws = omega arith
-
     pub from-failed : taken limit (n - i) s ≡ none → drawsFrom limit n (z - i) i s ≡ failed i
     unfolding drawsFrom
-    from-failed q = rw (left-draws, q)
+    from-failed q = rw (left z i within, q)
 
     pub from-more : (r u : ℕ) → taken limit (n - i) s ≡ some (r, u) → drawsFrom limit n (z - i) i s ≡ onto (i + r % (n - i)) (drawsFrom limit n (z - (i + 1)) (i + 1) u)
     unfolding drawsFrom
-    from-more r u q = rw (left-draws, q, add-one i)
+    from-more r u q = rw (left z i within, q, add-one i)
 
   pub from-end : z ≤ i → drawsFrom limit n (z - i) i s ≡ drawn []
   unfolding drawsFrom
@@ -136,10 +134,10 @@ module _ (limit n z : ℕ) (o : Outcome) (out₀ : List ℕ) where
             }
 
     pub written-all : z ≤ i → o ≡ drawn (w .front)
-    written-all h = w .all ∙ ap drawn (ap (λ l. w .front ++ l) (none (w .rest) (sym (from-end limit n z i s h) ∙ w .ahead)) ∙ append-nil (w .front))
+    written-all h = w .all ∙ ap drawn (ap (λ l. w .front ++ l) (nothing (w .rest) (sym (from-end limit n z i s h) ∙ w .ahead)) ∙ append-nil (w .front))
       where
-        none : (rest : List ℕ) → drawn [] ≡ drawn rest → rest ≡ []
-        none rest e = cc
+        nothing : (rest : List ℕ) → drawn [] ≡ drawn rest → rest ≡ []
+        nothing rest e = cc
 
 -- ---- the call
 

@@ -22,7 +22,6 @@ use Rattle.promises.specs.Draws.{thrownAway, taken, Outcome, drawn, fail
 use Rattle.promises.proofs.Answers.{valid-places}
 use Rattle.promises.proofs.Buffers.{refused-serves, output-left}
 use Rattle.promises.proofs.Shapes.{checked}
-use Rattle.promises.proofs.FairDraws.{draw-fair}
 
 pub vectors : Vectors
 unfolding raws raw mix mixFirst mixSecond mixThird nextState
@@ -158,7 +157,6 @@ module _ (n z seed limit : ℕ) (out : List ℕ) where
   pub draws-owed : DrawsOwed n z seed limit out
   unfolding Served
   draws-owed = record {
-    fair = draw-fair;
     just = λ a b. (
       λ s. let (ds, u, l, c) = served-made s in (ds, u, l, c, made-served a b ds u l c .1),
       λ (ds, u, l, c, q). ([], made-served a b ds u l c .0),

@@ -1,16 +1,18 @@
--- Every value that a draw may have is given by as many raw numbers as any other.
+-- Raw numbers have 64 bits, and every value that a draw may have is given by as many of them as any other.
 -- Why: the raw numbers that are kept are a whole number of rounds of w consecutive ones. Assumes nothing.
 use mathlib.Core.Path.{_≡_, refl, sym, ap, _∙_, subst}
 use mathlib.Core.Logic.{⊎-elim, _≢_}
 use mathlib.Core.Bool.{not, _&&_}
 use Prim.Native.Nat.{ℕ, zero, suc, _+_, _*_, _/_, _%_, _^_, _≤_, _<_}
 use native.Mathlib.Omega.{arith}
-use native.Mathlib.Nat.{zero-add, suc-add, add-zero, add-suc, zero-mul, suc-mul, mod-eq-of-lt, add-mod-right, mod-add-div'}
+use native.Mathlib.Nat.{zero-add, suc-add, add-zero, add-suc, zero-mul, suc-mul, mod-eq-of-lt, mod-lt, add-mod-right, mod-add-div', div-le-self, lt-of-le-of-lt}
 use lib.Dec.{ltb, eqb}
+use lib.Bits.{xor-lt}
 use borrow.Author.Tests.{eqb-true, eqb-false, lt-ltb, le-ltb}
 use Rattle.lists.specs.Lists.{pick, count}
 use Rattle.lists.proofs.Tests.{case, split}
-use Rattle.promises.specs.Draws.{thrownAway, giving}
+use Rattle.promises.specs.SplitMix.{nextState, mixFirst, mixSecond, mixThird, mix, raw}
+use Rattle.promises.specs.Draws.{thrownAway, giving, FairDraws}
 
 module _ (w v : ℕ) (below : v < w) where
   -- the numbers below m that leave v
@@ -65,5 +67,16 @@ module _ (w v : ℕ) (below : v < w) where
       omega arith
 
 -- whichever of the w values: as many of the 2^64 raw numbers give it
-pub draw-fair : (w v : ℕ) → v < w → giving (2 ^ 64) w v ≡ 2 ^ 64 / w
+draw-fair : (w v : ℕ) → v < w → giving (2 ^ 64) w v ≡ 2 ^ 64 / w
 draw-fair w v h = giving-is w v h (2 ^ 64)
+
+-- the last step of the mixing makes a number of 64 bits of one of 64 bits
+raw-below : (s : ℕ) → raw s < 2 ^ 64
+unfolding raw mix mixSecond mixThird
+raw-below s =
+    let y = mixSecond (mixFirst (nextState s)) in
+    let h : y < 2 ^ 64 = mod-lt _ (omega arith) in
+    xor-lt 64 y (y / 2 ^ 31) h (lt-of-le-of-lt (div-le-self y (2 ^ 31)) h)
+
+pub fair-draws : FairDraws
+fair-draws = record { below = raw-below; even = draw-fair }

@@ -11,6 +11,7 @@
 --   AllThrown limit w s  == all raw numbers of a draw are thrown away
 --   Chain limit n i s ds u == the draws ds, from place i on, are made from the state s on, and u is the state after them
 --   giving total w v     == how many of `total` raw numbers give v, with w to choose from
+--   FairDraws            == each value of a draw has the same number of raw numbers that give it
 --   DrawsOwed            == what the call owes
 --   CompleteFromSeed     == the shuffle by the draws of a seed is complete
 --   DrawsExamples        == small calls
@@ -112,9 +113,13 @@ Chain limit n i s (d ∷ ds) u =
 unfoldable pub giving : ℕ → ℕ → ℕ → ℕ
 giving total w v = count (λ r. not (thrownAway total w r) && eqb (r % w) v) total
 
+-- why 'a raw number below 2^64 mod w is thrown away': each value of a draw has the same number of raw numbers that give it
+pub record FairDraws : Type 0 where
+  -- there are 2^64 raw numbers
+  pub below : (s : ℕ) → raw s < 2 ^ 64
+  pub even : (w v : ℕ) → v < w → giving (2 ^ 64) w v ≡ 2 ^ 64 / w
+
 pub record DrawsOwed (n z seed limit : ℕ) (out : List ℕ) : Type 0 where
-  -- each value of a draw has the same number of raw numbers that give it: 'a raw number below 2^64 mod w is thrown away' for that
-  pub fair : (w v : ℕ) → v < w → giving (2 ^ 64) w v ≡ 2 ^ 64 / w
   -- 'The first z numbers of an output become the draws': served are just those that are made so, z of them
   pub just : z ≤ length out → z ≤ n
       → Served (draws n z seed limit out) ↔ ((ds : List ℕ) × (u : ℕ) × (length ds ≡ z) × Chain limit n 0 seed ds u × (drawList n z seed limit out ≡ ds))
