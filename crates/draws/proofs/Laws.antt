@@ -6,20 +6,18 @@ use mathlib.Core.List.{List, [], _∷_, _++_, append-assoc, append-nil}
 use mathlib.Core.Option.{none, some}
 use Prim.Native.Nat.{ℕ, suc, _+_, _-_, _%_, _^_, _≤_, _<_}
 use native.Mathlib.Omega.{arith}
-use native.Mathlib.Nat.{mod-eq-sub-mod, mod-lt, sub-zero}
+use native.Mathlib.Nat.{mod-eq-sub-mod, sub-zero}
 use native.Mathlib.Numerals.{add-one}
 use mathlib.Mathlib.Data.Bool.Basic.{eq-true-of-not-eq-false', eq-false-of-not-eq-true'}
 use lib.ListN.{length, set, drop, length-append}
-use lib.Dec.{ltb}
 use borrow.Author.Tests.{lt-ltb, le-ltb}
-use Rattle.lists.proofs.Tests.{case}
 use Rattle.lists.proofs.Fronts.{front-put}
 use Rattle.promises.specs.Answer.{refused}
 use Rattle.promises.specs.Calls.{outputAfter}
 use Rattle.promises.specs.SplitMix.{nextState, mix, raw}
 use Rattle.promises.specs.Draws.{thrownAway, taken, Outcome, drawn, failed, onto, drawsFrom, outcome, said, draws, drawsOutput}
 use Rattle.promises.proofs.Draws.{draws-is, draws-owed}
-use Rattle.draws.specs.Making.{enoughFor, takenOf, firstFailed, AllMade}
+use Rattle.draws.specs.Making.{Enough, takenOf, firstFailed, AllMade}
 use Rattle.draws.specs.declared.Draw.{Draw}
 
 -- ---- one raw number
@@ -28,15 +26,14 @@ use Rattle.draws.specs.declared.Draw.{Draw}
 pub remainder-is : (w : ℕ) → w ≤ 2 ^ 64 → 2 ^ 64 % w ≡ (2 ^ 64 - w) % w
 remainder-is w l = mod-eq-sub-mod l
 
-module _ (w r : ℕ) where
-  -- 2^64 mod w is below w
-  pub enough-kept : 0 < w → enoughFor w ≤ r → thrownAway (2 ^ 64) w r ≡ false
-  unfolding enoughFor thrownAway
-  enough-kept p h = case (ltb w (2 ^ 60)) (λ q. rw (le-ltb r (2 ^ 64 % w) (omega (arith, mod-lt (2 ^ 64) p, rw q at h)))) (λ q. rw (le-ltb r (2 ^ 64 % w) (rw q at h)))
+module _ (w e r : ℕ) (enough : Enough w e) where
+  pub enough-kept : e ≤ r → thrownAway (2 ^ 64) w r ≡ false
+  unfolding thrownAway
+  enough-kept h = le-ltb r (2 ^ 64 % w) (omega (arith, enough .0))
 
-  pub few-thrown : 2 ^ 60 ≤ w → r < enoughFor w → thrownAway (2 ^ 64) w r ≡ true
-  unfolding enoughFor thrownAway
-  few-thrown l h = rw (lt-ltb r (2 ^ 64 % w) (rw (le-ltb w (2 ^ 60) l) at h))
+  pub less-thrown : 2 ^ 60 ≤ w → r < e → thrownAway (2 ^ 64) w r ≡ true
+  unfolding thrownAway
+  less-thrown l h = lt-ltb r (2 ^ 64 % w) (omega (arith, enough .1 l))
 
 -- ---- one draw
 

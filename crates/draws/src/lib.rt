@@ -8,7 +8,7 @@ ghost use Prim.Native.Nat.{_%_, _<_, _≤_, _^_};
 ghost use lib.ListN.{length};
 ghost use Rattle.shuffle.specs.Outcome.{answerOf};
 ghost use Rattle.promises.specs.Draws.{thrownAway, taken, outcome, draws as promised, drawsOutput};
-ghost use Rattle.draws.specs.Making.{enoughFor, takenOf, firstFailed, AllMade};
+ghost use Rattle.draws.specs.Making.{Enough, takenOf, firstFailed, AllMade};
 
 // One draw: whether it is made, and then the raw number that it takes and the state after it.
 struct Draw {
@@ -98,7 +98,7 @@ fn take(w: u64, s: u64, limit: u8) -> Draw
 // division is spared.
 fn enough_for(w: u64) -> u64
     requires { ⌜ 0 < w ⌝ }
-    ensures { λ r. ⌜ r ≡ enoughFor w ⌝ }
+    ensures { λ r. ⌜ Enough w r ⌝ }
 {
     if w < SMALL {
         return w;
@@ -108,7 +108,7 @@ fn enough_for(w: u64) -> u64
 
 // Whether a raw number is thrown away.
 fn is_thrown(raw: u64, w: u64, enough: u64) -> bool
-    requires { ⌜ (0 < w) × (enough ≡ enoughFor w) ⌝ }
+    requires { ⌜ (0 < w) × Enough w enough ⌝ }
     ensures { λ r. ⌜ r ≡ thrownAway (2 ^ 64) w raw ⌝ }
 {
     if enough <= raw {
