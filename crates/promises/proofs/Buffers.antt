@@ -14,7 +14,7 @@ use lib.Dec.{ltb, leb, eqb}
 use borrow.Author.Tests.{ltb-false, ne-eqb}
 use Rattle.lists.specs.Lists.{pick, any, concatMap}
 use Rattle.lists.proofs.Tests.{contra, case, split}
-use Rattle.lists.proofs.Tells.{tells-true, tells-false, tells-lt, tells-eq}
+use Rattle.lists.proofs.Tells.{tells-true, tells-lt, tells-eq}
 use Rattle.lists.proofs.Members.{any-some, any-in}
 use Rattle.lists.proofs.Tables.{length-tabulate, getD-tabulate, length-stack, getD-stack}
 use Rattle.lists.proofs.Blocks.{length-blocks}
@@ -178,6 +178,11 @@ pub refused-serves : (n p : ℕ) → Served (refused n p) → ⊥
 unfolding Served
 refused-serves n p (vs, q) = let z : _≡_ {A = ℕ} 0 1 = cc in omega arith
 
+-- a served answer has passed each check
+pub unless-served : (n p : ℕ) (bad : Bool) (a : Answer) → Served (unless n p bad a) → (bad ≡ false) × Served a
+unless-served n p true a s = absurd (refused-serves n p s)
+unless-served n p false a s = (refl, s)
+
 served-or : (a : Answer) → Served a ⊎ (Served a → ⊥)
 unfolding Served
 served-or (served vs) = inl (vs, refl)
@@ -223,27 +228,23 @@ listed t h is cells out s = record { passed = z; room = room; some = counting .0
     after-8 : Served (unless 12 0 (ltb (length out) (length is * h)) (counted t h (unlessAt 11 (λ p i. leb (total t h) i) is (served []))))
     after-8 = rw (sized-on t h cells _ (z .readable) (z .horizon) (z .room)) at s
 
-    room : length out < length is * h → ⊥
-    room c = refused-serves 12 0 (rw (tells-true (tells-lt (length out) (length is * h)) c) at after-8)
+    twelve : (ltb (length out) (length is * h) ≡ false) × Served (counted t h (unlessAt 11 (λ p i. leb (total t h) i) is (served [])))
+    twelve = unless-served 12 0 (ltb (length out) (length is * h)) _ after-8
 
-    after-12 : Served (counted t h (unlessAt 11 (λ p i. leb (total t h) i) is (served [])))
-    after-12 = rw (tells-false (tells-lt (length out) (length is * h)) room) at after-8
+    room : length out < length is * h → ⊥
+    room c = tells-lt (length out) (length is * h) .no (twelve .0) c
 
     counting : (1 ≤ total t h) × (total t h < most)
     counting = (
-      ⊎-elim (λ l. l) (λ l. let q : total t h ≡ 0 = omega arith in absurd (refused-serves 9 0 (rw (counted-none t h _ q) at after-12))) (split 1 (total t h)),
-      ⊎-elim (λ l. absurd (refused-serves 10 0 (rw (counted-most t h _ l) at after-12))) (λ l. l) (split most (total t h)),
+      ⊎-elim (λ l. l) (λ l. let q : total t h ≡ 0 = omega arith in absurd (refused-serves 9 0 (rw (counted-none t h _ q) at (twelve .1)))) (split 1 (total t h)),
+      ⊎-elim (λ l. absurd (refused-serves 10 0 (rw (counted-most t h _ l) at (twelve .1)))) (λ l. l) (split most (total t h)),
     )
 
 shuffle-room : (n : ℕ) (ds scratch out : List ℕ) → Served (shuffle n ds scratch out) → length ds ≤ length out
 unfolding shuffle
 shuffle-room n ds scratch out s =
-    case (ltb (length scratch) (2 * length ds))
-    (λ q. absurd (refused-serves 8 0 (rw q at s)))
-    (λ q. let s₁ = rw q at s in
-    case (ltb (length out) (length ds))
-    (λ e. absurd (refused-serves 12 0 (rw e at s₁)))
-    (λ e. ltb-false (length out) (length ds) e))
+    let (q, s₁) = unless-served 8 0 (ltb (length scratch) (2 * length ds)) _ s in
+    ltb-false (length out) (length ds) (unless-served 12 0 (ltb (length out) (length ds)) _ s₁ .0)
 
 enough : (h : ℕ) (is out : List ℕ) → (Case12 h is out → ⊥) → length is * h ≤ length out
 unfolding Case12

@@ -20,7 +20,7 @@ use Rattle.promises.specs.Shapes.{Shaped}
 use Rattle.promises.specs.SplitMix.{nextState, raw, advance, raws, mix, mixFirst, mixSecond, mixThird, Vectors}
 use Rattle.promises.specs.Draws.{thrownAway, taken, Outcome, drawn, failed, onto, drawsFrom, outcome, said, made, draws, drawsOutput, drawList, TakenAt, AllThrown, Chain, DrawsOwed, CompleteFromSeed, DrawsExamples}
 use Rattle.promises.proofs.Answers.{valid-places}
-use Rattle.promises.proofs.Buffers.{refused-serves, output-left}
+use Rattle.promises.proofs.Buffers.{refused-serves, unless-served, output-left}
 use Rattle.promises.proofs.Shapes.{checked}
 
 pub vectors : Vectors
@@ -120,12 +120,8 @@ module _ (n z seed limit : ℕ) (out : List ℕ) where
   room : Served (draws n z seed limit out) → (z ≤ length out) × (z ≤ n)
   unfolding draws
   room s =
-      case (ltb (length out) z)
-      (λ q. absurd (refused-serves 12 0 (rw q at s)))
-      (λ q. let s₁ = rw q at s in
-      case (ltb n z)
-      (λ e. absurd (refused-serves 15 n (rw e at s₁)))
-      (λ e. (ltb-false (length out) z q, ltb-false n z e)))
+      let (q, s₁) = unless-served 12 0 (ltb (length out) z) _ s in
+      (ltb-false (length out) z q, ltb-false n z (unless-served 15 n (ltb n z) _ s₁ .0))
 
   -- where the draws are made they are what is written
   pub drawn-served : z ≤ length out → z ≤ n → (ds : List ℕ) → outcome n z seed limit ≡ drawn ds → (draws n z seed limit out ≡ served []) × (drawsOutput n z seed limit out ≡ ds ++ drop (length ds) out)
