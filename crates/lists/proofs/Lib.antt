@@ -15,3 +15,4 @@ pub mod Blocks
 pub mod Fronts
 pub mod Decimal
 pub mod Splices
+pub mod Halves

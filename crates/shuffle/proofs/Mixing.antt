@@ -1,16 +1,12 @@
 -- A bucket is one of z. Why: what is scaled is below 2^32 times z, or times 2^32 where that is less. Assumes nothing.
-use Prim.Native.Nat.{ℕ, _-_, _*_, _/_, _%_, _^_, _<_, _≤_, min}
-use native.Mathlib.Nat.{mul-le-mul, mul-lt-mul-of-pos-right}
+use Prim.Native.Nat.{ℕ, _*_, _/_, _%_, _^_, _<_, _≤_, min}
+use native.Mathlib.Nat.{mul-lt-mul-of-pos-right}
 use native.Mathlib.Omega.{arith}
 use Rattle.shuffle.specs.Buckets.{spread, bucketOf}
 
 pub spread-fits : (x : ℕ) → spread x < 2 ^ 64
 unfolding spread
 spread-fits x = omega arith
-
--- the product of two halves fits
-pub halves-fit : (x a : ℕ) → x < 2 ^ 64 → a ≤ 2 ^ 32 → x / 2 ^ 32 * a < 2 ^ 64
-halves-fit x a h k = let q : x / 2 ^ 32 * a ≤ (2 ^ 32 - 1) * 2 ^ 32 = mul-le-mul {n₁ = x / 2 ^ 32} {m₁ = a} {n₂ = 2 ^ 32 - 1} {m₂ = 2 ^ 32} (omega arith) k in omega arith
 
 pub bucket-below : (z d : ℕ) → 0 < z → bucketOf z d < z
 unfolding bucketOf

@@ -4,7 +4,8 @@ use Prim.Native.Nat.{_*_, _/_, _%_, _^_}
 use native.Mathlib.Omega.{arith}
 use borrow.Author.Needs.{needs}
 use Rattle.shuffle.specs.Buckets.{bucketOf}
-use Rattle.shuffle.proofs.Mixing.{halves-fit, bucket-below}
+use Rattle.lists.proofs.Halves.{halves-fit}
+use Rattle.shuffle.proofs.Mixing.{bucket-below}
 use Rattle.shuffle.proofs.bucket.Statement.{statement}
 use Rattle.shuffle.proofs.bucket.Tie as tie
 
@@ -14,7 +15,7 @@ spread-bits-requires c κs = search needs
 mul-spread-bits : tie.Need-mul-spread-bits
 mul-spread-bits c =
     let m = c .spread-bits in
-    record { fits = halves-fit (m .result) (m .result % 2 ^ 32) (m .ensures .1) (omega arith) }
+    record { fits = halves-fit (m .result / 2 ^ 32) (m .result % 2 ^ 32) (omega (arith, m .ensures .1)) (omega arith) }
 
 spread-bits-requires-2 : tie.Need-spread-bits-requires-2
 spread-bits-requires-2 c κs = search needs
@@ -25,7 +26,7 @@ at-most-word-requires c κs = search needs
 mul-result : tie.Need-mul-result
 mul-result c =
     let h = c .before .spread-bits2 in
-    record { fits = halves-fit (h .result) (c .at-most-word .result) (h .ensures .1) (omega arith) }
+    record { fits = halves-fit (h .result / 2 ^ 32) (c .at-most-word .result) (omega (arith, h .ensures .1)) (omega arith) }
 
 returns : tie.Need-returns
 unfolding bucketOf

@@ -1,7 +1,8 @@
 -- `splitmix::wrapping_mul` meets its contract, by the law of the product from halves.
 use mathlib.Core.Path.{_∙_}
 use native.Mathlib.Omega.{arith}
-use Rattle.splitmix.proofs.Product.{product, halves-fit}
+use Rattle.lists.proofs.Halves.{halves-fit}
+use Rattle.splitmix.proofs.Product.{product}
 use borrow.Author.Needs.{needs}
 use Rattle.splitmix.proofs.wrapping_mul.Statement.{statement}
 use Rattle.splitmix.proofs.wrapping_mul.Tie as tie
