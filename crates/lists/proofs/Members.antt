@@ -1,12 +1,12 @@
--- Membership in lists that are mapped, joined and tested. Assumes nothing.
-use mathlib.Core.Path.{_≡_, refl, sym, ap, ap₂, _∙_}
+-- Membership in lists that are mapped, joined, parted and tested. Assumes nothing.
+use mathlib.Core.Path.{_≡_, refl, sym, ap, ap₂, _∙_, subst}
 use mathlib.Core.Logic.{_⊎_, inl, inr, _↔_}
 use mathlib.Core.Bool.{Bool, true, _||_, or-false, or-assoc}
 use mathlib.Core.List.{List, [], _∷_, _++_, map}
 use mathlib.Core.List.{List·Memᴰ as In, List·Memᴰ·head as here, List·Memᴰ·tail as there, List·Memᴰ·append-cases as in-append, Memᴰ·append-left as in-left, Memᴰ·append-right as in-right}
 use Prim.Native.Nat.{ℕ, zero, suc, _+_, _≤_, _<_}
 use native.Mathlib.Omega.{arith}
-use lib.ListN.{length, getD, length-append}
+use lib.ListN.{length, getD, take, drop, length-append, take-append-drop}
 use Rattle.lists.specs.Lists.{any, sum, concatMap}
 use Rattle.lists.proofs.Tests.{contra, or-cases, or-right, bool-ext}
 
@@ -71,3 +71,9 @@ getD-map-lt f (x ∷ l) (suc i) a b h = getD-map-lt f l i a b (omega arith)
 pub sum-in : (c : ℕ → ℕ) {e : ℕ} {l : List ℕ} → In e l → c e ≤ sum c l
 sum-in c (here q) = omega (arith, ap c q)
 sum-in c (there h) = omega (arith, sum-in c h)
+
+pub in-take : {A : Type 0} (n : ℕ) (l : List A) {a : A} → In a (take n l) → In a l
+in-take n l {a} i = subst (In a) (take-append-drop n l) (in-left (drop n l) i)
+
+pub in-drop : {A : Type 0} (n : ℕ) (l : List A) {a : A} → In a (drop n l) → In a l
+in-drop n l {a} i = subst (In a) (take-append-drop n l) (in-right (take n l) i)

@@ -34,3 +34,5 @@ pub mod FairDraws
 pub mod Draws
 pub mod Known
 pub mod Wrong
+pub mod Bench
+pub mod Sheets

@@ -11,7 +11,7 @@ use lib.Dec.{eqb}
 use borrow.Author.Tests.{eq-eqb, ne-eqb, eqb-true, eqb-false}
 use Rattle.lists.specs.Lists.{pick}
 use Rattle.lists.proofs.Tests.{case}
-use Rattle.promises.specs.Text.{onto, splitOn, init, lastOf}
+use Rattle.promises.specs.Text.{onto, splitOn, init, lastOf, lines, unended}
 use Rattle.promises.specs.Spelling.{preceded, joined}
 
 abbrev pub Free : ℕ → List ℕ → Type 0
@@ -117,3 +117,31 @@ pub last-in : (p : List ℕ) (ps : List (List ℕ)) → In (lastOf (p ∷ ps)) (
 unfolding lastOf
 last-in p [] = here refl
 last-in p (q ∷ ps) = there (last-in q ps)
+
+-- ---- lines with their line ends are parted into them, and nothing stands after the last
+
+splitOn-lines : (ls : List (List ℕ)) → ((l : List ℕ) → In l ls → Free 10 l) → splitOn 10 (joined ls) ≡ ls ++ [] ∷ []
+unfolding splitOn joined
+splitOn-lines [] f = refl
+splitOn-lines (l ∷ ls) f = splitOn-at 10 l (joined ls) (f l (here refl)) ∙ ap (λ ps. l ∷ ps) (splitOn-lines ls (λ m i. f m (there i)))
+
+init-snoc : (ps : List (List ℕ)) (p : List ℕ) → init (ps ++ p ∷ []) ≡ ps
+unfolding init
+init-snoc [] p = refl
+init-snoc (q ∷ []) p = refl
+init-snoc (q ∷ (r ∷ ps)) p = ap (λ l. q ∷ l) (init-snoc (r ∷ ps) p)
+
+last-snoc : (ps : List (List ℕ)) (p : List ℕ) → lastOf (ps ++ p ∷ []) ≡ p
+unfolding lastOf
+last-snoc [] p = refl
+last-snoc (q ∷ []) p = refl
+last-snoc (q ∷ (r ∷ ps)) p = last-snoc (r ∷ ps) p
+
+module _ (ls : List (List ℕ)) (free : (l : List ℕ) → In l ls → Free 10 l) where
+  pub lines-joined : lines (joined ls) ≡ ls
+  unfolding lines
+  lines-joined = ap init (splitOn-lines ls free) ∙ init-snoc ls []
+
+  pub unended-joined : unended (joined ls) ≡ []
+  unfolding unended
+  unended-joined = ap lastOf (splitOn-lines ls free) ∙ last-snoc ls []

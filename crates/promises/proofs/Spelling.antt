@@ -4,7 +4,7 @@ use mathlib.Core.Path.{_≡_, refl, sym, ap, ap₂, _∙_, subst}
 use mathlib.Core.Logic.{_⊎_, inl, inr, _≢_, ⊎-elim}
 use mathlib.Core.Bool.{true, false, _&&_}
 use mathlib.Core.List.{List, [], _∷_, _++_, map}
-use mathlib.Core.List.{List·Memᴰ as In, List·Memᴰ·head as here, List·Memᴰ·tail as there, List·Memᴰ·not-nil, List·Memᴰ·eq-of-singleton}
+use mathlib.Core.List.{List·Memᴰ as In, List·Memᴰ·head as here, List·Memᴰ·tail as there, List·Memᴰ·not-nil, List·Memᴰ·eq-of-singleton, List·Memᴰ·append-cases as in-append}
 use mathlib.Core.Option.{Option, none, some}
 use Prim.Native.Nat.{ℕ, zero, suc, _+_, _≤_, _<_}
 use Prim.Native.String.{String}
@@ -301,23 +301,23 @@ two-of-two-reads : (f : ℕ → Line) (g : ℕ → ℕ → Line) (a b : ℕ) →
 unfolding oneOrTwo endOr Small
 two-of-two-reads f g a b s = field-reads (λ a. endOr (f a) (one (g a))) a (map decimal (b ∷ [])) (s a (here refl)) ∙ one-reads (g a) b (λ n i. s n (there i))
 
-numbers-read : (ns : List ℕ) → Small ns → numbers (map decimal ns) ≡ some ns
+pub numbers-read : (ns : List ℕ) → Small ns → numbers (map decimal ns) ≡ some ns
 unfolding numbers ahead Small
 numbers-read [] s = refl
 numbers-read (n ∷ ns) s = rw (number-reads n (s n (here refl)) (decimal n) refl, numbers-read ns (λ m i. s m (there i)))
 
 -- ---- a word and its numbers
 
-decimal-free : (n : ℕ) → Free 9 (decimal n)
-decimal-free n i = omega (arith, decimal-digit n 9 i .0)
+decimal-free : (b n : ℕ) → b < 48 → Free b (decimal n)
+decimal-free b n h i = omega (arith, decimal-digit n b i .0)
 
 signed-free : (x : ℤ) → Free 9 (signedDecimal x)
-signed-free (pos n) i = decimal-free n i
+signed-free (pos n) i = decimal-free 9 n (omega arith) i
 signed-free (negsuc n) (here e) = omega arith
-signed-free (negsuc n) (there i) = decimal-free (suc n) i
+signed-free (negsuc n) (there i) = decimal-free 9 (suc n) (omega arith) i
 
 decimals-free : (ns : List ℕ) (q : List ℕ) → In q (map decimal ns) → Free 9 q
-decimals-free (n ∷ ns) q (here e) = subst (Free 9) (sym e) (decimal-free n)
+decimals-free (n ∷ ns) q (here e) = subst (Free 9) (sym e) (decimal-free 9 n (omega arith))
 decimals-free (n ∷ ns) q (there i) = decimals-free ns q i
 
 two-free : (f g q : List ℕ) → Free 9 f → Free 9 g → In q (f ∷ g ∷ []) → Free 9 q
@@ -331,6 +331,16 @@ fields-written w fs q free = splitOn-pieces 9 (bytes w) fs (free-any 9 (bytes w)
 pub fields-spelled : (w : String) (ns : List ℕ) → any (eqb 9) (bytes w) ≡ false → fields (spelled w ns) ≡ bytes w ∷ map decimal ns
 unfolding spelled
 fields-spelled w ns q = fields-written w (map decimal ns) q (decimals-free ns)
+
+-- no line end is inside
+pub spelled-free : (w : String) (ns : List ℕ) → any (eqb 10) (bytes w) ≡ false → Free 10 (spelled w ns)
+unfolding spelled
+spelled-free w ns q i = ⊎-elim (free-any 10 (bytes w) q) (numbers-free ns) (in-append (bytes w) i)
+  where
+    numbers-free : (ns : List ℕ) → Free 10 (preceded 9 (map decimal ns))
+    numbers-free [] j = List·Memᴰ·not-nil j
+    numbers-free (n ∷ ns) (here e) = omega arith
+    numbers-free (n ∷ ns) (there j) = ⊎-elim (decimal-free 10 n (omega arith)) (numbers-free ns) (in-append (decimal n) j)
 
 written-fields : (w : String) (gs : List (List ℕ)) (l v : List ℕ) (fs : List (List ℕ)) → splitOn 9 l ≡ v ∷ fs → same v (bytes w) ≡ true → fs ≡ gs → l ≡ written w gs
 written-fields w gs l v fs q t e = splitOn-joined 9 l v fs q ∙ ap₂ (λ v fs. v ++ preceded 9 fs) (same-tells v (bytes w) .yes t) e
@@ -386,7 +396,7 @@ spelled-decodes (begins (day T)) l (q, s) = rw (q, fields-spelled "day" (T ∷ [
 spelled-decodes (continues (go a b c)) l (q, s) = rw (q, fields-spelled "go" (a ∷ b ∷ c ∷ []) refl) (three-reads (λ s e t. continues (go s e t)) a b c s)
 spelled-decodes (continues (stop a)) l (q, s) = rw (q, fields-spelled "stop" (a ∷ []) refl) (one-reads (λ s. continues (stop s)) a s)
 spelled-decodes (continues (amp e d)) l (q, a, b) =
-    rw (q, fields-written "amp" (decimal e ∷ signedDecimal d ∷ []) refl (λ f. two-free (decimal e) (signedDecimal d) f (decimal-free e) (signed-free d)))
+    rw (q, fields-written "amp" (decimal e ∷ signedDecimal d ∷ []) refl (λ f. two-free (decimal e) (signedDecimal d) f (decimal-free 9 e (omega arith)) (signed-free d)))
     (then-signed-reads (λ e d. continues (amp e d)) e d a b)
 spelled-decodes (continues (opens a b c)) l (q, s) = rw (q, fields-spelled "open" (a ∷ b ∷ c ∷ []) refl) (three-reads (λ e a b. continues (opens e a b)) a b c s)
 spelled-decodes other l never = absurd never

@@ -17,6 +17,7 @@ pub mod Small
 pub mod Forward
 pub mod SplitMix
 pub mod Draws
+pub mod Sheets
 pub mod Examples
 pub mod Starred
 pub mod Starts
