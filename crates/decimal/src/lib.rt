@@ -39,7 +39,7 @@ fn powers_of_ten() -> [u64; 20]
 
 // How many digits n has: a number below ten to the power k, and not below the power before, has k. The table is copied before the loop,
 // since a constant that is indexed within it would be stored anew at each turn.
-fn count_digits(n: u64) -> usize
+pub fn count_digits(n: u64) -> usize
     ensures { λ r. ⌜ r ≡ length (decimal n) ⌝ }
 {
     let powers = powers_of_ten();

@@ -1,7 +1,7 @@
 -- A line is written piece by piece: what is written is a front of the line, and each piece goes where the front ends. Assumes nothing.
-use mathlib.Core.Path.{_≡_, sym, ap₂, _∙_}
+use mathlib.Core.Path.{_≡_, sym, ap, ap₂, _∙_}
 use mathlib.Core.List.{List, [], _∷_, _++_, append-assoc, append-nil}
-use Prim.Native.Nat.{ℕ, zero, suc, _+_, _-_, _≤_, _<_}
+use Prim.Native.Nat.{ℕ, zero, suc, _+_, _-_, _*_, _≤_, _<_}
 use native.Mathlib.Numerals.{add-one}
 use native.Mathlib.Omega.{arith}
 use native.Mathlib.Nat.{add-zero}
@@ -10,7 +10,10 @@ use lib.Seq.{take-append-seam, drop-append-add, drop-drop, set-split, append-sno
 use Rattle.lists.specs.Lists.{concatMap}
 use Rattle.lists.proofs.Fronts.{front-put, front-more}
 use Rattle.lists.specs.Decimal.{decimal}
-use Rattle.line.specs.Line.{fieldBytes, placed, lineOf, numbersOf}
+use Rattle.lists.proofs.Members.{length-concatMap}
+use Rattle.lists.proofs.Sums.{sum-take}
+use Rattle.lists.proofs.Decimal.{decimal-short}
+use Rattle.line.specs.Line.{fieldBytes, lineFrom, placed, numbersOf}
 
 -- a piece placed where the front ends
 pub front-placed : (s t d out : List ℕ) (at : ℕ) → at ≡ length s → out ≡ s ++ drop (length s) d → placed t at out ≡ (s ++ t) ++ drop (length (s ++ t)) d
@@ -61,6 +64,15 @@ placed-more s t d at h =
     front-placed front t d (placed s at d) (at + length s) (sym q) (rw q)
     ∙ ap₂ (λ (l : List ℕ) (m : ℕ). l ++ drop m d) (append-assoc (take at d) s t) r
 
+pub fields-within : (events : List ℕ) (k : ℕ) → length (concatMap fieldBytes (take k events)) ≤ length (concatMap fieldBytes events)
+fields-within events k = rw (length-concatMap fieldBytes (take k events), length-concatMap fieldBytes events) (sum-take (λ e. length (fieldBytes e)) k events)
+
+-- an event is a byte, and has three digits at most
+pub fields-short : (events : List ℕ) → ((k : ℕ) → getD events k 0 < 256) → length (concatMap fieldBytes events) ≤ 4 * length events
+fields-short [] small = omega arith
+fields-short (e ∷ events) small =
+    omega (arith, length-append (fieldBytes e) (concatMap fieldBytes events), decimal-short 3 e (omega (arith, small 0)) (omega arith), fields-short events (λ k. small (suc k)))
+
 module _ (events : List ℕ) (k : ℕ) (lt : k < length events) where
   pub length-fields : length (concatMap fieldBytes (take (k + 1) events)) ≡ length (concatMap fieldBytes (take k events)) + length (fieldBytes (getD events k 0))
   length-fields = rw (add-one k, concatMap-take fieldBytes events k lt, length-append)
@@ -77,16 +89,39 @@ ended : (s d out : List ℕ) (end : ℕ) → length s < length d → end ≡ len
     → (end + 1 ≡ length (s ++ 10 ∷ [])) × (set out end 10 ≡ (s ++ 10 ∷ []) ++ drop (length (s ++ 10 ∷ [])) d)
 ended s d out end h e q = (omega (arith, length-append s (10 ∷ [])), rw (e, q) (front-put s d 10 h))
 
-pub line-written : (index : ℕ) (events d out out′ : List ℕ) (from end : ℕ)
+-- after pieces that stand at `at`
+pub ended-placed : (s d out : List ℕ) (at end : ℕ) → at + length s < length d → end ≡ at + length s → out ≡ placed s at d
+    → (end + 1 ≡ at + length (s ++ 10 ∷ [])) × (set out end 10 ≡ placed (s ++ 10 ∷ []) at d)
+ended-placed s d out at end h e q =
+    let front = take at d ++ s in
+    let l : length front ≡ at + length s = length-append (take at d) s ∙ rw (length-take-le at d (omega arith)) in
+    let m : length (front ++ 10 ∷ []) ≡ at + length (s ++ 10 ∷ []) = omega (arith, l, length-append front (10 ∷ []), length-append s (10 ∷ [])) in
+    let (n, p) = ended front d out end (omega (arith, l)) (omega (arith, l)) (q ∙ ap (λ n. front ++ drop n d) (sym l)) in
+    (n ∙ m, p ∙ ap₂ (λ (l : List ℕ) (k : ℕ). l ++ drop k d) (append-assoc (take at d) s (10 ∷ [])) m)
+
+-- the rest of a line after its first field
+pub rest-written : (first ns d out out′ : List ℕ) (from end : ℕ)
+    → from ≡ length first → out ≡ first ++ drop (length first) d
+    → end ≡ from + length (lineFrom [] ns) → out′ ≡ placed (lineFrom [] ns) from out
+    → (end ≡ length (lineFrom first ns)) × (out′ ≡ lineFrom first ns ++ drop (length (lineFrom first ns)) d)
+rest-written first ns d out out′ from end f q e q′ =
+    let rest = concatMap fieldBytes ns ++ 10 ∷ [] in
+    let same : first ++ rest ≡ lineFrom first ns = sym (append-assoc first (concatMap fieldBytes ns) (10 ∷ [])) in (
+      rw (← same, length-append first rest) (omega arith),
+      q′ ∙ front-placed first rest d out from f q ∙ ap (λ l. l ++ drop (length l) d) same,
+    )
+
+pub number-long : (word : List ℕ) (n : ℕ) → length (lineFrom word (n ∷ [])) ≡ length word + length (fieldBytes n) + 1
+number-long word n = rw (append-nil, length-append, length-append) (omega arith)
+
+pub number-written : (word d out out′ : List ℕ) (n from end : ℕ)
     → end < length d
-    → from ≡ length (decimal index) → out ≡ decimal index ++ drop (length (decimal index)) d
-    → end ≡ from + length (concatMap fieldBytes events) → out′ ≡ placed (concatMap fieldBytes events) from out
-    → (end + 1 ≡ length (lineOf index events)) × (set out′ end 10 ≡ lineOf index events ++ drop (length (lineOf index events)) d)
-unfolding lineOf
-line-written index events d out out′ from end h f q e q′ =
-    let l = length-append (decimal index) (concatMap fieldBytes events) in
-    ended (decimal index ++ concatMap fieldBytes events) d out′ end (omega (arith, l)) (omega (arith, l))
-    (q′ ∙ front-placed (decimal index) (concatMap fieldBytes events) d out from f q)
+    → from ≡ length word → out ≡ word ++ drop (length word) d
+    → end ≡ from + length (fieldBytes n) → out′ ≡ placed (fieldBytes n) from out
+    → (end + 1 ≡ length (lineFrom word (n ∷ []))) × (set out′ end 10 ≡ lineFrom word (n ∷ []) ++ drop (length (lineFrom word (n ∷ []))) d)
+number-written word d out out′ n from end h f q e q′ =
+    let l = length-append word (fieldBytes n) in
+    rw append-nil (ended (word ++ fieldBytes n) d out′ end (omega (arith, l)) (omega (arith, l)) (q′ ∙ front-placed word (fieldBytes n) d out from f q))
 
 pub numbers-written : (word d out out′ out″ : List ℕ) (a b from next end : ℕ)
     → end < length d
