@@ -8,7 +8,7 @@ use native.Mathlib.Nat.{add-zero}
 use lib.ListN.{length, getD, set, take, drop, length-append, take-append-drop}
 use lib.Seq.{take-append-seam, drop-append-add, drop-drop, set-split, append-snoc, take-suc, length-take-le}
 use Rattle.lists.specs.Lists.{concatMap}
-use Rattle.lists.proofs.Fronts.{front-put, front-more}
+use Rattle.lists.proofs.Fronts.{front-put, front-from}
 use Rattle.lists.specs.Decimal.{decimal}
 use Rattle.lists.proofs.Members.{length-concatMap}
 use Rattle.lists.proofs.Sums.{sum-take}
@@ -23,7 +23,9 @@ front-placed s t d out at a e = rw (a, e, take-append-seam, drop-append-add, dro
 pub field-placed : (n at : ℕ) (out last : List ℕ) → at < length out
     → last ≡ decimal n ++ drop (length (decimal n)) (take (length (set out at 9) - (at + 1)) (drop (at + 1) (set out at 9)))
     → take (at + 1) (set out at 9) ++ (last ++ drop (length (set out at 9) - (at + 1)) (drop (at + 1) (set out at 9))) ≡ placed (fieldBytes n) at out
-field-placed n at out last h back = whole (at + 1) (sym k) back ∙ ap₂ (λ (l : List ℕ) (m : ℕ). l ++ drop m out) (append-snoc (take at out) 9 (decimal n)) more
+field-placed n at out last h back =
+    front-from s out (decimal n) (set out at 9) last (at + 1) (sym k) e back
+    ∙ ap₂ (λ (l : List ℕ) (m : ℕ). l ++ drop m out) (append-snoc (take at out) 9 (decimal n)) more
   where
     s : List ℕ
     s = take at out ++ 9 ∷ []
@@ -36,10 +38,6 @@ field-placed n at out last h back = whole (at + 1) (sym k) back ∙ ap₂ (λ (l
 
     e : set out at 9 ≡ s ++ drop (length s) out
     e = set-split out at 9 h ∙ rw (k, add-one) (sym (append-snoc (take at out) 9 (drop (suc at) out)))
-
-    whole : (m : ℕ) → m ≡ length s → last ≡ decimal n ++ drop (length (decimal n)) (take (length (set out at 9) - m) (drop m (set out at 9)))
-        → take m (set out at 9) ++ (last ++ drop (length (set out at 9) - m) (drop m (set out at 9))) ≡ (s ++ decimal n) ++ drop (length (s ++ decimal n)) out
-    whole m q b = rw q (front-more s out (decimal n) (set out at 9) last e (rw (← q) b))
 
 pub concatMap-take : (f : ℕ → List ℕ) (l : List ℕ) (k : ℕ) → k < length l → concatMap f (take (suc k) l) ≡ concatMap f (take k l) ++ f (getD l k 0)
 concatMap-take f [] k h = absurd (omega arith)

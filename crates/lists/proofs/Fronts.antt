@@ -2,7 +2,7 @@
 -- Assumes nothing.
 use mathlib.Core.Path.{_≡_, sym}
 use mathlib.Core.List.{List, [], _∷_, _++_, append-assoc, append-nil}
-use Prim.Native.Nat.{suc, _+_, _-_, _<_}
+use Prim.Native.Nat.{ℕ, suc, _+_, _-_, _<_}
 use native.Mathlib.Numerals.{add-one}
 use native.Mathlib.Omega.{arith}
 use lib.ListN.{length, set, take, drop, length-append, length-drop, drop-of-length-le}
@@ -24,3 +24,8 @@ module _ {A : Type 0} (s d : List A) where
       let rest : drop (length s) out ≡ drop (length s) d = rw inv (drop-append-seam s (drop (length s) d)) in
       let front : take (length s) out ≡ s = rw inv (take-append-seam s (drop (length s) d)) in
       rw (back, none, append-nil, all, rest, front, drop-drop, length-append) (sym (append-assoc s t (drop (length s + length t) d)))
+
+  -- the same, for a part that begins at a number which is the length of s
+  pub front-from : (t out last : List A) (at : ℕ) → at ≡ length s → out ≡ s ++ drop (length s) d → last ≡ t ++ drop (length t) (take (length out - at) (drop at out))
+      → take at out ++ (last ++ drop (length out - at) (drop at out)) ≡ (s ++ t) ++ drop (length (s ++ t)) d
+  front-from t out last at q inv back = rw q (front-more t out last inv (rw (← q) back))

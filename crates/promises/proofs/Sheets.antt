@@ -27,7 +27,7 @@ use Rattle.promises.specs.Spelling.{spelled, Small, joined}
 use Rattle.promises.specs.Calls.{outputAfter}
 use Rattle.promises.specs.Demand3.{block}
 use Rattle.promises.specs.Shapes.{Shaped}
-use Rattle.promises.specs.Sheets.{Command, load, run, save, shared, slotFor, depthFor, tail, leg, legs, part, before, sheet, events, lineOf, text, sheetText, sheetCall, sheetOutput, loads, Shares, Deepest, asSlot, asRun, formOf, command, Drives, Case20, Case12·sheet, SheetReady, SheetOwed, SheetExamples}
+use Rattle.promises.specs.Sheets.{Command, load, run, save, shared, slotFor, depthFor, tail, leg, legs, part, before, sheet, events, lineOf, text, scenario, sheetText, sheetCall, sheetOutput, loads, Shares, Deepest, asSlot, asRun, formOf, command, Drives, Case20, Case12·sheet, SheetReady, SheetOwed, SheetExamples}
 use Rattle.promises.proofs.Pieces.{Free, lines-joined, unended-joined}
 use Rattle.promises.proofs.Spelling.{numbers-read, fields-spelled, spelled-free}
 use Rattle.promises.proofs.Buffers.{unless-served, output-left}
@@ -118,10 +118,10 @@ module _ (g : ℕ) (pos : 0 < g) where
 
 module _ (m h g : ℕ) (scenarios out : List ℕ) where
   ss : ℕ → List ℕ
-  ss k = block h k scenarios
+  ss = scenario h scenarios
 
-  pub scenario-long : m * h ≤ length scenarios → (k : ℕ) → k < m → length (block h k scenarios) ≡ h
-  unfolding block
+  pub scenario-long : m * h ≤ length scenarios → (k : ℕ) → k < m → length (scenario h scenarios k) ≡ h
+  unfolding scenario block
   scenario-long le k lt = length-take h (drop (k * h) scenarios) ∙ omega (arith, length-drop (k * h) scenarios, suc-mul k h, mul-le-mul-right h lt)
 
   seven-no : (Case7 h → ⊥) → ltb 1000 h ≡ false
@@ -136,8 +136,8 @@ module _ (m h g : ℕ) (scenarios out : List ℕ) where
   unfolding Case12·sheet
   tells-12 = tells-or (tells-lt (length scenarios) (m * h)) (tells-lt (length out) (length (sheetText m h g scenarios)))
 
-  call-is : SheetReady m h g scenarios out → sheetCall m h g scenarios out ≡ served (length (sheetText m h g scenarios) ∷ events (sheet g ss m) ∷ [])
-  unfolding sheetCall ss
+  pub call-is : SheetReady m h g scenarios out → sheetCall m h g scenarios out ≡ served (length (sheetText m h g scenarios) ∷ events (sheet g (scenario h scenarios) m) ∷ [])
+  unfolding sheetCall
   call-is r = rw (seven-no (r .horizon), spaced-no (r .spaced), tells-false tells-12 (r .room))
 
   ready : Served (sheetCall m h g scenarios out) → SheetReady m h g scenarios out
@@ -174,7 +174,7 @@ module _ (m h g : ℕ) (scenarios out : List ℕ) where
     written = rw (call-is r) (take-append-seam (sheetText m h g scenarios) (drop (length (sheetText m h g scenarios)) out))
 
     small : ((e : ℕ) → In e scenarios → e < 256) → AllSmall (sheet g ss m)
-    unfolding ss Small block
+    unfolding ss Small scenario block
     small w = sheet-small g pos ss m (λ k l. omega (arith, short, long k l)) (λ k l e i. omega (arith, w e (in-drop (k * h) scenarios (in-take h (drop (k * h) scenarios) i))))
 
     driven : ((e : ℕ) → In e scenarios → e < 256) → Drives m h g ss (sheetText m h g scenarios) (length (sheetText m h g scenarios)) (events (sheet g ss m)) (sheet g ss m)
@@ -210,11 +210,11 @@ module _ (m h g : ℕ) (scenarios out : List ℕ) where
     twelve = λ c7 c20 c. unfold sheetCall in (rw (seven-no c7, spaced-no c20, tells-true tells-12 c));
     served-just = (ready, λ r. (_, call-is r));
     long = λ r. scenario-long (enough r);
-    drives = λ r w. unfold ss in (length (sheetText m h g scenarios), events (sheet g (λ k. block h k scenarios) m), sheet g (λ k. block h k scenarios) m, call-is r, rw (written r) (driven r w));
+    drives = λ r w. unfold ss in (length (sheetText m h g scenarios), events (sheet g (scenario h scenarios) m), sheet g (scenario h scenarios) m, call-is r, rw (written r) (driven r w));
     output-left = unfold sheetOutput in (output-left (length (sheetText m h g scenarios)) (sheetCall m h g scenarios out) (sheetText m h g scenarios) out (λ s. (refl, fits (ready s))));
     shaped = two-told;
   }
 
 pub sheet-examples : SheetExamples
-unfolding sheetOutput sheetCall sheetText sheet stack part before tail depthFor slotFor shared legs leg text lineOf events joined spelled block tabulate outputAfter decimal digits
+unfolding sheetOutput sheetCall sheetText scenario sheet stack part before tail depthFor slotFor shared legs leg text lineOf events joined spelled block tabulate outputAfter decimal digits
 sheet-examples = record { three = refl; equal = refl; told = refl; one-byte-short = refl; no-events = refl; exact = refl }

@@ -10,7 +10,8 @@
 --   sheet g ss m      == the commands for the scenarios ss 0 .. ss (m−1)
 --   events cs         == how many events the runs of cs have together
 --   lineOf c, text cs == a command as a line, and commands as a text
---   sheetText m h g bytes   == the bytes of the sheet
+--   scenario h scenarios k  == scenario number k of those that were filled
+--   sheetText m h g scenarios == the bytes of the sheet
 --   sheetCall, sheetOutput  == the call's answer, and the output afterwards
 -- and in words, apart from the definitions above:
 --   Bench             == the plain machine: a current sequence, and slots
@@ -110,9 +111,12 @@ text cs = joined (map lineOf cs)
 
 -- ---- the call
 
--- 'From m scenarios, the m × h bytes that the scenarios call fills'
+-- 'the m × h bytes that the scenarios call fills': scenario number k
+unfoldable pub scenario : ℕ → List ℕ → ℕ → List ℕ
+scenario h scenarios k = block h k scenarios
+
 unfoldable pub sheetText : ℕ → ℕ → ℕ → List ℕ → List ℕ
-sheetText m h g scenarios = text (sheet g (λ k. block h k scenarios) m)
+sheetText m h g scenarios = text (sheet g (scenario h scenarios) m)
 
 -- 7; 20: 'g is 0, place 0, between 7 and 12'; 'Fewer bytes, or an output shorter than the sheet, are 12.' 'its length in bytes and the event total are reported'
 unfoldable pub sheetCall : ℕ → ℕ → ℕ → List ℕ → List ℕ → Answer
@@ -120,7 +124,7 @@ sheetCall m h g scenarios out =
     unless 7 0 (ltb 1000 h)
     (unless 20 0 (eqb g 0)
     (unless 12 0 (ltb (length scenarios) (m * h) || ltb (length out) (length (sheetText m h g scenarios)))
-    (served (length (sheetText m h g scenarios) ∷ events (sheet g (λ k. block h k scenarios) m) ∷ []))))
+    (served (length (sheetText m h g scenarios) ∷ events (sheet g (scenario h scenarios) m) ∷ []))))
 
 unfoldable pub sheetOutput : ℕ → ℕ → ℕ → List ℕ → List ℕ → List ℕ
 sheetOutput m h g scenarios out = outputAfter (sheetCall m h g scenarios out) (sheetText m h g scenarios) out
@@ -240,11 +244,11 @@ pub record SheetOwed (m h g : ℕ) (scenarios out : List ℕ) : Type 0 where
   pub twelve : (Case7 h → ⊥) → (Case20 g → ⊥) → Case12·sheet m h g scenarios out → sheetCall m h g scenarios out ≡ refused 12 0
   pub served-just : Served (sheetCall m h g scenarios out) ↔ SheetReady m h g scenarios out
   -- 'From m scenarios, the m × h bytes': each has h of them
-  pub long : SheetReady m h g scenarios out → (k : ℕ) → k < m → length (block h k scenarios) ≡ h
+  pub long : SheetReady m h g scenarios out → (k : ℕ) → k < m → length (scenario h scenarios k) ≡ h
   -- 'For a served sheet its length in bytes and the event total are reported'; 'each event byte as a number, and any byte may stand'
   pub drives : SheetReady m h g scenarios out → ((e : ℕ) → In e scenarios → e < 256)
       → (n : ℕ) × (total : ℕ) × (cs : List Command) × (sheetCall m h g scenarios out ≡ served (n ∷ total ∷ []))
-      × Drives m h g (λ k. block h k scenarios) (take n (sheetOutput m h g scenarios out)) n total cs
+      × Drives m h g (scenario h scenarios) (take n (sheetOutput m h g scenarios out)) n total cs
   pub output-left : OutputLeft (length (sheetText m h g scenarios)) (sheetCall m h g scenarios out) out (sheetOutput m h g scenarios out)
   -- two values are told, and 0 is no number of refusal
   pub shaped : Shaped 2 (sheetCall m h g scenarios out)
@@ -252,7 +256,7 @@ pub record SheetOwed (m h g : ℕ) (scenarios out : List ℕ) : Type 0 where
 -- small sheets, worked out apart from the definitions
 pub record SheetExamples : Type 0 where
   -- three scenarios of five events, saved every two: the second shares four with the first, the third two with the second
-  pub three : sheet 2 (λ k. block 5 k (0 ∷ 1 ∷ 2 ∷ 3 ∷ 4 ∷ 0 ∷ 1 ∷ 2 ∷ 3 ∷ 9 ∷ 0 ∷ 1 ∷ 7 ∷ 7 ∷ 7 ∷ [])) 3
+  pub three : sheet 2 (scenario 5 (0 ∷ 1 ∷ 2 ∷ 3 ∷ 4 ∷ 0 ∷ 1 ∷ 2 ∷ 3 ∷ 9 ∷ 0 ∷ 1 ∷ 7 ∷ 7 ∷ 7 ∷ [])) 3
       ≡ load 0 ∷ run (0 ∷ 1 ∷ []) ∷ save 1 ∷ run (2 ∷ 3 ∷ []) ∷ save 2 ∷ run (4 ∷ [])
       ∷ load 2 ∷ run (9 ∷ [])
       ∷ load 1 ∷ run (7 ∷ 7 ∷ []) ∷ save 2 ∷ run (7 ∷ []) ∷ []

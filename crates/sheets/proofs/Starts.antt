@@ -1,0 +1,47 @@
+-- The start that two scenarios share, event by event, and the scenarios of a list. Assumes nothing.
+use mathlib.Core.Path.{_≡_, refl, sym}
+use mathlib.Core.Logic.{_≢_, _↔_}
+use mathlib.Core.List.{List, []}
+use Prim.Native.Nat.{ℕ, zero, suc, _+_, _-_, _*_, _/_, _≤_, _<_, min}
+use native.Mathlib.Numerals.{add-one}
+use native.Mathlib.Omega.{arith}
+use native.Mathlib.Nat.{suc-mul, mul-le-mul-right, div-lt-iff-lt-mul, pos-of-ne-zero}
+use lib.ListN.{length, getD, drop, length-drop, drop-of-length-le}
+use lib.Seq.{drop-cons}
+use lib.Dec.{ltb}
+use borrow.Author.Tests.{eq-eqb, ne-eqb, lt-ltb, ltb-true}
+use Rattle.lists.proofs.Tests.{bool-ext}
+use Rattle.promises.specs.Sheets.{shared, before}
+use Rattle.promises.proofs.Bench.{shared-left, shared-right}
+
+module _ (a b : List ℕ) (k : ℕ) where
+  module _ (l : k < length a) (r : k < length b) where
+    pub shared-differ : getD a k 0 ≢ getD b k 0 → shared (drop k a) (drop k b) ≡ 0
+    unfolding shared
+    shared-differ n = rw (drop-cons a k 0 l, drop-cons b k 0 r, ne-eqb (getD a k 0) (getD b k 0) n)
+
+    pub shared-more : getD a k 0 ≡ getD b k 0 → shared (drop k a) (drop k b) ≡ suc (shared (drop (k + 1) a) (drop (k + 1) b))
+    unfolding shared
+    shared-more q = rw (add-one k, drop-cons a k 0 l, drop-cons b k 0 r, eq-eqb (getD a k 0) (getD b k 0) q)
+
+  pub shared-end : min (length a) (length b) ≤ k → shared (drop k a) (drop k b) ≡ 0
+  shared-end h = omega (arith, shared-left (drop k a) (drop k b), shared-right (drop k a) (drop k b), length-drop k a, length-drop k b)
+
+pub before-next : (ss : ℕ → List ℕ) (k : ℕ) → k ≢ 0 → ss (k - 1) ≡ before ss k
+unfolding before
+before-next ss zero n = absurd (n refl)
+before-next ss (suc k) n = let q : suc k - 1 ≡ k = omega arith in rw q
+
+-- scenario number k ends within m × h bytes, and the one before it where it begins
+pub scenario-within : (k m h n : ℕ) → k < m → m * h ≤ n → k * h + h ≤ n
+scenario-within k m h n lt le = omega (arith, suc-mul k h, mul-le-mul-right h lt)
+
+pub before-within : (k h : ℕ) → k ≢ 0 → (k - 1) * h + h ≡ k * h
+before-within zero h n = absurd (n refl)
+before-within (suc k) h n = let q : suc k - 1 ≡ k = omega arith in rw q (sym (suc-mul k h))
+
+-- m × h bytes are more than there are, whether or not that number has 64 bits
+pub short-is : (bytes m h : ℕ) → h ≢ 0 → ltb (bytes / h) m ≡ ltb bytes (m * h)
+short-is bytes m h n =
+    let (to, from) = div-lt-iff-lt-mul {k = h} {x = bytes} {y = m} (pos-of-ne-zero n) in
+    bool-ext (ltb (bytes / h) m) (ltb bytes (m * h)) (λ t. lt-ltb bytes (m * h) (to (ltb-true (bytes / h) m t))) (λ t. lt-ltb (bytes / h) m (from (ltb-true bytes (m * h) t)))

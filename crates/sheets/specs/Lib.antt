@@ -1,0 +1,2 @@
+-- The definitions that the contracts of sheets cite.
+pub mod Writing
