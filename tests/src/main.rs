@@ -1850,6 +1850,7 @@ fn edges(tally: &mut Tally, rng: &mut Random, rounds: u64) {
 fn fitted(tally: &mut Tally, rng: &mut Random, scenarios: &[u8], m: usize, h: usize, g: u64) {
     let list: Vec<&[u8]> = (0..m).map(|k| &scenarios[k * h..(k + 1) * h]).collect();
     let need = model::sheet_of(&list, h, g).0.len();
+    assert!(need <= m * (7 + 17 * h), "a sheet of {need} bytes: more than the header says are enough");
     sheet(tally, rng, (scenarios, m as u64, h as u64, g, need));
     if need > 0 {
         sheet(tally, rng, (scenarios, m as u64, h as u64, g, need - 1));
@@ -1928,6 +1929,7 @@ fn lists(tally: &mut Tally, rng: &mut Random) {
         list[1000 + share..].iter_mut().for_each(|e| *e = !*e);
         wholes.into_iter().for_each(|g| fitted(tally, rng, &list, 2, 1000, g));
     }
+    fitted(tally, rng, &[255; 1000], 1, 1000, 1);
     let again = alike(rng, 1, 1000, 1, 256).repeat(8);
     [1, 10, 1000].into_iter().for_each(|g| fitted(tally, rng, &again, 8, 1000, g));
     let list = alike(rng, 2, 1000, 100, 16);
