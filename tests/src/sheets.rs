@@ -140,6 +140,7 @@ pub fn run(sheet: &[u8], h: usize, g: u64) -> Result<Done, String> {
 #[cfg(test)]
 mod tests {
     use super::*;
+    use crate::calls;
 
     /// A sheet with spaces for tabs and bars for line ends.
     fn done(lines: &str, h: usize, g: u64) -> Result<Done, String> {
@@ -187,5 +188,57 @@ mod tests {
             let told = done(lines, 4, 2);
             assert!(told.as_ref().is_err_and(|told| told.ends_with(wrong)), "{lines}: {told:?}");
         }
+    }
+
+    /// The sheet that the README has as an example, by the C function.
+    #[test]
+    fn the_sheet_of_the_readme() {
+        let mut out = [0; 300];
+        let told = calls::sheet(&[0, 0, 1, 1, 0, 0, 0, 1, 1, 1, 0, 0, 0, 0, 0], 3, 5, 2, &mut out);
+        let sheet = String::from_utf8_lossy(&out[..told.words[0] as usize]);
+        assert!(told.number == 0 && include_str!("../../README.md").contains(&format!("```\n{sheet}```\n")), "{told:?}:\n{sheet}");
+    }
+
+    /// A number with commas between its thousands.
+    fn grouped(n: u64) -> String {
+        if n < 1000 {
+            n.to_string()
+        } else {
+            format!("{},{:03}", grouped(n / 1000), n % 1000)
+        }
+    }
+
+    /// What the README says of sheets by their g: the list of all scenarios of a rig, in order and shuffled from a seed, and its sheets, by the C functions.
+    #[test]
+    fn the_table_of_the_readme() {
+        let (readme, ask) = (include_str!("../../README.md"), include_str!("../../examples/service_day.ask"));
+        let (h, seed, rig) = (18, 2026, ask.split_once('\n').unwrap().1.as_bytes());
+        let mut cells = vec![0; model::all_rows(h, model::read(rig).unwrap().joint_states())];
+        let n = calls::count(rig, h as u64, &mut cells).words[0];
+        let all = n as usize;
+        let (mut draws, mut scratch, mut shuffled) = (vec![0; all], vec![0; 2 * all], vec![0; all]);
+        assert_eq!(calls::draws(n, n, seed, 255, &mut draws).number, 0);
+        assert_eq!(calls::shuffle(n, &draws, &mut scratch, &mut shuffled).number, 0);
+        let lists = [(0..n).collect(), shuffled].map(|list| {
+            let mut events = vec![0; all * h];
+            assert_eq!(calls::scenarios(rig, h as u64, &list, &mut cells, &mut events).number, 0);
+            events
+        });
+        let mut out = vec![0; all * (7 + 17 * h)];
+        let rows = [1, 2, 3, 4, 5, 6, 9, 15, 18, 19].map(|g| {
+            let mut row = vec![g, h as u64 / g];
+            for events in &lists {
+                let told = calls::sheet(events, n, h as u64, g, &mut out);
+                assert_eq!(told.number, 0);
+                row.extend([told.words[1], told.words[0]]);
+            }
+            format!("| {} |\n", row.into_iter().map(grouped).collect::<Vec<_>>().join(" | "))
+        });
+        let (said, table) = (format!("all {} scenarios", grouped(n)), rows.concat());
+        assert!(
+            readme.contains(&said) && readme.contains(&format!("|\n{table}\n")),
+            "expected in the README: {said}, and the rows\n{table}"
+        );
+        assert!(readme.contains(&format!("h {h}, three days, that is {} events", grouped(n * h as u64))), "{} events in all", n * h as u64);
     }
 }
