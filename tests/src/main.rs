@@ -2,7 +2,7 @@
 //! of the guards around it. The last line is the number of comparisons and of differences; the exit status is 0 only without any.
 use outside::brute::{sequences, Judged, Runs};
 use outside::calls::{self, Told};
-use outside::guarded::{any_words, bytes, noise_bytes, noise_words, words, Guarded};
+use outside::guarded::{any_words, bytes, noise_bytes, noise_words, words, Fence, Guarded};
 use outside::listing::scenario_line;
 use outside::model::{self, Kind, Monitor, Refusal, Rig};
 use outside::random::Random;
@@ -1940,6 +1940,25 @@ fn lists(tally: &mut Tally, rng: &mut Random) {
     }
 }
 
+/// Lists that end where nothing may be read: no byte after the scenarios is looked at, also where the last one is as the one before.
+fn fenced_sheets(tally: &mut Tally, rng: &mut Random) {
+    let mut fence = Fence::of(4);
+    for k in 0..2_000 {
+        let (m, h) = if k % 10 == 0 { (rng.below(15), 1000) } else { (rng.below(9), rng.below(20)) };
+        let g = rng.from_to(1, h + 2);
+        let mut list = alike(rng, m as usize, h as usize, g, 3);
+        if m > 1 && rng.chance(1, 2) {
+            list.copy_within(((m - 2) * h) as usize..((m - 1) * h) as usize, ((m - 1) * h) as usize);
+        }
+        let short = list.len() - rng.below(2).min(list.len() as u64) as usize;
+        let mut out = vec![1; m as usize * (7 + 17 * h as usize)];
+        let want = model::sheet(&list[..short], m, h, g, &out);
+        let told = calls::sheet(fence.hold(&list[..short]), m, h, g, &mut out);
+        let wrong = told_differs(told, want.number, want.words).or((out != want.out).then(|| "another output".into()));
+        tally.note("fenced sheet", want.number, wrong, || format!("m {m}, h {h}, g {g}, {list:?}"));
+    }
+}
+
 /// Sheets of any m, h and g, with scenarios and output of any length; some m are so great that m × h is little more than 2^64.
 fn any_sheets(tally: &mut Tally, rng: &mut Random, rounds: u64) {
     for _ in 0..rounds {
@@ -2366,6 +2385,7 @@ fn main() {
     worked_sheets(&mut tally, rng);
     every_sheet(&mut tally, rng);
     lists(&mut tally, rng);
+    fenced_sheets(&mut tally, rng);
     any_sheets(&mut tally, rng, 60_000);
     rig_sheets(&mut tally, rng);
     for (call, numbers) in [
@@ -2381,6 +2401,7 @@ fn main() {
         ("published", &[0]),
         ("sheet", &[0, 7, 12, 20]),
         ("on the bench", &[0]),
+        ("fenced sheet", &[0, 12]),
         ("line", &[0]),
         ("some marked: count", &[0, 9]),
         ("some marked: listed", &[0]),
