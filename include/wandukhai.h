@@ -1,4 +1,5 @@
-/* Wandukhai: counts the scenarios of a rig, turns indices into scenarios and back, and shuffles indices by draws, which it makes from a seed.
+/* Wandukhai: counts the scenarios of a rig, turns indices into scenarios and back, shuffles indices by draws, which it makes from a seed, and
+ * writes sheets of bench commands.
  *
  * Link with libcapi.a (`rt staticlib capi` writes target/staticlib/libcapi.a, for x86-64). The functions keep no state, allocate nothing,
  * and end on any input. How much stack each uses is stated below, as WANDUKHAI_..._STACK.
@@ -62,7 +63,8 @@
  *    9  N is 0: no scenario of this horizon
  *   10  N is 18,446,744,073,709,551,615 or more
  *   11  index not below N                                                        place: position in the list, from 0
- *   12  out_len below indices_len * h, below draws_len, or below z
+ *   12  out_len below indices_len * h, below draws_len, below z, or below the
+ *       length of the sheet; scenarios_len below m * h
  *   13  event byte E or more                                                     place: position in the sequence, from 0
  *   14  the sequence is no scenario                                              place: the first event that is not admitted or leads to a
  *                                                                                state not live, from 0
@@ -72,7 +74,9 @@
  *   17  a equals b in `reply`                                                    place: line
  *   18  a not below b in `open`                                                  place: line
  *   19  all raw numbers of a draw thrown away; with limit 0 that is draw 0       place: the first such draw, from 0
- * Checks go in the order 1, 2 to 6 and 16 to 18 line by line (on one line 2, 5, 3, 16, 17 or 18, 4, 6), 7, 8, 12, 13, 9, 10, 11, 14, 15, 19.
+ *   20  g is 0
+ * Checks go in the order 1, 2 to 6 and 16 to 18 line by line (on one line 2, 5, 3, 16, 17 or 18, 4, 6), 7, 20, 8, 12, 13, 9, 10, 11, 14, 15,
+ * 19.
  */
 #ifndef WANDUKHAI_H
 #define WANDUKHAI_H
@@ -93,6 +97,7 @@ extern "C" {
 #define WANDUKHAI_INDEX_STACK 57344
 #define WANDUKHAI_SHUFFLE_STACK 4096
 #define WANDUKHAI_DRAWS_STACK 4096
+#define WANDUKHAI_SHEET_STACK 4096
 
 /* Counts the scenarios of h events.
  * cells: at least (h + 1) * P numbers. Served or refused with 9 or 10, the cell at r * P + x holds the number of admitted sequences of r
@@ -154,6 +159,24 @@ uint64_t wandukhai_shuffle(uint64_t n, const uint64_t *draws, size_t draws_len, 
  * out: at least z numbers, of which the first z become the draws; those past z are kept, and all of them after a refusal.
  * place: 0 where served, else the place. */
 uint64_t wandukhai_draws(uint64_t n, uint64_t z, uint64_t seed, uint8_t limit, uint64_t *out, size_t out_len, uint64_t *place);
+
+/* Writes the sheet of m scenarios of h events for a bench that saves its states, so that starts which scenarios share need not be run again.
+ * A sheet has lines as a rig text has: a word and numbers, parted by one byte 9, and byte 10.
+ *   load j            the current sequence becomes what slot j holds
+ *   run e e ...       the events are run: the current sequence goes on by them
+ *   save j            slot j holds the current sequence from here on
+ * Slot j is for the first j * g events of a scenario; slot 0 holds the start, and is never saved. Each scenario, in list order, loads the deepest
+ * such depth within the start that it shares with the scenario before it, the first one slot 0. It then runs on, and saves at each depth that it
+ * reaches: a run ends at the next such depth or at h, and none is empty. A scenario equal to the one before is `load` alone where g divides h,
+ * and so is every one where h is 0. With its last line each scenario is arrived at. g may be any number but 0; over h, nothing is saved and every
+ * scenario is run from the start. The slots needed are 0 to h / g, rounded down.
+ * scenarios: at least m * h bytes, also where that is 2^64 or more; scenario number k is the h bytes from k * h, as wandukhai_scenarios fills
+ * them, and any byte may stand. Those past m * h are passed over.
+ * out: begins with the sheet; the bytes past it are kept, and all of them after a refusal. 7 + 17 * h bytes for each scenario are enough.
+ * answer: served, the length of the sheet in bytes and the event total, which is the sum of h less the loaded depth over all scenarios; refused,
+ * the place, which is 0, and 0. */
+uint64_t wandukhai_sheet(const uint8_t *scenarios, size_t scenarios_len, uint64_t m, uint64_t h, uint64_t g, uint8_t *out, size_t out_len,
+                         uint64_t answer[2]);
 
 #ifdef __cplusplus
 }

@@ -1,10 +1,11 @@
 /* Counts the scenarios of a rig, with two rows of cells and with all; lists them in an order shuffled from a seed, each with its index and its
- * events; and one of a longer horizon, with fewer rows of cells. */
+ * events; writes the sheet of that list for a bench; and lists one of a longer horizon, with fewer rows of cells. */
 #include <stdio.h>
 #include <string.h>
 #include "wandukhai.h"
 
 enum { HORIZON = 3, STATES = 2 * 3, CELLS = (HORIZON + 1) * STATES, MOST = 8 };
+enum { SPACING = 2, SHEET = MOST * (7 + 17 * HORIZON) };
 enum { TWO_ROWS = 2 * STATES, LONG = 40, FEW_CELLS = (LONG / 16 + 16) * STATES };
 
 /* Prints what a count answered; gives back the number. */
@@ -36,8 +37,8 @@ int main(void)
     const size_t len = strlen(rig);
     /* The same seed gives the same list; a real caller takes another for another list. */
     const uint64_t seed = 1234567;
-    uint64_t cells[CELLS], few_cells[FEW_CELLS], draws[MOST], scratch[2 * MOST], order[MOST], answer[2], place, index;
-    uint8_t events[MOST * HORIZON], long_events[LONG];
+    uint64_t cells[CELLS], few_cells[FEW_CELLS], draws[MOST], scratch[2 * MOST], order[MOST], answer[2], told[2], place, index;
+    uint8_t events[MOST * HORIZON], sheet[SHEET], long_events[LONG];
     size_t i;
 
     if (print_count(wandukhai_count_forward(text, len, HORIZON, few_cells, TWO_ROWS, answer), answer) != 0)
@@ -55,6 +56,10 @@ int main(void)
             return 1;
         print_scenario(index, events + i * HORIZON, HORIZON);
     }
+    if (wandukhai_sheet(events, sizeof events, answer[0], HORIZON, SPACING, sheet, sizeof sheet, told) != 0)
+        return 1;
+    printf("sheet\t%llu\t%llu\n", (unsigned long long)told[0], (unsigned long long)told[1]);
+    fwrite(sheet, 1, told[0], stdout);
     if (wandukhai_scenarios_small(text, len, LONG, order, 1, few_cells, FEW_CELLS, long_events, LONG, &place) != 0)
         return 1;
     print_scenario(order[0], long_events, LONG);

@@ -1,5 +1,5 @@
 //! Counts the scenarios of a rig, with two rows of cells and with all; lists them in an order shuffled from a seed, each with its index and its
-//! events; and one of a longer horizon, with fewer rows of cells.
+//! events; writes the sheet of that list for a bench; and lists one of a longer horizon, with fewer rows of cells.
 extern "C" {
     fn wandukhai_count(text: *const u8, len: usize, h: u64, cells: *mut u64, cells_len: usize, answer: *mut u64) -> u64;
     fn wandukhai_count_forward(text: *const u8, len: usize, h: u64, cells: *mut u64, cells_len: usize, answer: *mut u64) -> u64;
@@ -16,6 +16,9 @@ extern "C" {
         out: *mut u64, out_len: usize, place: *mut u64,
     ) -> u64;
     fn wandukhai_draws(n: u64, z: u64, seed: u64, limit: u8, out: *mut u64, out_len: usize, place: *mut u64) -> u64;
+    fn wandukhai_sheet(
+        scenarios: *const u8, scenarios_len: usize, m: u64, h: u64, g: u64, out: *mut u8, out_len: usize, answer: *mut u64,
+    ) -> u64;
 }
 
 type Count = unsafe extern "C" fn(*const u8, usize, u64, *mut u64, usize, *mut u64) -> u64;
@@ -55,6 +58,14 @@ fn shuffle(n: u64, draws: &[u64], scratch: &mut [u64], out: &mut [u64]) -> Resul
     if number == 0 { Ok(()) } else { Err((number, place)) }
 }
 
+/// The length of the sheet and the event total.
+fn sheet(scenarios: &[u8], m: u64, h: u64, g: u64, out: &mut [u8]) -> Result<(usize, u64), (u64, u64)> {
+    let mut answer = [0; 2];
+    let number =
+        unsafe { wandukhai_sheet(scenarios.as_ptr(), scenarios.len(), m, h, g, out.as_mut_ptr(), out.len(), answer.as_mut_ptr()) };
+    if number == 0 { Ok((answer[0] as usize, answer[1])) } else { Err((number, answer[0])) }
+}
+
 fn print_scenario(index: u64, events: &[u8]) {
     println!("{index}{}", events.iter().map(|e| format!("\t{e}")).collect::<String>());
 }
@@ -78,6 +89,10 @@ fn main() -> Result<(), (u64, u64)> {
     for (&index, scenario) in order.iter().zip(events.chunks(h)) {
         print_scenario(index, scenario);
     }
+    let mut lines = vec![0; all * (7 + 17 * h)];
+    let (length, total) = sheet(&events, n, h as u64, 2, &mut lines)?;
+    println!("sheet\t{length}\t{total}");
+    print!("{}", String::from_utf8_lossy(&lines[..length]));
     let long = 40;
     let mut events = vec![0; long];
     let mut few_cells = vec![0; (long / 16 + 16) * states];

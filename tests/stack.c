@@ -9,15 +9,15 @@
 #include "wandukhai.h"
 
 enum { EVENTS = 16, S = 32, HORIZON = 1000, CELLS = (HORIZON + 1) * S * S, TWO_ROWS = 2 * S * S, FEW_CELLS = (HORIZON / 16 + 16) * S * S };
-enum { INDICES = 2100, DRAWS = 100000 };
+enum { INDICES = 2100, DRAWS = 100000, SHEET = 100 * (7 + 17 * HORIZON) };
 /* Just above 2^63: nearly half of all raw numbers are thrown away. */
 #define HALF (UINT64_MAX / 2 + DRAWS)
 enum { GUARD = 1 << 16, STACK = 1 << 20, PATTERN = 0xA5 };
 
 static char text[65535];
 static uint64_t cells[CELLS], answer[2], indices[INDICES], draws[DRAWS], scratch[2 * DRAWS], out[DRAWS], number;
-static uint8_t events[INDICES * HORIZON];
-static uint64_t n;
+static uint8_t events[INDICES * HORIZON], sheet[SHEET];
+static uint64_t n, spacing;
 static uint8_t limit;
 
 /* Two monitors of 32 states that admit every event in every state, but none in the last of the first; all the others are marked. In the first
@@ -121,6 +121,12 @@ static void draw(void)
     number = wandukhai_draws(n, DRAWS, 1, limit, draws, DRAWS, answer);
 }
 
+/* The sheet of the scenarios listed last, so many of them as there is room for whatever the spacing. */
+static void write_sheet(void)
+{
+    number = wandukhai_sheet(events, sizeof events, n, HORIZON, spacing, sheet, SHEET, answer);
+}
+
 /* Where the stack begins for the call. */
 static unsigned char *top;
 
@@ -167,7 +173,7 @@ static int keeps(const char *name, long most, long stated)
 
 int main(void)
 {
-    long counted, counted_forward, listed, listed_small, found, shuffled, drawn;
+    long counted, counted_forward, listed, listed_small, found, shuffled, drawn, written;
     int good = 1;
     size_t i;
 
@@ -201,6 +207,21 @@ int main(void)
     drawn = more(drawn, used(draw, 0));
     limit = 10;
     drawn = more(drawn, used(draw, 19));
+    n = 100;
+    spacing = 1;
+    written = used(write_sheet, 0);
+    spacing = 100;
+    written = more(written, used(write_sheet, 0));
+    spacing = UINT64_MAX;
+    written = more(written, used(write_sheet, 0));
+    /* scenarios that share no start, of three digits an event: no sheet is longer */
+    spacing = 1;
+    for (i = 0; i < 100 * HORIZON; i++)
+        events[i] = (uint8_t)(255 - i / HORIZON);
+    written = more(written, used(write_sheet, 0));
+    /* one more than there is room for */
+    n = 101;
+    written = more(written, used(write_sheet, 12));
     good &= keeps("wandukhai_count", counted, WANDUKHAI_COUNT_STACK);
     good &= keeps("wandukhai_count_forward", counted_forward, WANDUKHAI_COUNT_FORWARD_STACK);
     good &= keeps("wandukhai_scenarios", listed, WANDUKHAI_SCENARIOS_STACK);
@@ -208,5 +229,6 @@ int main(void)
     good &= keeps("wandukhai_index", found, WANDUKHAI_INDEX_STACK);
     good &= keeps("wandukhai_shuffle", shuffled, WANDUKHAI_SHUFFLE_STACK);
     good &= keeps("wandukhai_draws", drawn, WANDUKHAI_DRAWS_STACK);
+    good &= keeps("wandukhai_sheet", written, WANDUKHAI_SHEET_STACK);
     return good ? 0 : 1;
 }

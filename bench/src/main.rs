@@ -1,6 +1,6 @@
 //! How long the calls take beside plain Rust and plain C on the same input, in the same run: the best of some rounds, taken in turn. Buffers are
 //! lent as the round before left them. Every answer is compared. And how long the forward count takes beside Count, the small scenarios call beside the
-//! other one, and `gap`, `reply`, `bal` and `day` lines to read beside the moves they stand for; and how long one draw takes, by n.
+//! other one, and `gap`, `reply`, `bal` and `day` lines to read beside the moves they stand for; how long one draw takes, by n; and sheets, by their lists.
 mod plain;
 
 use outside::texts::{chain, lower_first, slow_growth, written_out, End};
@@ -315,6 +315,53 @@ fn drawings() {
     drawing("of 2^64 - 1", u64::MAX);
 }
 
+/// Best nanoseconds an event of the list that the sheet of scenarios of h events takes, of ours, plain Rust and plain C, and the ratios of the first to the
+/// others. The others write as they go; ours keeps its output where it refuses.
+fn sheet(name: &str, scenarios: &[u8], h: usize, g: usize) {
+    let m = scenarios.len() / h;
+    let mut out = vec![0; m * (7 + 17 * h)];
+    let length = plain::c_sheet(scenarios, h, g, &mut out).unwrap()[0] as usize;
+    let [mut a, mut b, mut c] = [(); 3].map(|_| vec![0; length]);
+    let [mut i, mut j, mut k] = [None; 3];
+    let times = best(
+        5,
+        &mut [
+            &mut || {
+                i = Some(calls::sheet(scenarios, m as u64, h as u64, g as u64, &mut a))
+                    .filter(|told| told.number == 0)
+                    .map(|told| told.words)
+            },
+            &mut || j = plain::sheet(scenarios, h, g, &mut b),
+            &mut || k = plain::c_sheet(scenarios, h, g, &mut c),
+        ],
+    );
+    assert!(i.is_some() && i == j && i == k && a == b && a == c);
+    let ns: String = times.iter().map(|t| format!(" {:6.2}", t * 1e6 / scenarios.len() as f64)).collect();
+    println!("{name:58}{ns} {:7.2} {:7.2}", times[0] / times[1], times[0] / times[2]);
+}
+
+fn sheets(rng: &mut Random) {
+    println!("\n{:58} {:>6} {:>6} {:>6} {:>7} {:>7}", "sheets, ns an event of the list", "ours", "Rust", "C", "/ Rust", "/ C");
+    let mut unrelated = |events: usize, most: u64| -> Vec<u8> { (0..events).map(|_| rng.below(most) as u8).collect() };
+    let below_16 = unrelated(10_000_000, 16);
+    sheet("10,000 of 1,000 events below 16, unrelated, g 100", &below_16, 1000, 100);
+    sheet("10,000 of 1,000 events of any byte, unrelated, g 100", &unrelated(10_000_000, 256), 1000, 100);
+    sheet("10,000 of 1,000 events below 10, unrelated, g 100", &unrelated(10_000_000, 10), 1000, 100);
+    sheet("1,000 of 1,000 events below 16, unrelated, g 1", &below_16[..1_000_000], 1000, 1);
+    sheet("100,000 of 30 events below 16, unrelated, g 5", &below_16[..3_000_000], 30, 5);
+    // event 7 comes at most five times, event 15 else: in the order before it the lists begin with moves near the front, after it near the end
+    let rig = slow_growth(6, &[32]);
+    let others: String = (0..15).map(|e| format!("\t{e}")).collect();
+    let last = [b"rig\t16\nord\t15", others.as_bytes(), b"\n", rig.strip_prefix(b"rig\t16\n").unwrap()].concat();
+    let (m, h) = (10_000, 1000);
+    let (mut cells, mut events) = (vec![0; model::all_rows(h, 192)], vec![0; m as usize * h]);
+    for (shared, rig) in [("some", rig), ("nearly all", last)] {
+        let told = calls::scenarios(&rig, h as u64, &(0..m).collect::<Vec<u64>>(), &mut cells, &mut events);
+        assert!(told.number == 0);
+        sheet(&format!("10,000 of 1,000 events in order, {shared} shared, g 10"), &events, h, 10);
+    }
+}
+
 /// Best microseconds that reading takes, of `gap`, `reply`, `bal` and `day` lines and of the same monitors as `mon`, `go` and `stop` lines. The horizon 1,001
 /// is refused once the text is read, so nothing else is timed.
 fn reading(name: &str, rules: &str) {
@@ -402,4 +449,5 @@ fn main() {
     readings();
     growths();
     drawings();
+    sheets(rng);
 }

@@ -1,4 +1,4 @@
-//! Safe wrappers of the seven C functions of include/wandukhai.h, and of the line writer's in crate `line_capi`: slices are valid, non-null
+//! Safe wrappers of the eight C functions of include/wandukhai.h, and of the line writer's in crate `line_capi`: slices are valid, non-null
 //! also when empty, and don't overlap.
 
 extern "C" {
@@ -48,6 +48,16 @@ extern "C" {
         place: *mut u64,
     ) -> u64;
     fn wandukhai_draws(n: u64, z: u64, seed: u64, limit: u8, out: *mut u64, out_len: usize, place: *mut u64) -> u64;
+    fn wandukhai_sheet(
+        scenarios: *const u8,
+        scenarios_len: usize,
+        m: u64,
+        h: u64,
+        g: u64,
+        out: *mut u8,
+        out_len: usize,
+        answer: *mut u64,
+    ) -> u64;
     fn wandukhai_line(index: u64, events: *const u8, events_len: usize, out: *mut u8, out_len: usize) -> usize;
 }
 
@@ -123,6 +133,10 @@ pub fn shuffle(n: u64, draws: &[u64], scratch: &mut [u64], out: &mut [u64]) -> T
 
 pub fn draws(n: u64, z: u64, seed: u64, limit: u8, out: &mut [u64]) -> Told {
     told::<1>(|place| unsafe { wandukhai_draws(n, z, seed, limit, out.as_mut_ptr(), out.len(), place) })
+}
+
+pub fn sheet(scenarios: &[u8], m: u64, h: u64, g: u64, out: &mut [u8]) -> Told {
+    told::<2>(|answer| unsafe { wandukhai_sheet(scenarios.as_ptr(), scenarios.len(), m, h, g, out.as_mut_ptr(), out.len(), answer) })
 }
 
 /// The length of the line that is written at the front of `out`, 0 where `out` is too short for every such line.

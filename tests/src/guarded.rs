@@ -73,6 +73,35 @@ pub fn noise_bytes(len: usize, rng: &mut Random) -> Guarded<u8> {
     bytes(&inner, rng)
 }
 
+extern "C" {
+    fn mmap(at: *mut u8, length: usize, protection: i32, flags: i32, file: i32, offset: i64) -> *mut u8;
+    fn mprotect(at: *mut u8, length: usize, protection: i32) -> i32;
+}
+
+/// Room for bytes before a page that may not be touched: who reads past them ends the whole run.
+pub struct Fence(&'static mut [u8]);
+
+impl Fence {
+    const PAGE: usize = 4096;
+
+    /// Room for so many pages.
+    pub fn of(pages: usize) -> Self {
+        let (room, read_write, private_anonymous) = (pages * Self::PAGE, 3, 0x22);
+        unsafe {
+            let at = mmap(std::ptr::null_mut(), room + Self::PAGE, read_write, private_anonymous, -1, 0);
+            assert!(at as isize != -1 && mprotect(at.add(room), Self::PAGE, 0) == 0, "no pages");
+            Fence(std::slice::from_raw_parts_mut(at, room))
+        }
+    }
+
+    /// A copy of the bytes, up to the fence.
+    pub fn hold(&mut self, inner: &[u8]) -> &[u8] {
+        let before = self.0.len() - inner.len();
+        self.0[before..].copy_from_slice(inner);
+        &self.0[before..]
+    }
+}
+
 #[cfg(test)]
 mod tests {
     use super::*;

@@ -7,4 +7,5 @@ pub mod listing;
 pub mod model;
 pub mod random;
 pub mod rules;
+pub mod sheets;
 pub mod texts;

@@ -2,11 +2,12 @@
 //! of the guards around it. The last line is the number of comparisons and of differences; the exit status is 0 only without any.
 use outside::brute::{sequences, Judged, Runs};
 use outside::calls::{self, Told};
-use outside::guarded::{any_words, bytes, noise_bytes, noise_words, words, Guarded};
+use outside::guarded::{any_words, bytes, noise_bytes, noise_words, words, Fence, Guarded};
 use outside::listing::scenario_line;
 use outside::model::{self, Kind, Monitor, Refusal, Rig};
 use outside::random::Random;
 use outside::rules::{self, admitted, all_marked, in_hours, intervals, steps, within, Chosen, Rule};
+use outside::sheets::{self, shared, Done};
 use outside::texts::{self, damage, endless, from_state_0, lower_first, other_bal, other_day, other_marks, other_order, other_rules};
 use outside::texts::{chain, other_start, ruled, slow_growth, text, upward, written_out, wrong_signs, End, Shape};
 use std::collections::{BTreeMap, BTreeSet, HashSet};
@@ -54,6 +55,12 @@ struct Tally {
     thrown: u64,
     /// By place, that from 8 on as 8: how many Draws calls were refused 19 there.
     ended: BTreeMap<u64, u64>,
+    /// By cause: how many Sheet calls were refused 12.
+    lacking: BTreeMap<&'static str, u64>,
+    /// By how far the start shared with the scenario before goes, g from 3 up to h: how many scenarios of served sheets.
+    starts: BTreeMap<&'static str, u64>,
+    /// By the digits of the slot: how many loads of served sheets.
+    slots: BTreeMap<usize, u64>,
 }
 
 impl Tally {
@@ -232,6 +239,74 @@ fn draws(tally: &mut Tally, rng: &mut Random, n: u64, z: u64, seed: u64, limit: 
         *tally.ended.entry(place.min(8)).or_default() += 1;
     }
     ((number, place), now.lent().to_vec())
+}
+
+/// What a Sheet call is lent and told: scenarios, m, h, g and how many bytes of output.
+type Asked<'a> = (&'a [u8], u64, u64, u64, usize);
+
+/// Compares one Sheet call, and gives back what is expected of it. What the library wrote where it is served is run on the bench.
+fn sheet(tally: &mut Tally, rng: &mut Random, (scenarios, m, h, g, out): Asked) -> model::Expected {
+    let (scenarios, was) = (bytes(scenarios, rng), noise_bytes(out, rng));
+    let (scenarios0, mut now) = (scenarios.clone(), was.clone());
+    let told = calls::sheet(scenarios.lent(), m, h, g, now.lend());
+    let want = model::sheet(scenarios0.lent(), m, h, g, was.lent());
+    let wrong = told_differs(told, want.number, want.words).or(named("output", &now, &was, &want.out, 0)).or(named(
+        "scenarios",
+        &scenarios,
+        &scenarios0,
+        scenarios0.lent(),
+        0,
+    ));
+    let lent = scenarios0.lent();
+    let input = || format!("m {m}, h {h}, g {g}, {} bytes {:?}, {out} output", lent.len(), &lent[..lent.len().min(40)]);
+    tally.note("sheet", want.number, wrong, input);
+    match want.number {
+        0 => {
+            let written = now.lent().get(..told.words[0] as usize).unwrap_or(now.lent());
+            let list: Vec<&[u8]> = (0..m as usize).map(|k| &lent[k * h as usize..(k + 1) * h as usize]).collect();
+            let done = sheets::run(written, h as usize, g);
+            tally.note(
+                "on the bench",
+                0,
+                done.as_ref().map_or_else(|e| Some(e.clone()), |done| astray(done, &list, h, told.words[1])),
+                input,
+            );
+            started(tally, &list, h, g);
+        }
+        12 => {
+            let cause = if (lent.len() as u128) < m as u128 * h as u128 { "fewer bytes" } else { "shorter output" };
+            *tally.lacking.entry(cause).or_default() += 1;
+        }
+        _ => (),
+    }
+    want
+}
+
+/// What is wrong with what a sheet did on the bench, unless it arrived at every scenario of the list, in order, and ran as many events as were told.
+fn astray(done: &Done, list: &[&[u8]], h: u64, total: u64) -> Option<String> {
+    let left: u64 = done.loaded.iter().map(|&depth| h - depth as u64).sum();
+    let other = (done.arrived != list).then(|| format!("arrived at {} scenarios, others than given", done.arrived.len()));
+    other.or(([done.events, left] != [total; 2]).then(|| format!("ran {} events, {left} after the loads, told {total}", done.events)))
+}
+
+/// Counts how the starts that the scenarios of a list share lie to the depths of g, and the slots that are loaded.
+fn started(tally: &mut Tally, list: &[&[u8]], h: u64, g: u64) {
+    for two in list.windows(2) {
+        let within = shared(two[0], two[1]) as u64;
+        *tally.slots.entry((within / g).to_string().len()).or_default() += 1;
+        if (3..=h).contains(&g) {
+            let start = match within % g {
+                _ if within == 0 => "none",
+                0 if within == h => "all, a depth",
+                _ if within == h => "all",
+                0 => "a depth",
+                1 => "one more",
+                rest if rest == g - 1 => "one less",
+                _ => "between",
+            };
+            *tally.starts.entry(start).or_default() += 1;
+        }
+    }
 }
 
 /// The worked examples of the paper and of its table of refusals, with the answers written there.
@@ -942,6 +1017,87 @@ fn published(tally: &mut Tally, rng: &mut Random) {
     }
     let (_, out) = draws(tally, rng, 5, 5, model::PUBLISHED[0].0, 1, 5);
     tally.note("published", 0, (out != [2, 2, 2, 4, 4]).then(|| format!("{out:?}")), || "5 draws of 5 numbers".into());
+}
+
+/// Worked examples of Sheet: m is given, so with h 0 as well; further bytes are passed over; 7 before 20, 20 before 12; m × h is meant exactly; and a sheet of
+/// far more scenarios than the output has room for is refused at once. Those that are served have the output of every length up to two bytes more.
+fn worked_sheets(tally: &mut Tally, rng: &mut Random) {
+    let most = u64::MAX;
+    let three = &[0, 1, 2, 3, 4, 0, 1, 2, 3, 9, 0, 1, 7, 7, 7][..];
+    let by_two = "load 0|run 0 1|save 1|run 2 3|save 2|run 4|load 2|run 9|load 1|run 7 7|save 2|run 7|";
+    for (scenarios, m, h, g, lines, total) in [
+        (three, 3, 5, 2, by_two, 9),
+        (three, 2, 5, 3, "load 0|run 0 1 2|save 1|run 3 4|load 1|run 3 9|", 7),
+        (three, 1, 5, 1, "load 0|run 0|save 1|run 1|save 2|run 2|save 3|run 3|save 4|run 4|save 5|", 5),
+        (three, 2, 4, 2, "load 0|run 0 1|save 1|run 2 3|save 2|load 0|run 4 0|save 1|run 1 2|save 2|", 8),
+        (three, 1, 15, most, "load 0|run 0 1 2 3 4 0 1 2 3 9 0 1 7 7 7|", 15),
+        (three, 3, 0, 1, "load 0|load 0|load 0|", 0),
+        (three, 0, 5, 2, "", 0),
+        (&[], 0, 0, 1, "", 0),
+        (&[], 0, 1000, most, "", 0),
+        (&[], 3, 0, most, "load 0|load 0|load 0|", 0),
+        (&[255], 1, 1, 1, "load 0|run 255|save 1|", 1),
+        (&[255], 1, 1, 2, "load 0|run 255|", 1),
+        (&[7, 7], 2, 1, 1, "load 0|run 7|save 1|load 1|", 1),
+        (&[7, 7], 2, 1, 2, "load 0|run 7|load 0|run 7|", 2),
+        (&[7, 7], 2, 1, 1 << 63, "load 0|run 7|load 0|run 7|", 2),
+        (&[9, 10, 99, 100, 9, 10, 99, 100], 2, 4, 4, "load 0|run 9 10 99 100|save 1|load 1|", 4),
+        (&[9, 10, 99, 100, 9, 10, 99, 100], 2, 4, 3, "load 0|run 9 10 99|save 1|run 100|load 1|run 100|", 5),
+    ] {
+        let wanted = lines.replace(' ', "\t").replace('|', "\n").into_bytes();
+        for out in 0..=wanted.len() + 2 {
+            let want = sheet(tally, rng, (scenarios, m, h, g, out));
+            let served = (want.number, want.words) == (0, [wanted.len() as u64, total]) && want.out[..wanted.len()] == wanted;
+            assert!(if out < wanted.len() { want.number == 12 } else { served }, "the independent sheet of a worked example: {lines}");
+        }
+    }
+    let zeros = &[0; 4000][..];
+    for (scenarios, m, h, g, out, number) in [
+        (zeros, 4, 1000, 100, 9000, 0),
+        (zeros, 4, 1000, 1000, 9000, 0),
+        (zeros, 3, 1001, 100, 9000, 7),
+        (zeros, 3, 1001, 0, 9000, 7),
+        (zeros, 9, 1001, 0, 0, 7),
+        (zeros, 0, 1001, 1, 0, 7),
+        (zeros, most, most, most, 9000, 7),
+        (zeros, 0, 1 << 32, 1, 0, 7),
+        (zeros, 0, 1 << 63, 1, 0, 7),
+        (zeros, 0, 0, 0, 0, 20),
+        (zeros, 4, 1000, 0, 9000, 20),
+        (zeros, 5, 1000, 0, 9000, 20),
+        (zeros, 4, 1000, 0, 0, 20),
+        (zeros, most, 1000, 0, 0, 20),
+        (&zeros[..3999], 4, 1000, 100, 9000, 12),
+        (&zeros[..3999], 3, 1000, 100, 9000, 0),
+        (zeros, 4, 1000, 100, 9, 12),
+        (&[], 1, 1, 1, 9000, 12),
+        (zeros, 1 << 62, 4, 1, 9000, 12),
+        (zeros, (1 << 62) + 1, 4, 1, 9000, 12),
+        (zeros, 1 << 63, 2, 1, 9000, 12),
+        (zeros, 1 << 61, 1000, 100, 9000, 12),
+        (zeros, (1 << 61) + 1, 1000, 100, 9000, 12),
+        (zeros, most / 5 + 1, 5, 1, 9000, 12),
+        (zeros, 1 << 32, 1, 1, 9000, 12),
+        (zeros, most, 1, 1, 9000, 12),
+        (zeros, most, 0, 1, 9000, 12),
+        (zeros, most, 0, most, 9000, 12),
+        (zeros, 1 << 63, 0, 1, 9000, 12),
+        (zeros, most / 7 + 1, 0, 1, 9000, 12),
+        (zeros, 1 << 61, 0, 1, 9000, 12),
+        (zeros, 1 << 32, 0, 1, 9000, 12),
+        (zeros, 1286, 0, 1, 9000, 12),
+        (zeros, 1285, 0, 1, 9000, 0),
+        (zeros, 1286, 0, 1, 9002, 0),
+        (&[], 1, 0, 1, 0, 12),
+    ] {
+        let want = sheet(tally, rng, (scenarios, m, h, g, out));
+        assert_eq!(
+            want.number,
+            number,
+            "the independent sheet of a worked example: m {m}, h {h}, g {g}, {} bytes, {out} output",
+            scenarios.len()
+        );
+    }
 }
 
 /// A length at, below or above what is needed.
@@ -1690,6 +1846,198 @@ fn edges(tally: &mut Tally, rng: &mut Random, rounds: u64) {
     }
 }
 
+/// One list by one g: with just the output needed and one byte less, and with some more bytes of both.
+fn fitted(tally: &mut Tally, rng: &mut Random, scenarios: &[u8], m: usize, h: usize, g: u64) {
+    let list: Vec<&[u8]> = (0..m).map(|k| &scenarios[k * h..(k + 1) * h]).collect();
+    let need = model::sheet_of(&list, h, g).0.len();
+    assert!(need <= m * (7 + 17 * h), "a sheet of {need} bytes: more than the header says are enough");
+    sheet(tally, rng, (scenarios, m as u64, h as u64, g, need));
+    if need > 0 {
+        sheet(tally, rng, (scenarios, m as u64, h as u64, g, need - 1));
+    }
+    let more: Vec<u8> = scenarios.iter().copied().chain((0..rng.below(2 * h as u64 + 2)).map(|_| rng.word() as u8)).collect();
+    let room = need + rng.from_to(1, 40) as usize;
+    sheet(tally, rng, (&more, m as u64, h as u64, g, room));
+}
+
+/// The spacings to try: every one up to two more than the horizon, and some great ones.
+fn spacings(h: usize) -> impl Iterator<Item = u64> {
+    (1..=h as u64 + 2).chain([1000, 1001, 1 << 32, 1 << 63, u64::MAX])
+}
+
+/// Every list of up to four scenarios of up to three events 0 and 1, and of up to three of four.
+fn every_sheet(tally: &mut Tally, rng: &mut Random) {
+    for (m, h) in (0..=4).flat_map(|h| (0..=if h == 4 { 3 } else { 4 }).map(move |m| (m, h))) {
+        for code in 0..1u64 << (m * h) {
+            let list: Vec<u8> = (0..m * h).map(|k| (code >> k & 1) as u8).collect();
+            spacings(h).for_each(|g| fitted(tally, rng, &list, m, h, g));
+            if m * h > 0 {
+                sheet(tally, rng, (&list[1..], m as u64, h as u64, 1, 400));
+            }
+        }
+    }
+}
+
+/// m scenarios of h events below `most`, each of which shares a start with the one before it: nothing, all, up to a depth of g or one less or more, or any.
+/// From there on half of them go on as the one before, but for one event.
+fn alike(rng: &mut Random, m: usize, h: usize, g: u64, most: u64) -> Vec<u8> {
+    let mut all: Vec<u8> = vec![];
+    let mut last: Vec<u8> = (0..h).map(|_| rng.below(most) as u8).collect();
+    for _ in 0..m {
+        all.extend(&last);
+        let depth = g * rng.below(h as u64 / g + 1);
+        let at = match rng.below(8) {
+            0 => 0,
+            1 => h as u64,
+            2 | 3 => depth,
+            4 => depth.saturating_sub(1),
+            5 => depth + 1,
+            _ => rng.below(h as u64 + 1),
+        };
+        let (go_on, start) = (rng.chance(1, 2), at as usize);
+        for k in start..h {
+            if k == start {
+                last[k] = ((last[k] as u64 + rng.from_to(1, most - 1)) % most) as u8;
+            } else if !go_on {
+                last[k] = rng.below(most) as u8;
+            }
+        }
+    }
+    all
+}
+
+/// Lists of scenarios that share starts, and of unrelated ones; events and slots of every number of digits; the longest scenarios, and many of them.
+fn lists(tally: &mut Tally, rng: &mut Random) {
+    for _ in 0..500 {
+        let (m, h, most) = (rng.below(12) as usize, rng.from_to(1, 30) as usize, *rng.pick(&[2, 10, 16, 101, 256]));
+        let aim = rng.from_to(1, h as u64);
+        let list = if rng.chance(1, 6) { (0..m * h).map(|_| rng.below(most) as u8).collect() } else { alike(rng, m, h, aim, most) };
+        spacings(h).for_each(|g| fitted(tally, rng, &list, m, h, g));
+    }
+    let bytes: Vec<u8> = (0..=255).chain((0..=255).rev()).chain((0..=255).rev()).collect();
+    for g in [1, 2, 9, 10, 11, 99, 100, 101, 255, 256, 257] {
+        fitted(tally, rng, &bytes, 3, 256, g);
+    }
+    let wholes = [1, 2, 3, 9, 10, 11, 99, 100, 101, 333, 499, 500, 501, 998, 999, 1000, 1001, 1002];
+    for g in wholes {
+        let aim = alike(rng, 4, 1000, g, 256);
+        fitted(tally, rng, &aim, 4, 1000, g);
+    }
+    for share in [0, 1, 8, 9, 10, 11, 98, 99, 100, 101, 499, 500, 501, 997, 998, 999, 1000] {
+        let first: Vec<u8> = (0..1000).map(|_| rng.word() as u8).collect();
+        let mut list = first.repeat(2);
+        list[1000 + share..].iter_mut().for_each(|e| *e = !*e);
+        wholes.into_iter().for_each(|g| fitted(tally, rng, &list, 2, 1000, g));
+    }
+    fitted(tally, rng, &[255; 1000], 1, 1000, 1);
+    let again = alike(rng, 1, 1000, 1, 256).repeat(8);
+    [1, 10, 1000].into_iter().for_each(|g| fitted(tally, rng, &again, 8, 1000, g));
+    let list = alike(rng, 2, 1000, 100, 16);
+    (1..=1002).for_each(|g| fitted(tally, rng, &list, 2, 1000, g));
+    for (m, h) in [(70_000, 0), (70_000, 2), (1_000, 30), (300, 100)] {
+        let list = alike(rng, m, h, 5, 4);
+        [1, 2, 3, 7, 31].into_iter().for_each(|g| fitted(tally, rng, &list, m, h, g));
+    }
+}
+
+/// Lists that end where nothing may be read: no byte after the scenarios is looked at, also where the last one is as the one before.
+fn fenced_sheets(tally: &mut Tally, rng: &mut Random) {
+    let mut fence = Fence::of(4);
+    for k in 0..2_000 {
+        let (m, h) = if k % 10 == 0 { (rng.below(15), 1000) } else { (rng.below(9), rng.below(20)) };
+        let g = rng.from_to(1, h + 2);
+        let mut list = alike(rng, m as usize, h as usize, g, 3);
+        if m > 1 && rng.chance(1, 2) {
+            list.copy_within(((m - 2) * h) as usize..((m - 1) * h) as usize, ((m - 1) * h) as usize);
+        }
+        let short = list.len() - rng.below(2).min(list.len() as u64) as usize;
+        let mut out = vec![1; m as usize * (7 + 17 * h as usize)];
+        let want = model::sheet(&list[..short], m, h, g, &out);
+        let told = calls::sheet(fence.hold(&list[..short]), m, h, g, &mut out);
+        let wrong = told_differs(told, want.number, want.words).or((out != want.out).then(|| "another output".into()));
+        tally.note("fenced sheet", want.number, wrong, || format!("m {m}, h {h}, g {g}, {list:?}"));
+    }
+}
+
+/// Sheets of any m, h and g, with scenarios and output of any length; some m are so great that m × h is little more than 2^64.
+fn any_sheets(tally: &mut Tally, rng: &mut Random, rounds: u64) {
+    for _ in 0..rounds {
+        let h = match rng.below(60) {
+            0 => *rng.pick(&[1000, 999]),
+            1..=5 => *rng.pick(&[1001, 1002, 65536, 1 << 32, 1 << 63, u64::MAX]),
+            6..=12 => rng.from_to(9, 40),
+            _ => rng.below(9),
+        };
+        let g = match rng.below(12) {
+            0 => 0,
+            1 => *rng.pick(&[1000, 1001, 1 << 16, 1 << 32, 1 << 63, u64::MAX]),
+            _ => rng.from_to(1, h.min(1000) + 2),
+        };
+        let m = match rng.below(12) {
+            0 => *rng.pick(&[u64::MAX, 1 << 63, 1 << 62, 1 << 61, 1 << 32, 1 << 16]),
+            1 if h > 1 => (((1u128 << 64) + rng.below(50) as u128) / h as u128) as u64,
+            2 => rng.below(60),
+            _ => rng.below(6),
+        };
+        let length = h.min(1001) as usize;
+        let few = m.min(if length > 40 { 4 } else { 60 }) as usize;
+        let most = *rng.pick(&[2, 10, 256]);
+        let list = alike(rng, few, length, g.clamp(1, 1000), most);
+        let need = if g == 0 { 7 * few } else { model::sheet_of(&list.chunks(length.max(1)).collect::<Vec<_>>(), length, g).0.len() };
+        let (lent, out) = (about(rng, list.len()), about(rng, need.max(7 * few)));
+        let list: Vec<u8> = (0..lent).map(|k| list.get(k).copied().unwrap_or_else(|| rng.word() as u8)).collect();
+        sheet(tally, rng, (&list, m, h, g, out));
+    }
+}
+
+/// The scenarios of a rig, at most so many, in order and shuffled from a seed, as the library lists them: their sheet by every spacing, or by one in so many.
+fn listed_sheets(tally: &mut Tally, rng: &mut Random, t: &[u8], h: u64, most: u64, every: usize) {
+    let mut cells = vec![0; model::all_rows(h as usize, states(&model::read(t)))];
+    let told = calls::count(t, h, &mut cells);
+    if told.number != 0 {
+        return;
+    }
+    let (n, m) = (told.words[0], told.words[0].min(most));
+    let mut draws = vec![0; m as usize];
+    let (mut scratch, mut shuffled) = (vec![0; 2 * m as usize], vec![0; m as usize]);
+    assert_eq!(calls::draws(n, m, rng.word(), 255, &mut draws).number, 0);
+    assert_eq!(calls::shuffle(n, &draws, &mut scratch, &mut shuffled).number, 0);
+    for list in [(0..m).collect(), shuffled] {
+        let mut out = vec![0; (m * h) as usize];
+        assert_eq!(calls::scenarios(t, h, &list, &mut cells, &mut out).number, 0);
+        for g in spacings(h as usize).skip(rng.below(every as u64) as usize).step_by(every) {
+            fitted(tally, rng, &out, m as usize, h as usize, g);
+        }
+    }
+}
+
+/// Sheets of real lists: those of the example rigs, of random ones, and of rigs with long scenarios.
+fn rig_sheets(tally: &mut Tally, rng: &mut Random) {
+    for ask in [
+        include_str!("../../examples/closing.ask"),
+        include_str!("../../examples/feeder.ask"),
+        include_str!("../../examples/last_bus.ask"),
+        include_str!("../../examples/load_follows.ask"),
+        include_str!("../../examples/one_post.ask"),
+        include_str!("../../examples/plug_out_first.ask"),
+        include_str!("../../examples/service_day.ask"),
+        include_str!("../../examples/service_day_gap.ask"),
+        include_str!("../../examples/two_posts.ask"),
+    ] {
+        let (line, rig) = ask.split_once('\n').unwrap();
+        let h = line.strip_prefix("ask\t").unwrap().parse().unwrap();
+        listed_sheets(tally, rng, rig.as_bytes(), h, 400, 1);
+    }
+    for _ in 0..1_500 {
+        let (t, h) = (text(&Shape::small(rng, 4, 24), rng), rng.below(14));
+        listed_sheets(tally, rng, &t, h, 12, 1);
+    }
+    for t in [slow_growth(6, &[]), slow_growth(2, &[31, 16]), chain(2, 32, 2, End::Aside)] {
+        listed_sheets(tally, rng, &t, 60, 200, 7);
+        listed_sheets(tally, rng, &t, 1000, 6, 300);
+    }
+}
+
 /// A rig whose N at h 16 is 16^16 − 16 + last: sixteen events a step, but the very last step along the last events has only `last`.
 fn at_limit(last: u64) -> String {
     let mut t = "rig\t16\nmon\t17\n".to_string();
@@ -2034,6 +2382,12 @@ fn main() {
     small_draws(&mut tally, rng);
     seeded(&mut tally, rng, 150_000);
     edges(&mut tally, rng, 100_000);
+    worked_sheets(&mut tally, rng);
+    every_sheet(&mut tally, rng);
+    lists(&mut tally, rng);
+    fenced_sheets(&mut tally, rng);
+    any_sheets(&mut tally, rng, 60_000);
+    rig_sheets(&mut tally, rng);
     for (call, numbers) in [
         ("count", &[0u64, 1, 2, 3, 4, 5, 6, 7, 8, 9, 10, 16, 17, 18][..]),
         ("count_forward", &[0, 1, 2, 3, 4, 5, 6, 7, 8, 9, 10, 16, 17, 18]),
@@ -2045,6 +2399,9 @@ fn main() {
         ("shuffle", &[0, 8, 12, 15]),
         ("draws", &[0, 12, 15, 19]),
         ("published", &[0]),
+        ("sheet", &[0, 7, 12, 20]),
+        ("on the bench", &[0]),
+        ("fenced sheet", &[0, 12]),
         ("line", &[0]),
         ("some marked: count", &[0, 9]),
         ("some marked: listed", &[0]),
@@ -2119,6 +2476,18 @@ fn main() {
         let times = tally.ended.get(&place).copied().unwrap_or(0);
         assert!(times > 500, "few Draws calls are refused 19 at place {place}: {times}");
     }
+    for cause in ["fewer bytes", "shorter output"] {
+        let times = tally.lacking.get(cause).copied().unwrap_or(0);
+        assert!(times > 1_000, "few Sheet calls are refused 12 for {cause}: {times}");
+    }
+    for start in ["none", "all, a depth", "all", "a depth", "one less", "one more", "between"] {
+        let times = tally.starts.get(start).copied().unwrap_or(0);
+        assert!(times > 1_000, "few scenarios share a start with the one before, {start}: {times}");
+    }
+    for (digits, least) in [(1, 1_000), (2, 1_000), (3, 100), (4, 5)] {
+        let times = tally.slots.get(&digits).copied().unwrap_or(0);
+        assert!(times > least, "few loads of slots of {digits} digits: {times}");
+    }
     for ((call, number), (times, wrong)) in &tally.answers {
         let answer = if *number == 0 { "served".into() } else { format!("refusal {number}") };
         println!("{call:20} {answer:12} {times:8} {wrong:8}");
@@ -2142,6 +2511,9 @@ fn main() {
     println!("{} horizons have fewer scenarios and {} none, where a shorter one has too many", tally.fewer, tally.gone);
     println!("{} Draws calls are served with raw numbers thrown away", tally.thrown);
     println!("Draws calls refused 19, by place, from 8 on as 8: {:?}", tally.ended);
+    println!("Sheet calls refused 12, by the cause: {:?}", tally.lacking);
+    println!("scenarios of sheets by the start shared with the one before, to the depths of g: {:?}", tally.starts);
+    println!("loads by the digits of their slot: {:?}", tally.slots);
     println!("{} comparisons, {} differences", tally.comparisons, tally.differences);
     if tally.differences > 0 {
         std::process::exit(1);
