@@ -12,19 +12,20 @@ use Rattle.promises.proofs.Shapes.{shapes}
 use Rattle.promises.proofs.Small.{small-owed}
 use Rattle.promises.proofs.Forward.{forward-owed}
 use Rattle.promises.proofs.Draws.{draws-owed}
+use Rattle.promises.proofs.Sheets.{sheet-owed}
 use Rattle.capi.specs.Words.{numberOf}
-use Rattle.capi.specs.Told.{CountTold, IndexTold, PlaceTold, Told}
+use Rattle.capi.specs.Told.{WordsTold, IndexTold, PlaceTold, Told}
 
 zero-told : (m : ℕ) (a : Answer) → Shaped m a → (numberOf a ≡ 0) ↔ Served a
 unfolding Shaped Served
 zero-told m (served vs) s = (λ q. (vs, refl), λ v. refl)
 zero-told m (refused n p) ne = (λ q. absurd (ne q), λ (vs, q). let z : _≡_ {A = ℕ} 0 1 = cc in absurd (omega arith))
 
-count-told : (a : Answer) → Shaped 2 a → CountTold a
+words-told : (a : Answer) → Shaped 2 a → WordsTold a
 unfolding Shaped Refuses
-count-told (served vs) s = record { zero-served = zero-told 2 (served vs) s; told = refl; two = s; second = λ (n, p, q). let z : _≡_ {A = ℕ} 0 1 = cc in absurd (omega arith) }
-count-told (refused zero p) ne = absurd (ne refl)
-count-told (refused (suc n) p) ne = record { zero-served = zero-told 2 (refused (suc n) p) ne; told = refl; two = refl; second = λ r. refl }
+words-told (served vs) s = record { zero-served = zero-told 2 (served vs) s; told = refl; two = s; second = λ (n, p, q). let z : _≡_ {A = ℕ} 0 1 = cc in absurd (omega arith) }
+words-told (refused zero p) ne = absurd (ne refl)
+words-told (refused (suc n) p) ne = record { zero-served = zero-told 2 (refused (suc n) p) ne; told = refl; two = refl; second = λ r. refl }
 
 index-told : (a : Answer) → Shaped 1 a → IndexTold a
 unfolding Shaped
@@ -44,11 +45,12 @@ place-told (refused (suc n) p) ne = record { zero-served = zero-told 0 (refused 
 pub told : Told
 unfolding generator
 told = record {
-  of-count = λ t h cells. count-told _ (shapes .of-count t h cells);
-  of-forward = λ t h cells. count-told _ (forward-owed t h cells .shaped);
+  of-count = λ t h cells. words-told _ (shapes .of-count t h cells);
+  of-forward = λ t h cells. words-told _ (forward-owed t h cells .shaped);
   of-scenarios = λ t h is cells out. place-told _ (shapes .of-scenarios t h is cells out);
   of-small = λ t h is cells out. place-told _ (small-owed t h is cells out .shaped);
   of-index = λ t s cells. index-told _ (shapes .of-index t s cells);
   of-shuffle = λ n ds scratch out. place-told _ (shapes .of-shuffle n ds scratch out);
   of-draws = λ n z seed limit out. place-told _ (draws-owed n z seed limit out .shaped);
+  of-sheet = λ m h g scenarios out. words-told _ (sheet-owed m h g scenarios out .shaped);
 }

@@ -1,5 +1,5 @@
 -- What a C caller reads in the numbers that it is told, by the words of include/wandukhai.h, and that it reads the call's answer.
---   readCount n ws   == the answer of Count, from either end, that was told by the number n and the words ws
+--   readWords n ws   == the answer of Count, from either end, or of the sheet that was told by the number n and the words ws
 --   readIndex n w    == the answer of Index that was told by the number n and the word w
 --   readPlace n w    == the answer of Scenarios, on either bench, Shuffle or the draws that was told by the number n and the place w
 --   Told             == 0 is returned exactly where a call is served, and what is told is the answer
@@ -14,13 +14,14 @@ use Rattle.promises.specs.Calls.{count, scenarios, index, shuffle}
 use Rattle.promises.specs.Small.{small}
 use Rattle.promises.specs.Forward.{forward}
 use Rattle.promises.specs.Draws.{draws}
+use Rattle.promises.specs.Sheets.{sheetCall}
 use Rattle.capi.specs.Words.{numberOf, wordsOf, wordOf}
 
 -- 'Returned: 0 where the call is served, else the number of refusal, with a place'
--- 'answer: served, N and the passes of pruning; refused, the place and 0'
-abbrev pub readCount : ℕ → List ℕ → Answer
-readCount zero ws = served ws
-readCount (suc n) ws = refused (suc n) (getD ws 0 0)
+-- 'answer: served, N and the passes of pruning; refused, the place and 0'; 'served, the sheet's length in bytes and the event total; refused, the place and 0'
+abbrev pub readWords : ℕ → List ℕ → Answer
+readWords zero ws = served ws
+readWords (suc n) ws = refused (suc n) (getD ws 0 0)
 
 -- 'answer: served, the index; refused, the place'
 abbrev pub readIndex : ℕ → ℕ → Answer
@@ -32,9 +33,9 @@ abbrev pub readPlace : ℕ → ℕ → Answer
 readPlace zero w = served []
 readPlace (suc n) w = refused (suc n) w
 
-pub record CountTold (a : Answer) : Type 0 where
+pub record WordsTold (a : Answer) : Type 0 where
   pub zero-served : (numberOf a ≡ 0) ↔ Served a
-  pub told : readCount (numberOf a) (wordsOf a) ≡ a
+  pub told : readWords (numberOf a) (wordsOf a) ≡ a
   pub two : length (wordsOf a) ≡ 2
   pub second : Refuses a → getD (wordsOf a) 1 0 ≡ 0
 
@@ -48,10 +49,11 @@ pub record PlaceTold (a : Answer) : Type 0 where
   pub no-place : Served a → wordOf a ≡ 0
 
 pub record Told : Type 0 where
-  pub of-count : (t : List ℕ) (h : ℕ) (cells : List ℕ) → CountTold (count t h cells)
-  pub of-forward : (t : List ℕ) (h : ℕ) (cells : List ℕ) → CountTold (forward t h cells)
+  pub of-count : (t : List ℕ) (h : ℕ) (cells : List ℕ) → WordsTold (count t h cells)
+  pub of-forward : (t : List ℕ) (h : ℕ) (cells : List ℕ) → WordsTold (forward t h cells)
   pub of-scenarios : (t : List ℕ) (h : ℕ) (is cells out : List ℕ) → PlaceTold (scenarios t h is cells out)
   pub of-small : (t : List ℕ) (h : ℕ) (is cells out : List ℕ) → PlaceTold (small t h is cells out)
   pub of-index : (t s cells : List ℕ) → IndexTold (index t s cells)
   pub of-shuffle : (n : ℕ) (ds scratch out : List ℕ) → PlaceTold (shuffle n ds scratch out)
   pub of-draws : (n z seed limit : ℕ) (out : List ℕ) → PlaceTold (draws n z seed limit out)
+  pub of-sheet : (m h g : ℕ) (scenarios out : List ℕ) → WordsTold (sheetCall m h g scenarios out)

@@ -2,6 +2,7 @@
 use generator::Counted;
 use generator::Indexed;
 use generator::Listed;
+use sheets::Sheeted;
 use shuffle::Answered;
 ghost use mathlib.Core.Path.{_≡_};
 ghost use Rattle.promises.specs.Calls.{ShuffleKeeps};
@@ -9,6 +10,7 @@ ghost use Rattle.promises.specs.Calls as promised;
 ghost use Rattle.promises.specs.Small.{small, smallOutput, SmallKeeps};
 ghost use Rattle.promises.specs.Forward.{forward, ForwardKeeps};
 ghost use Rattle.promises.specs.Draws.{draws as drawn, drawsOutput};
+ghost use Rattle.promises.specs.Sheets.{sheetCall, sheetOutput};
 ghost use Rattle.shuffle.specs.Outcome.{answerOf};
 ghost use Rattle.generator.specs.Outcomes.{countAnswer, listAnswer};
 ghost use Rattle.capi.specs.Words.{numberOf, wordsOf, wordOf};
@@ -190,6 +192,33 @@ fn tell_answered(answered: Answered, place: &mut u64) -> u64
         }
         Answered::Refused(number, at) => {
             *place = at;
+            number
+        }
+    }
+}
+
+// A sheet of bench commands. The answer is its length and the events that it runs, or the place and 0.
+#[no_mangle]
+pub extern "C" fn wandukhai_sheet(
+    scenarios: &[u8],
+    m: u64,
+    h: u64,
+    g: u64,
+    out: &mut [u8],
+    answer: &mut [u64; 2],
+) -> u64
+    ensures { λ r. ⌜ r ≡ numberOf (sheetCall m h g (now (scenarios .entry)) (now (out .entry))) ⌝ }
+    ensures { λ _. ⌜ now (answer .exit) ≡ wordsOf (sheetCall m h g (now (scenarios .entry)) (now (out .entry))) ⌝ }
+    ensures { λ _. ⌜ now (out .exit) ≡ sheetOutput m h g (now (scenarios .entry)) (now (out .entry)) ⌝ }
+{
+    let sheeted = sheets::sheet(scenarios, m, h, g, out);
+    match sheeted {
+        Sheeted::Served(length, total) => {
+            *answer = [length, total];
+            0
+        }
+        Sheeted::Refused(number, at) => {
+            *answer = [at, 0];
             number
         }
     }
