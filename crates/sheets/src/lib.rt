@@ -2,6 +2,7 @@
 //
 // A sheet is measured before it is written, so that nothing is written where it does not fit.
 ghost use mathlib.Core.Path.{_≡_};
+ghost use mathlib.Core.Bool.{true};
 ghost use mathlib.Core.List.{_++_};
 ghost use Prim.Native.Nat.{_+_, _*_, _<_, _≤_, min};
 ghost use lib.ListN.{length, take, drop};
@@ -126,17 +127,52 @@ fn tail<'p, 'n>(prev: &'p [u8], new: &'n [u8], g: usize) -> &'n [u8]
     &new[depth..]
 }
 
-// How many events the two begin with alike.
+// How many events the two begin with alike: sixteen at once as long as all of them are, then one by one.
 fn shared<'p, 'n>(prev: &'p [u8], new: &'n [u8]) -> usize
     ensures { λ r. ⌜ r ≡ sharedBy (now (prev .entry)) (now (new .entry)) ⌝ }
 {
     let limit = shorter(prev.len(), new.len());
-    for k in 0..limit {
+    let from = shared_blocks(prev, new, limit);
+    for k in from..limit {
         if prev[k] != new[k] {
             return k;
         }
     }
     limit
+}
+
+// How many of the first `limit` events are in blocks of sixteen that are alike, up to the first block that is not.
+fn shared_blocks<'p, 'n>(prev: &'p [u8], new: &'n [u8], limit: usize) -> usize
+    requires { ⌜ (limit ≤ length (now prev)) × (limit ≤ length (now new)) ⌝ }
+    ensures { λ r. ⌜ (r ≤ limit) × (take r (now (prev .entry)) ≡ take r (now (new .entry))) ⌝ }
+{
+    let mut k = 0;
+    while 16 <= limit - k {
+        if !alike(&prev[k..k + 16], &new[k..k + 16]) {
+            return k;
+        }
+        k += 16;
+    }
+    k
+}
+
+// Whether sixteen events are alike. All are looked at, so that no step waits for the one before.
+fn alike<'p, 'n>(a: &'p [u8], b: &'n [u8]) -> bool
+    requires { ⌜ (length (now a) ≡ 16) × (length (now b) ≡ 16) ⌝ }
+    ensures { λ r. ⌜ (r ≡ true → now (a .entry) ≡ now (b .entry)) ⌝ }
+{
+    let mut same = 0;
+    for i in 0..16 {
+        same += same_event(a[i], b[i]);
+    }
+    same == 16
+}
+
+// 1 where the two events are the same.
+fn same_event(a: u8, b: u8) -> usize
+    ensures { λ r. ⌜ (r ≤ 1) × (r ≡ 1 → a ≡ b) ⌝ }
+{
+    if a == b { 1 } else { 0 }
 }
 
 fn shorter(a: usize, b: usize) -> usize
