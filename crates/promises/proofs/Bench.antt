@@ -5,19 +5,18 @@
 -- Why: after a scenario each slot up to its end holds what it begins with, and the next one loads a slot whose events it shares. Assumes nothing.
 use mathlib.Core.Path.{_≡_, refl, sym, ap, ap₂, _∙_}
 use mathlib.Core.Logic.{_⊎_, inl, inr, _≢_, ⊎-elim}
-use mathlib.Core.List.{List, [], _∷_, _++_, append-nil, append-assoc, head-eq-of-cons-eq, tail-eq-of-cons-eq}
+use mathlib.Core.List.{List, [], _∷_, _++_, head-eq-of-cons-eq, tail-eq-of-cons-eq}
 use mathlib.Core.Option.{none, some}
 use Prim.Native.Nat.{ℕ, zero, suc, _+_, _-_, _*_, _/_, _%_, _≤_, _<_, min}
 use native.Mathlib.Omega.{arith}
 use native.Mathlib.Nat.{zero-add, le-of-suc-le-suc, suc-mul, zero-mul, zero-div, le-of-mul-le-mul-right, lt-of-mul-lt-mul-right, div-mul-le-self, le-div-iff-mul-le, mul-div-cancel, mul-le-mul-right, mul-mod-left, mul-add-mod-self-right, mod-eq-of-lt}
-use lib.ListN.{length, getD, take, drop, length-take, length-drop, drop-of-length-le}
+use lib.ListN.{length, take, drop, length-take, length-drop, drop-of-length-le}
 use lib.Seq.{take-all, take-add, drop-drop, length-take-le}
 use lib.Dec.{eqb}
 use borrow.Author.Tests.{eqb-true, eqb-false, eq-eqb, ne-eqb}
 use Rattle.lists.specs.Lists.{pick, sum, tabulate, stack}
 use Rattle.lists.proofs.Tests.{case, split}
 use Rattle.lists.proofs.Sums.{sum-snoc}
-use Rattle.lists.proofs.Tables.{length-tabulate, getD-tabulate}
 use Rattle.promises.specs.Sheets.{Command, load, run, save, shared, slotFor, depthFor, tail, leg, legs, part, before, sheet, events, Bench, step, arrivals, savesNext, Allowed, Proper, loads, Shares, Deepest}
 
 -- ---- the start that two scenarios share

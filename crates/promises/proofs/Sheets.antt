@@ -5,7 +5,7 @@
 use mathlib.Core.Path.{_≡_, refl, sym, ap, _∙_, subst}
 use mathlib.Core.Logic.{inl, inr, ⊎-elim}
 use mathlib.Core.Bool.{false, _||_}
-use mathlib.Core.List.{List, [], _∷_, _++_, map, map-append}
+use mathlib.Core.List.{List, [], _∷_, map}
 use mathlib.Core.List.{List·Memᴰ as In, List·Memᴰ·head as here, List·Memᴰ·tail as there, List·Memᴰ·not-nil, List·Memᴰ·append-cases as in-append, List·Memᴰ·eq-of-singleton as in-one}
 use mathlib.Core.Option.{some}
 use Prim.Native.Nat.{ℕ, zero, suc, _+_, _-_, _*_, _≤_, _<_}
@@ -14,7 +14,6 @@ use native.Mathlib.Nat.{suc-mul, mul-le-mul-right, pos-of-ne-zero, le-mul-of-pos
 use lib.ListN.{length, getD, take, drop, length-take, length-drop}
 use lib.Seq.{take-append-seam}
 use lib.Dec.{ltb, eqb}
-use borrow.Author.Tests.{ltb-false}
 use Rattle.lists.specs.Lists.{sum, tabulate, stack}
 use Rattle.lists.specs.Decimal.{decimal, digits}
 use Rattle.lists.proofs.Tests.{case, split}
@@ -22,17 +21,17 @@ use Rattle.lists.proofs.Tells.{Tells, tells-true, tells-false, tells-lt, tells-
 use Rattle.lists.proofs.Members.{in-map, in-take, in-drop}
 use Rattle.lists.proofs.Tables.{length-tabulate, getD-tabulate}
 use Rattle.promises.specs.Answer.{served, Served}
-use Rattle.promises.specs.Text.{lines, unended, fields, same, Case7}
+use Rattle.promises.specs.Text.{lines, unended, same, Case7}
 use Rattle.promises.specs.Spelling.{spelled, Small, joined}
 use Rattle.promises.specs.Calls.{outputAfter}
 use Rattle.promises.specs.Demand3.{block}
 use Rattle.promises.specs.Shapes.{Shaped}
-use Rattle.promises.specs.Sheets.{Command, load, run, save, shared, slotFor, depthFor, tail, leg, legs, part, before, sheet, events, lineOf, text, scenario, sheetText, sheetCall, sheetOutput, loads, Shares, Deepest, asSlot, asRun, formOf, command, Drives, Case20, Case12·sheet, SheetReady, SheetOwed, SheetExamples}
+use Rattle.promises.specs.Sheets.{Command, load, run, save, shared, slotFor, depthFor, tail, leg, legs, part, before, sheet, events, commandLine, text, scenario, sheetText, sheetCall, sheetOutput, Shares, Deepest, asSlot, asRun, formOf, command, Drives, Case20, Case12·sheet, SheetReady, SheetOwed, SheetExamples}
 use Rattle.promises.proofs.Pieces.{Free, lines-joined, unended-joined}
 use Rattle.promises.proofs.Spelling.{numbers-read, fields-spelled, spelled-free}
 use Rattle.promises.proofs.Buffers.{unless-served, output-left}
 use Rattle.promises.proofs.Shapes.{checked}
-use Rattle.promises.proofs.Bench.{shared-right, sheet-arrives, sheet-proper, sheet-unsaved, loads-sheet, events-sheet, first-slot, slot-deepest}
+use Rattle.promises.proofs.Bench.{sheet-arrives, sheet-proper, sheet-unsaved, loads-sheet, events-sheet, first-slot, slot-deepest}
 
 -- ---- lines and commands
 
@@ -41,17 +40,17 @@ numbersOf (load j) = j ∷ []
 numbersOf (run es) = es
 numbersOf (save j) = j ∷ []
 
-line-free : (c : Command) → Free 10 (lineOf c)
-unfolding lineOf
+line-free : (c : Command) → Free 10 (commandLine c)
+unfolding commandLine
 line-free (load j) = spelled-free "load" (j ∷ []) refl
 line-free (run es) = spelled-free "run" es refl
 line-free (save j) = spelled-free "save" (j ∷ []) refl
 
-lines-free : (cs : List Command) (l : List ℕ) → In l (map lineOf cs) → Free 10 l
-lines-free cs l i = let (c, j, q) = in-map lineOf cs i in subst (Free 10) (sym q) (line-free c)
+lines-free : (cs : List Command) (l : List ℕ) → In l (map commandLine cs) → Free 10 l
+lines-free cs l i = let (c, j, q) = in-map commandLine cs i in subst (Free 10) (sym q) (line-free c)
 
-command-line : (c : Command) → Small (numbersOf c) → command (lineOf c) ≡ some c
-unfolding command formOf same lineOf numbersOf asSlot asRun
+command-line : (c : Command) → Small (numbersOf c) → command (commandLine c) ≡ some c
+unfolding command formOf same commandLine numbersOf asSlot asRun
 command-line (load j) w = rw (fields-spelled "load" (j ∷ []) refl, numbers-read (j ∷ []) w)
 command-line (run es) w = rw (fields-spelled "run" es refl, numbers-read es w)
 command-line (save j) w = rw (fields-spelled "save" (j ∷ []) refl, numbers-read (j ∷ []) w)
@@ -61,15 +60,15 @@ AllSmall cs = (c : Command) → In c cs → Small (numbersOf c)
 
 text-reads : (cs : List Command) → AllSmall cs → map command (lines (text cs)) ≡ map some cs
 unfolding text AllSmall
-text-reads cs w = ap (map command) (lines-joined (map lineOf cs) (lines-free cs)) ∙ each cs w
+text-reads cs w = ap (map command) (lines-joined (map commandLine cs) (lines-free cs)) ∙ each cs w
   where
-    each : (cs : List Command) → ((c : Command) → In c cs → Small (numbersOf c)) → map command (map lineOf cs) ≡ map some cs
+    each : (cs : List Command) → ((c : Command) → In c cs → Small (numbersOf c)) → map command (map commandLine cs) ≡ map some cs
     each [] w = refl
     each (c ∷ cs) w = rw (command-line c (w c (here refl)), each cs (λ d i. w d (there i)))
 
 text-ended : (cs : List Command) → unended (text cs) ≡ []
 unfolding text
-text-ended cs = unended-joined (map lineOf cs) (lines-free cs)
+text-ended cs = unended-joined (map commandLine cs) (lines-free cs)
 
 -- ---- no number has more than five digits
 
@@ -216,5 +215,5 @@ module _ (m h g : ℕ) (scenarios out : List ℕ) where
   }
 
 pub sheet-examples : SheetExamples
-unfolding sheetOutput sheetCall sheetText scenario sheet stack part before tail depthFor slotFor shared legs leg text lineOf events joined spelled block tabulate outputAfter decimal digits
-sheet-examples = record { three = refl; equal = refl; told = refl; one-byte-short = refl; no-events = refl; exact = refl }
+unfolding sheetOutput sheetCall sheetText scenario sheet stack part before tail depthFor slotFor shared legs leg text commandLine events joined spelled block tabulate outputAfter decimal digits
+sheet-examples = record { three = refl; equal = refl; told = refl; one-byte-short = refl; no-events = refl; spaced-0 = refl; all-three = refl; exact = refl }

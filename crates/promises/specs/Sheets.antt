@@ -9,7 +9,7 @@
 --   before ss k       == the scenario before number k, and nothing before the first
 --   sheet g ss m      == the commands for the scenarios ss 0 .. ss (m−1)
 --   events cs         == how many events the runs of cs have together
---   lineOf c, text cs == a command as a line, and commands as a text
+--   commandLine c, text cs  == a command as a line, and commands as a text
 --   scenario h scenarios k  == scenario number k of those that were filled
 --   sheetText m h g scenarios == the bytes of the sheet
 --   sheetCall, sheetOutput  == the call's answer, and the output afterwards
@@ -101,13 +101,13 @@ events (run es ∷ cs) = length es + events cs
 events (save j ∷ cs) = events cs
 
 -- 'They are written as rig text lines are, each event byte as a number'
-unfoldable pub lineOf : Command → List ℕ
-lineOf (load j) = spelled "load" (j ∷ [])
-lineOf (run es) = spelled "run" es
-lineOf (save j) = spelled "save" (j ∷ [])
+unfoldable pub commandLine : Command → List ℕ
+commandLine (load j) = spelled "load" (j ∷ [])
+commandLine (run es) = spelled "run" es
+commandLine (save j) = spelled "save" (j ∷ [])
 
 unfoldable pub text : List Command → List ℕ
-text cs = joined (map lineOf cs)
+text cs = joined (map commandLine cs)
 
 -- ---- the call
 
@@ -266,5 +266,8 @@ pub record SheetExamples : Type 0 where
   pub one-byte-short : sheetCall 2 2 2 (16 ∷ 255 ∷ 16 ∷ 255 ∷ 8 ∷ []) (tabulate (λ k. 9) 31) ≡ refused 12 0
   -- of no events each scenario is a load
   pub no-events : sheetOutput 2 0 7 [] (tabulate (λ k. 9) 14) ≡ bytes "load\t0\nload\t0\n"
+  -- 7 before 20 before 12
+  pub spaced-0 : sheetCall 1 1 0 [] [] ≡ refused 20 0
+  pub all-three : sheetCall 1 1001 0 [] [] ≡ refused 7 0
   -- m × h is meant exactly
   pub exact : sheetCall 4611686018427387904 4 1 [] [] ≡ refused 12 0

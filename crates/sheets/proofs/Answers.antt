@@ -9,7 +9,7 @@ use lib.ListN.{length, drop}
 use Rattle.promises.specs.Answer.{served, refused}
 use Rattle.promises.specs.Text.{Case7}
 use Rattle.promises.specs.Calls.{outputAfter}
-use Rattle.promises.specs.Sheets.{sheet, events, scenario, sheetText, sheetCall, sheetOutput, Case20, Case12·sheet, SheetReady}
+use Rattle.promises.specs.Sheets.{sheet, events, scenario, sheetText, sheetCall, sheetOutput, Case20, Case12·sheet}
 use Rattle.promises.proofs.Sheets.{call-is, sheet-owed}
 use Rattle.sheets.proofs.Parts.{sheet-sevens}
 

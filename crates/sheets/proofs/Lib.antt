@@ -1,5 +1,5 @@
 -- The laws of this crate.
 pub mod Texts
-pub mod Starts
+pub mod SharedStarts
 pub mod Parts
 pub mod Answers

@@ -1,20 +1,20 @@
 -- The commands of a scenario leg by leg, and those of a sheet scenario by scenario, as they are measured and written. Assumes nothing.
-use mathlib.Core.Path.{_≡_, refl, sym, ap, ap₂, _∙_}
-use mathlib.Core.Logic.{_⊎_, inl, inr, ⊎-elim}
-use mathlib.Core.List.{List, [], _∷_, _++_, append-assoc, append-nil}
-use Prim.Native.Nat.{ℕ, zero, suc, _+_, _-_, _*_, _/_, _≤_, _<_, min}
+use mathlib.Core.Path.{_≡_, refl, sym, ap, _∙_}
+use mathlib.Core.Logic.{_⊎_, inl, inr}
+use mathlib.Core.List.{List, [], _∷_, _++_}
+use Prim.Native.Nat.{ℕ, zero, suc, _+_, _-_, _*_, _/_, _≤_, _<_}
 use native.Mathlib.Numerals.{add-one}
 use native.Mathlib.Omega.{arith}
 use native.Mathlib.Nat.{zero-add, add-zero, add-suc, mul-div-cancel, div-le-self}
 use lib.ListN.{length, take, drop, length-append, length-take, length-drop, drop-of-length-le}
-use lib.Seq.{take-add, drop-drop, take-append-seam, drop-append-seam, length-take-le}
+use lib.Seq.{drop-drop, length-take-le}
 use Rattle.lists.specs.Lists.{stack}
 use Rattle.lists.proofs.Tests.{split}
 use Rattle.lists.proofs.Decimal.{decimal-some}
-use Rattle.line.specs.Line.{fieldBytes, lineFrom}
+use Rattle.line.specs.Line.{lineFrom}
 use Rattle.promises.specs.Text.{bytes}
 use Rattle.promises.specs.Spelling.{joined}
-use Rattle.promises.specs.Sheets.{Command, load, slotFor, depthFor, tail, leg, legs, part, before, sheet, events, text, scenario, sheetText}
+use Rattle.promises.specs.Sheets.{load, slotFor, depthFor, tail, leg, legs, part, before, sheet, events, text, scenario, sheetText}
 use Rattle.promises.proofs.Bench.{events-append, events-part}
 use Rattle.promises.proofs.Sheets.{slot-within, scenario-long}
 use Rattle.sheets.specs.Writing.{legsText, partOf}
@@ -56,19 +56,19 @@ module _ (g : ℕ) (pos : 0 < g) where
               ∙ sym (drop-of-length-le (drop from rest) {i = g} (omega arith))
 
       -- the run of a leg, and what is left after it
-      pub record Leg (run : List ℕ) : Type 0 where
+      pub record OneLeg (run : List ℕ) : Type 0 where
         pub some : 0 < length run
         pub within : from + length run ≤ length rest
         pub text-more : legsText g j (drop from rest) ≡ text (leg g (j + 1) run) ++ legsText g (j + 1) (drop (from + length run) rest)
 
-      pub one-leg : (run : List ℕ) → run ≡ take g (drop from rest) → from < length rest → Leg run
+      pub one-leg : (run : List ℕ) → run ≡ take g (drop from rest) → from < length rest → OneLeg run
       one-leg run q h = record {
         some = rw (q, length-take) (omega (arith, length-drop from rest));
         within = rw (q, length-take) (omega (arith, length-drop from rest));
         text-more = rw (q, add-one j, next-leg) (legs-first (drop from rest) (rw length-drop (omega arith)));
       }
 
-      pub length-more : (run : List ℕ) → Leg run → length (legsText g j (drop from rest)) ≡ length (text (leg g (j + 1) run)) + length (legsText g (j + 1) (drop (from + length run) rest))
+      pub length-more : (run : List ℕ) → OneLeg run → length (legsText g j (drop from rest)) ≡ length (text (leg g (j + 1) run)) + length (legsText g (j + 1) (drop (from + length run) rest))
       length-more run l = ap length (l .text-more) ∙ length-append (text (leg g (j + 1) run)) (legsText g (j + 1) (drop (from + length run) rest))
 
       pub legs-end : length rest ≤ from → legsText g j (drop from rest) ≡ []
@@ -103,12 +103,12 @@ module _ (h g : ℕ) (pos : 0 < g) (prev s : List ℕ) (long : length s ≡ h) w
 
 module _ (m h g : ℕ) (pos : 0 < g) (scenarios : List ℕ) (enough : m * h ≤ length scenarios) where
   -- what a scenario runs, and the sheet up to it
-  pub record Part (k : ℕ) (rest : List ℕ) : Type 0 where
+  pub record OnePart (k : ℕ) (rest : List ℕ) : Type 0 where
     pub short : length rest ≤ h
     pub text-more : sheetText (k + 1) h g scenarios ≡ sheetText k h g scenarios ++ text (partOf h g rest)
     pub events-more : events (sheet g (scenario h scenarios) (k + 1)) ≡ events (sheet g (scenario h scenarios) k) + length rest
 
-  part-of : (k : ℕ) → k < m → Part k (tail g (before (scenario h scenarios) k) (scenario h scenarios k))
+  part-of : (k : ℕ) → k < m → OnePart k (tail g (before (scenario h scenarios) k) (scenario h scenarios k))
   unfolding sheetText sheet stack
   part-of k lt =
       let prev = before (scenario h scenarios) k in
@@ -120,10 +120,10 @@ module _ (m h g : ℕ) (pos : 0 < g) (scenarios : List ℕ) (enough : m * h ≤ 
         events-more = rw add-one (events-append (sheet g (scenario h scenarios) k) (part g prev s) ∙ ap (λ n. events (sheet g (scenario h scenarios) k) + n) (events-part g pos prev s));
       }
 
-  pub one-part : (k : ℕ) (prev s rest : List ℕ) → k < m → prev ≡ before (scenario h scenarios) k → s ≡ scenario h scenarios k → rest ≡ tail g prev s → Part k rest
+  pub one-part : (k : ℕ) (prev s rest : List ℕ) → k < m → prev ≡ before (scenario h scenarios) k → s ≡ scenario h scenarios k → rest ≡ tail g prev s → OnePart k rest
   one-part k prev s rest lt p q r = rw (r, p, q) (part-of k lt)
 
-  pub length-sheet : (k : ℕ) (rest : List ℕ) → Part k rest → length (sheetText (k + 1) h g scenarios) ≡ length (sheetText k h g scenarios) + length (text (partOf h g rest))
+  pub length-sheet : (k : ℕ) (rest : List ℕ) → OnePart k rest → length (sheetText (k + 1) h g scenarios) ≡ length (sheetText k h g scenarios) + length (text (partOf h g rest))
   length-sheet k rest p = ap length (p .text-more) ∙ length-append (sheetText k h g scenarios) (text (partOf h g rest))
 
 module _ (h g : ℕ) (scenarios : List ℕ) where

@@ -15,7 +15,7 @@ use Rattle.line.specs.Line.{fieldBytes, lineFrom}
 use Rattle.line.proofs.Pieces.{number-long}
 use Rattle.promises.specs.Text.{bytes}
 use Rattle.promises.specs.Spelling.{preceded, spelled, joined}
-use Rattle.promises.specs.Sheets.{Command, load, run, save, leg, lineOf, text}
+use Rattle.promises.specs.Sheets.{Command, load, run, save, leg, commandLine, text}
 
 preceded-fields : (ns : List ℕ) → preceded 9 (map decimal ns) ≡ concatMap fieldBytes ns
 preceded-fields [] = refl
@@ -28,25 +28,25 @@ spelled-line w ns rest = rw preceded-fields (sym (append-assoc (bytes w ++ conca
 -- ---- commands one after the other
 
 pub text-load : (j : ℕ) (cs : List Command) → text (load j ∷ cs) ≡ lineFrom (bytes "load") (j ∷ []) ++ text cs
-unfolding text joined lineOf
-text-load j cs = spelled-line "load" (j ∷ []) (joined (map lineOf cs))
+unfolding text joined commandLine
+text-load j cs = spelled-line "load" (j ∷ []) (joined (map commandLine cs))
 
 pub text-append : (cs ds : List Command) → text (cs ++ ds) ≡ text cs ++ text ds
 unfolding text joined
 text-append [] ds = refl
-text-append (c ∷ cs) ds = ap (λ l. lineOf c ++ 10 ∷ l) (text-append cs ds) ∙ sym (append-assoc (lineOf c) (10 ∷ text cs) (text ds))
+text-append (c ∷ cs) ds = ap (λ l. commandLine c ++ 10 ∷ l) (text-append cs ds) ∙ sym (append-assoc (commandLine c) (10 ∷ text cs) (text ds))
 
 -- ---- a leg
 
 module _ (g j : ℕ) (es : List ℕ) where
   pub leg-saved : length es ≡ g → text (leg g j es) ≡ lineFrom (bytes "run") es ++ lineFrom (bytes "save") (j ∷ [])
-  unfolding text joined lineOf leg
+  unfolding text joined commandLine leg
   leg-saved q =
       rw (eq-eqb (length es) g q)
       (spelled-line "run" es (spelled "save" (j ∷ []) ++ 10 ∷ []) ∙ ap (λ l. lineFrom (bytes "run") es ++ l) (spelled-line "save" (j ∷ []) [] ∙ append-nil (lineFrom (bytes "save") (j ∷ []))))
 
   pub leg-unsaved : length es ≢ g → text (leg g j es) ≡ lineFrom (bytes "run") es
-  unfolding text joined lineOf leg
+  unfolding text joined commandLine leg
   leg-unsaved n = rw (ne-eqb (length es) g n) (spelled-line "run" es [] ∙ append-nil (lineFrom (bytes "run") es))
 
   pub saved-long : length es ≡ g → length (text (leg g j es)) ≡ length (lineFrom (bytes "run") es) + length (lineFrom (bytes "save") (j ∷ []))

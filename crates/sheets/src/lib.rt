@@ -8,7 +8,7 @@ ghost use Prim.Native.Nat.{_+_, _*_, _<_, _≤_, min};
 ghost use lib.ListN.{length, take, drop};
 ghost use lib.Dec.{ltb};
 ghost use Rattle.line.specs.Line.{fieldBytes};
-ghost use Rattle.promises.specs.Sheets.{leg as legOf, before, sheet as commands, text, scenario as scenarioOf, shared as sharedBy, tail as tailOf, sheetText, sheetCall, sheetOutput};
+ghost use Rattle.promises.specs.Sheets.{leg as legOf, before, text, scenario as scenarioOf, shared as sharedBy, tail as tailOf, sheetText, sheetCall, sheetOutput};
 ghost use Rattle.sheets.specs.Writing.{sheetAnswer, legsText, partOf, Measures};
 
 // What the call answers: the length of the sheet and the events that it runs, or a refusal's number and place.

@@ -1,13 +1,11 @@
 -- `line::fields_length`: after k events the bytes of their fields are counted; `length-fields` is one event more. They are four at most for each event,
 -- which is a byte. Assumes nothing.
 use mathlib.Core.Path.{_≡_, _∙_}
-use Prim.Native.Nat.{_+_, _-_, _*_, _<_, _≤_}
+use Prim.Native.Nat.{_+_, _-_, _<_, _≤_}
 use native.Mathlib.Omega.{arith}
-use lib.ListN.{length, getD, take}
+use lib.ListN.{length, take}
 use lib.Seq.{take-all}
 use Rattle.lists.specs.Lists.{concatMap}
-use Rattle.lists.specs.Decimal.{decimal}
-use Rattle.lists.proofs.Decimal.{decimal-short}
 use Rattle.line.specs.Line.{fieldBytes}
 use Rattle.line.proofs.Pieces.{length-fields, fields-within, fields-short}
 use borrow.Author.Needs.{needs}

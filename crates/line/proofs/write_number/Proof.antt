@@ -1,10 +1,8 @@
 -- `line::write_number`: the word, a field and the line end are written one after the other. `number-written` says that they are the line.
 -- Assumes nothing.
-use mathlib.Core.List.{[], _∷_, _++_}
 use Prim.Native.Nat.{_<_}
 use native.Mathlib.Omega.{arith}
-use lib.ListN.{length, length-append, length-set}
-use Rattle.line.specs.Line.{fieldBytes}
+use lib.ListN.{length, length-set}
 use Rattle.line.proofs.Pieces.{number-long, number-written}
 use Rattle.line.proofs.write_number.Statement.{statement}
 use Rattle.line.proofs.write_number.Tie as tie

@@ -5,7 +5,7 @@ use native.Mathlib.Omega.{arith}
 use lib.ListN.{take}
 use lib.Seq.{take-all}
 use borrow.Author.Tests.{eqb-true}
-use Rattle.sheets.proofs.Starts.{alike-more}
+use Rattle.sheets.proofs.SharedStarts.{alike-more}
 use borrow.Author.Needs.{needs}
 use Rattle.sheets.proofs.alike.Statement.{statement}
 use Rattle.sheets.proofs.alike.Tie as tie

@@ -3,7 +3,7 @@ use mathlib.Core.Path.{sym}
 use native.Mathlib.Omega.{arith}
 use native.Mathlib.Nat.{mul-zero}
 use borrow.Author.Tests.{le-ltb}
-use Rattle.sheets.proofs.Starts.{short-is}
+use Rattle.sheets.proofs.SharedStarts.{short-is}
 use borrow.Author.Needs.{needs}
 use Rattle.sheets.proofs.is_short.Statement.{statement}
 use Rattle.sheets.proofs.is_short.Tie as tie

@@ -1,11 +1,8 @@
 -- `sheets::leg_length`: the bytes of the run, and those of the save where it is written. Assumes nothing.
-use mathlib.Core.List.{[], _∷_}
 use native.Mathlib.Omega.{arith}
-use lib.ListN.{length, length-append}
+use lib.ListN.{length-append}
 use Rattle.decimal.proofs.Digits.{decimal-fits}
-use Rattle.line.specs.Line.{lineFrom}
 use Rattle.line.proofs.Pieces.{fields-short}
-use Rattle.promises.specs.Text.{bytes}
 use Rattle.sheets.proofs.Texts.{leg-saved, leg-unsaved, run-long, save-long}
 use borrow.Author.Needs.{needs}
 use Rattle.sheets.proofs.leg_length.Statement.{statement}

@@ -3,12 +3,12 @@ use mathlib.Core.Path.{_≡_, refl, sym, ap}
 use Prim.Native.Nat.{_+_, _-_, _*_, _<_, _≤_}
 use native.Mathlib.Numerals.{add-one}
 use native.Mathlib.Omega.{arith}
-use native.Mathlib.Nat.{suc-mul, le-antisymm}
+use native.Mathlib.Nat.{suc-mul}
 use lib.ListN.{length}
 use borrow.Author.Tests.{le-leb, lt-leb}
 use Rattle.lists.proofs.Tests.{contra}
 use Rattle.promises.specs.Sheets.{sheet, events, scenario, sheetText}
-use Rattle.sheets.proofs.Starts.{scenario-within}
+use Rattle.sheets.proofs.SharedStarts.{scenario-within}
 use Rattle.sheets.proofs.Parts.{sheet-none, one-part, length-sheet, sheet-longer}
 use borrow.Author.Needs.{needs}
 use Rattle.sheets.proofs.measure.Statement.{statement}

@@ -1,9 +1,9 @@
 -- `sheets::previous`: scenario number k - 1, where k is not 0. Assumes nothing.
-use mathlib.Core.Path.{_≡_, _∙_}
-use Prim.Native.Nat.{_+_, _-_, _*_}
+use mathlib.Core.Path.{_∙_}
+use Prim.Native.Nat.{_-_}
 use native.Mathlib.Omega.{arith}
 use Rattle.promises.specs.Sheets.{scenario, before}
-use Rattle.sheets.proofs.Starts.{before-next, before-within}
+use Rattle.sheets.proofs.SharedStarts.{before-next, before-within}
 use borrow.Author.Needs.{needs}
 use Rattle.sheets.proofs.previous.Statement.{statement}
 use Rattle.sheets.proofs.previous.Tie as tie

@@ -1,5 +1,4 @@
 -- `sheets::scenario`: the part of h events from k × h on. Assumes nothing.
-use native.Mathlib.Omega.{arith}
 use native.Mathlib.Nat.{add-sub-cancel-left}
 use Rattle.promises.specs.Demand3.{block}
 use Rattle.promises.specs.Sheets.{scenario}

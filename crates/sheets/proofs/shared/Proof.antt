@@ -4,7 +4,7 @@ use Prim.Native.Nat.{_+_, _-_, _≤_, min}
 use native.Mathlib.Omega.{arith}
 use lib.ListN.{length, drop}
 use Rattle.promises.specs.Sheets.{shared}
-use Rattle.sheets.proofs.Starts.{shared-differ, shared-more, shared-end, shared-skip}
+use Rattle.sheets.proofs.SharedStarts.{shared-differ, shared-more, shared-end, shared-skip}
 use borrow.Author.Needs.{needs}
 use Rattle.sheets.proofs.shared.Statement.{statement}
 use Rattle.sheets.proofs.shared.Tie as tie

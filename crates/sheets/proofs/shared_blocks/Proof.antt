@@ -4,7 +4,7 @@ use mathlib.Mathlib.Data.Bool.Basic.{eq-true-of-not-eq-false'}
 use Prim.Native.Nat.{_-_, _≤_}
 use native.Mathlib.Omega.{arith}
 use lib.ListN.{take, length-take, length-drop}
-use Rattle.sheets.proofs.Starts.{block-more}
+use Rattle.sheets.proofs.SharedStarts.{block-more}
 use borrow.Author.Needs.{needs}
 use Rattle.sheets.proofs.shared_blocks.Statement.{statement}
 use Rattle.sheets.proofs.shared_blocks.Tie as tie

@@ -1,9 +1,7 @@
 -- `sheets::sheet`: the checks in their order; then the sheet, which is known to fit, is written. Assumes nothing.
-use mathlib.Core.Path.{_≡_, refl, sym, _∙_}
-use mathlib.Core.Bool.{true, false}
+use mathlib.Core.Path.{sym, _∙_}
 use mathlib.Mathlib.Data.Bool.Basic.{eq-true-of-not-eq-false', eq-false-of-not-eq-true'}
 use Prim.Native.Nat.{_*_, _≤_}
-use native.Mathlib.Omega.{arith}
 use native.Mathlib.Nat.{pos-of-ne-zero}
 use lib.ListN.{length}
 use borrow.Author.Tests.{ltb-true, ltb-false, leb-true, leb-false}

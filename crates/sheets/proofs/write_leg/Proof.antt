@@ -1,8 +1,7 @@
 -- `sheets::write_leg`: the run is written, and the save after it where it reaches the slot's depth. Assumes nothing.
-use mathlib.Core.Path.{_≡_, _∙_}
 use mathlib.Core.List.{[], _∷_}
 use native.Mathlib.Omega.{arith}
-use lib.ListN.{length, length-append, length-take, length-drop}
+use lib.ListN.{length-take, length-drop}
 use Rattle.lists.proofs.Fronts.{front-from}
 use Rattle.line.specs.Line.{lineFrom}
 use Rattle.promises.specs.Text.{bytes}

@@ -7,7 +7,7 @@ use lib.ListN.{length, drop, length-take, length-drop}
 use Rattle.lists.proofs.Fronts.{front-from}
 use Rattle.promises.specs.Sheets.{text, sheetText}
 use Rattle.sheets.specs.Writing.{partOf}
-use Rattle.sheets.proofs.Starts.{scenario-within}
+use Rattle.sheets.proofs.SharedStarts.{scenario-within}
 use Rattle.sheets.proofs.Parts.{sheet-none, one-part, length-sheet, sheet-longer}
 use borrow.Author.Needs.{needs}
 use Rattle.sheets.proofs.write_sheet.Statement.{statement}
