@@ -108,20 +108,17 @@ module _ (m h g : ℕ) (pos : 0 < g) (scenarios : List ℕ) (enough : m * h ≤ 
     pub text-more : sheetText (k + 1) h g scenarios ≡ sheetText k h g scenarios ++ text (partOf h g rest)
     pub events-more : events (sheet g (scenario h scenarios) (k + 1)) ≡ events (sheet g (scenario h scenarios) k) + length rest
 
-  part-of : (k : ℕ) → k < m → OnePart k (tail g (before (scenario h scenarios) k) (scenario h scenarios k))
+  pub one-part : (k : ℕ) (rest : List ℕ) → k < m → rest ≡ tail g (before (scenario h scenarios) k) (scenario h scenarios k) → OnePart k rest
   unfolding sheetText sheet stack
-  part-of k lt =
+  one-part k rest lt q =
       let prev = before (scenario h scenarios) k in
       let s = scenario h scenarios k in
       let long = scenario-long m h g scenarios [] enough k lt in
       record {
-        short = unfold tail in (rw length-drop (omega arith));
-        text-more = rw add-one (text-append (sheet g (scenario h scenarios) k) (part g prev s) ∙ ap (λ cs. text (sheet g (scenario h scenarios) k) ++ text cs) (part-is h g pos prev s long));
-        events-more = rw add-one (events-append (sheet g (scenario h scenarios) k) (part g prev s) ∙ ap (λ n. events (sheet g (scenario h scenarios) k) + n) (events-part g pos prev s));
+        short = rw q (unfold tail in (rw length-drop (omega arith)));
+        text-more = rw (add-one k, q) (text-append (sheet g (scenario h scenarios) k) (part g prev s) ∙ ap (λ cs. text (sheet g (scenario h scenarios) k) ++ text cs) (part-is h g pos prev s long));
+        events-more = rw (add-one k, q) (events-append (sheet g (scenario h scenarios) k) (part g prev s) ∙ ap (λ n. events (sheet g (scenario h scenarios) k) + n) (events-part g pos prev s));
       }
-
-  pub one-part : (k : ℕ) (prev s rest : List ℕ) → k < m → prev ≡ before (scenario h scenarios) k → s ≡ scenario h scenarios k → rest ≡ tail g prev s → OnePart k rest
-  one-part k prev s rest lt p q r = rw (r, p, q) (part-of k lt)
 
   pub length-sheet : (k : ℕ) (rest : List ℕ) → OnePart k rest → length (sheetText (k + 1) h g scenarios) ≡ length (sheetText k h g scenarios) + length (text (partOf h g rest))
   length-sheet k rest p = ap length (p .text-more) ∙ length-append (sheetText k h g scenarios) (text (partOf h g rest))

@@ -38,6 +38,7 @@ pub fn sheet(scenarios: &[u8], m: u64, h: u64, g: u64, out: &mut [u8]) -> Sheete
     if is_short(scenarios.len() as u64, m, h) {
         return Sheeted::Refused(12, 0);
     }
+    // A scenario has a `load` line, and this has seven bytes at least.
     if (out.len() as u64) / 7 < m {
         return Sheeted::Refused(12, 0);
     }
@@ -67,7 +68,7 @@ fn measure(scenarios: &[u8], m: usize, h: usize, g: usize, room: usize) -> Measu
     let mut length = 0;
     let mut total = 0;
     for k in 0..m {
-        let rest = tail(previous(scenarios, h, k), scenario(scenarios, h, k), g);
+        let rest = runs(scenarios, h, g, k);
         let part = part_length(rest, h, g);
         if room - length < part {
             return Measured {
@@ -93,9 +94,17 @@ fn write_sheet(scenarios: &[u8], m: usize, h: usize, g: usize, out: &mut [u8])
 {
     let mut at = 0;
     for k in 0..m {
-        let rest = tail(previous(scenarios, h, k), scenario(scenarios, h, k), g);
+        let rest = runs(scenarios, h, g, k);
         at += write_part(rest, h, g, &mut out[at..]);
     }
+}
+
+// What scenario number k runs: its part after the depth that it loads.
+fn runs(scenarios: &[u8], h: usize, g: usize, k: usize) -> &[u8]
+    requires { ⌜ (0 < g) × (k * h + h ≤ length (now scenarios)) ⌝ }
+    ensures { λ r. ⌜ now r ≡ tailOf g (before (scenarioOf h (now (scenarios .entry))) k) (scenarioOf h (now (scenarios .entry)) k) ⌝ }
+{
+    tail(previous(scenarios, h, k), scenario(scenarios, h, k), g)
 }
 
 // Scenario number k.
@@ -248,7 +257,8 @@ fn leg(rest: &[u8], from: usize, g: usize) -> &[u8]
     &rest[from..from + g]
 }
 
-// How many bytes a run has, with the save of slot j where it reaches that slot's depth.
+// How many bytes a run has, with the save of slot j where it reaches that slot's depth: the word, four for each event, and the save's line, which has 26 at
+// most.
 fn leg_length(run: &[u8], g: usize, j: usize) -> usize
     requires { ⌜ length (now run) ≤ 1000 ⌝ }
     ensures { λ r. ⌜ (r ≡ length (text (legOf g j (now (run .entry))))) × (r ≤ 4030) ⌝ }

@@ -28,81 +28,68 @@ loop-holds c =
     let (no-text, no-events) = sheet-none (st .h) (st .g) (st .scenarios .now) in
     (omega arith, sym (ap length no-text), omega arith, sym no-events, omega arith)
 
-previous-requires : tie.Need-previous-requires Inv-loop μ-loop
-previous-requires c κs =
+runs-requires : tie.Need-runs-requires Inv-loop μ-loop
+runs-requires c κs =
     let st = c .before .before .before .args in
     let lp = c .before .loop in
     let s = st .scenarios .now in
     let enough = c .before .before .before .pre .2 in
     let lt : lp .k < st .m = c .loop-test .taken in
-    omega (arith, scenario-within (lp .k) (st .m) (st .h) (length s) lt enough)
+    (c .before .before .before .pre .1, scenario-within (lp .k) (st .m) (st .h) (length s) lt enough)
 
-scenario-requires : tie.Need-scenario-requires Inv-loop μ-loop
-scenario-requires c κs =
+part-length-requires : tie.Need-part-length-requires Inv-loop μ-loop
+part-length-requires c κs =
     let st = c .before .before .before .before .args in
     let lp = c .before .before .loop in
     let s = st .scenarios .now in
     let enough = c .before .before .before .before .pre .2 in
     let lt : lp .k < st .m = c .before .loop-test .taken in
-    scenario-within (lp .k) (st .m) (st .h) (length s) lt enough
+    let p = one-part (st .m) (st .h) (st .g) (c .before .before .before .before .pre .1) s enough (lp .k) _ lt (c .runs .ensures) in
+    (c .before .before .before .before .pre .1, c .before .before .before .before .pre .0, p .short)
 
-tail-requires : tie.Need-tail-requires Inv-loop μ-loop
-tail-requires c κs = search needs
+sub-if1 : tie.Need-sub-if1 Inv-loop μ-loop
+sub-if1 c =
+    let st = c .before .before .before .before .before .args in
+    let lp = c .before .before .before .loop in
+    let s = st .scenarios .now in
+    let enough = c .before .before .before .before .before .pre .2 in
+    let lt : lp .k < st .m = c .before .before .loop-test .taken in
+    let p = one-part (st .m) (st .h) (st .g) (c .before .before .before .before .before .pre .1) s enough (lp .k) _ lt (c .before .runs .ensures) in
+    let long = length-sheet (st .m) (st .h) (st .g) (c .before .before .before .before .before .pre .1) s enough (lp .k) _ p in
+    omega arith
 
-part-length-requires : tie.Need-part-length-requires Inv-loop μ-loop
-part-length-requires c κs =
+returns : tie.Need-returns Inv-loop μ-loop
+returns c =
     let st = c .before .before .before .before .before .before .args in
     let lp = c .before .before .before .before .loop in
     let s = st .scenarios .now in
     let enough = c .before .before .before .before .before .before .pre .2 in
     let lt : lp .k < st .m = c .before .before .before .loop-test .taken in
-    let p = one-part (st .m) (st .h) (st .g) (c .before .before .before .before .before .before .pre .1) s enough (lp .k) _ _ _ lt (c .before .before .previous .ensures) (c .before .scenario .ensures) (c .tail .ensures) in
+    let p = one-part (st .m) (st .h) (st .g) (c .before .before .before .before .before .before .pre .1) s enough (lp .k) _ lt (c .before .before .runs .ensures) in
     let long = length-sheet (st .m) (st .h) (st .g) (c .before .before .before .before .before .before .pre .1) s enough (lp .k) _ p in
-    (c .before .before .before .before .before .before .pre .1, c .before .before .before .before .before .before .pre .0, p .short)
-
-sub-if1 : tie.Need-sub-if1 Inv-loop μ-loop
-sub-if1 c =
-    let st = c .before .before .before .before .before .before .before .args in
-    let lp = c .before .before .before .before .before .loop in
-    let s = st .scenarios .now in
-    let enough = c .before .before .before .before .before .before .before .pre .2 in
-    let lt : lp .k < st .m = c .before .before .before .before .loop-test .taken in
-    let p = one-part (st .m) (st .h) (st .g) (c .before .before .before .before .before .before .before .pre .1) s enough (lp .k) _ _ _ lt (c .before .before .before .previous .ensures) (c .before .before .scenario .ensures) (c .before .tail .ensures) in
-    let long = length-sheet (st .m) (st .h) (st .g) (c .before .before .before .before .before .before .before .pre .1) s enough (lp .k) _ p in
-    omega arith
-
-returns : tie.Need-returns Inv-loop μ-loop
-returns c =
-    let st = c .before .before .before .before .before .before .before .before .args in
-    let lp = c .before .before .before .before .before .before .loop in
-    let s = st .scenarios .now in
-    let enough = c .before .before .before .before .before .before .before .before .pre .2 in
-    let lt : lp .k < st .m = c .before .before .before .before .before .loop-test .taken in
-    let p = one-part (st .m) (st .h) (st .g) (c .before .before .before .before .before .before .before .before .pre .1) s enough (lp .k) _ _ _ lt (c .before .before .before .before .previous .ensures) (c .before .before .before .scenario .ensures) (c .before .before .tail .ensures) in
-    let long = length-sheet (st .m) (st .h) (st .g) (c .before .before .before .before .before .before .before .before .pre .1) s enough (lp .k) _ p in
     let more : st .room < length (sheetText (st .m) (st .h) (st .g) s) = omega (arith, sheet-longer (st .h) (st .g) s (lp .k + 1) (st .m) (omega arith)) in
     record { told = sym (lt-leb (length (sheetText (st .m) (st .h) (st .g) s)) (st .room) more); bytes = λ q. contra q refl; ran = λ q. contra q refl }
 
 add-length : tie.Need-add-length Inv-loop μ-loop
 add-length c =
-    let st = c .before .before .before .before .before .before .before .before .args in
-    let lp = c .before .before .before .before .before .before .loop in
+    let st = c .before .before .before .before .before .before .args in
+    let lp = c .before .before .before .before .loop in
     let s = st .scenarios .now in
-    let enough = c .before .before .before .before .before .before .before .before .pre .2 in
-    let lt : lp .k < st .m = c .before .before .before .before .before .loop-test .taken in
-    let p = one-part (st .m) (st .h) (st .g) (c .before .before .before .before .before .before .before .before .pre .1) s enough (lp .k) _ _ _ lt (c .before .before .before .before .previous .ensures) (c .before .before .before .scenario .ensures) (c .before .before .tail .ensures) in
-    let long = length-sheet (st .m) (st .h) (st .g) (c .before .before .before .before .before .before .before .before .pre .1) s enough (lp .k) _ p in
+    let enough = c .before .before .before .before .before .before .pre .2 in
+    let lt : lp .k < st .m = c .before .before .before .loop-test .taken in
+    let p = one-part (st .m) (st .h) (st .g) (c .before .before .before .before .before .before .pre .1) s enough (lp .k) _ lt (c .before .before .runs .ensures) in
+    let long = length-sheet (st .m) (st .h) (st .g) (c .before .before .before .before .before .before .pre .1) s enough (lp .k) _ p in
     omega arith
 
 add-total : tie.Need-add-total Inv-loop μ-loop
 add-total c =
-    let st = c .before .before .before .before .before .before .before .before .args in
-    let lp = c .before .before .before .before .before .before .loop in
+    let st = c .before .before .before .before .before .before .args in
+    let lp = c .before .before .before .before .loop in
     let s = st .scenarios .now in
-    let enough = c .before .before .before .before .before .before .before .before .pre .2 in
-    let lt : lp .k < st .m = c .before .before .before .before .before .loop-test .taken in
-    let p = one-part (st .m) (st .h) (st .g) (c .before .before .before .before .before .before .before .before .pre .1) s enough (lp .k) _ _ _ lt (c .before .before .before .before .previous .ensures) (c .before .before .before .scenario .ensures) (c .before .before .tail .ensures) in
-    let long = length-sheet (st .m) (st .h) (st .g) (c .before .before .before .before .before .before .before .before .pre .1) s enough (lp .k) _ p in
+    let enough = c .before .before .before .before .before .before .pre .2 in
+    let lt : lp .k < st .m = c .before .before .before .loop-test .taken in
+    let p = one-part (st .m) (st .h) (st .g) (c .before .before .before .before .before .before .pre .1) s enough (lp .k) _ lt (c .before .before .runs .ensures) in
+    let long = length-sheet (st .m) (st .h) (st .g) (c .before .before .before .before .before .before .pre .1) s enough (lp .k) _ p in
     omega (arith, p .short, scenario-within (lp .k) (st .m) (st .h) (length s) lt enough)
 
 add-k : tie.Need-add-k Inv-loop μ-loop
@@ -113,13 +100,13 @@ loop-less c = search needs
 
 loop-again : tie.Need-loop-again Inv-loop μ-loop
 loop-again c =
-    let st = c .before .before .before .before .before .before .before .before .args in
-    let lp = c .before .before .before .before .before .before .loop in
+    let st = c .before .before .before .before .before .before .args in
+    let lp = c .before .before .before .before .loop in
     let s = st .scenarios .now in
-    let enough = c .before .before .before .before .before .before .before .before .pre .2 in
-    let lt : lp .k < st .m = c .before .before .before .before .before .loop-test .taken in
-    let p = one-part (st .m) (st .h) (st .g) (c .before .before .before .before .before .before .before .before .pre .1) s enough (lp .k) _ _ _ lt (c .before .before .before .before .previous .ensures) (c .before .before .before .scenario .ensures) (c .before .before .tail .ensures) in
-    let long = length-sheet (st .m) (st .h) (st .g) (c .before .before .before .before .before .before .before .before .pre .1) s enough (lp .k) _ p in
+    let enough = c .before .before .before .before .before .before .pre .2 in
+    let lt : lp .k < st .m = c .before .before .before .loop-test .taken in
+    let p = one-part (st .m) (st .h) (st .g) (c .before .before .before .before .before .before .pre .1) s enough (lp .k) _ lt (c .before .before .runs .ensures) in
+    let long = length-sheet (st .m) (st .h) (st .g) (c .before .before .before .before .before .before .pre .1) s enough (lp .k) _ p in
     (omega arith, omega arith, omega arith, omega (arith, p .events-more), rw add-one (omega (arith, p .short, suc-mul (lp .k) (st .h))))
 
 returns-2 : tie.Need-returns-2 Inv-loop μ-loop
@@ -137,9 +124,7 @@ measure-spec =
     Inv-loop
     μ-loop
     loop-holds
-    previous-requires
-    scenario-requires
-    tail-requires
+    runs-requires
     part-length-requires
     sub-if1
     returns

@@ -74,8 +74,6 @@ add-from c =
     let st = c .before .before .before .before .before .before .before .before .before .args in
     let lp = c .before .before .before .before .before .before .loop in
     let l = one-leg (st .g) (c .before .before .before .before .before .before .before .before .before .pre .0 .0) (lp .j) (lp .from) (st .rest .now) _ (c .before .before .before .before .leg .ensures) (c .before .before .before .before .before .loop-test .taken) in
-    let long = length-more (st .g) (c .before .before .before .before .before .before .before .before .before .pre .0 .0) (lp .j) (lp .from) (st .rest .now) _ l in
-    let all = ap length (lp .inv .5) ∙ length-append (lp .inv .3) (legsText (st .g) (lp .j) (drop (lp .from) (st .rest .now))) in
     omega (arith, l .within)
 
 loop-less : tie.Need-loop-less Inv-loop μ-loop
@@ -83,8 +81,6 @@ loop-less c =
     let st = c .before .before .before .before .before .before .before .before .before .args in
     let lp = c .before .before .before .before .before .before .loop in
     let l = one-leg (st .g) (c .before .before .before .before .before .before .before .before .before .pre .0 .0) (lp .j) (lp .from) (st .rest .now) _ (c .before .before .before .before .leg .ensures) (c .before .before .before .before .before .loop-test .taken) in
-    let long = length-more (st .g) (c .before .before .before .before .before .before .before .before .before .pre .0 .0) (lp .j) (lp .from) (st .rest .now) _ l in
-    let all = ap length (lp .inv .5) ∙ length-append (lp .inv .3) (legsText (st .g) (lp .j) (drop (lp .from) (st .rest .now))) in
     omega (arith, l .some, l .within)
 
 loop-again : tie.Need-loop-again Inv-loop μ-loop

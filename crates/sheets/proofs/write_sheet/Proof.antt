@@ -27,47 +27,35 @@ loop-holds c =
     let no-text = sheet-none (st .h) (st .g) (st .scenarios .now) .0 in
     (omega arith, refl, sym (ap length no-text), sym (ap (λ l. l ++ drop (length l) (st .out .now)) no-text))
 
-previous-requires : tie.Need-previous-requires Inv-loop μ-loop
-previous-requires c κs =
+runs-requires : tie.Need-runs-requires Inv-loop μ-loop
+runs-requires c κs =
     let st = c .before .before .before .before .args in
     let lp = c .before .loop in
     let s = st .scenarios .now in
     let enough = c .before .before .before .before .pre .2 in
     let lt : lp .k < st .m = c .loop-test .taken in
-    omega (arith, scenario-within (lp .k) (st .m) (st .h) (length s) lt enough)
+    (c .before .before .before .before .pre .1, scenario-within (lp .k) (st .m) (st .h) (length s) lt enough)
 
-scenario-requires : tie.Need-scenario-requires Inv-loop μ-loop
-scenario-requires c κs =
+sub-write-part : tie.Need-sub-write-part Inv-loop μ-loop
+sub-write-part c =
     let st = c .before .before .before .before .before .args in
     let lp = c .before .before .loop in
     let s = st .scenarios .now in
     let enough = c .before .before .before .before .before .pre .2 in
     let lt : lp .k < st .m = c .before .loop-test .taken in
-    scenario-within (lp .k) (st .m) (st .h) (length s) lt enough
-
-tail-requires : tie.Need-tail-requires Inv-loop μ-loop
-tail-requires c κs = search needs
-
-sub-write-part : tie.Need-sub-write-part Inv-loop μ-loop
-sub-write-part c =
-    let st = c .before .before .before .before .before .before .before .args in
-    let lp = c .before .before .before .before .loop in
-    let s = st .scenarios .now in
-    let enough = c .before .before .before .before .before .before .before .pre .2 in
-    let lt : lp .k < st .m = c .before .before .before .loop-test .taken in
-    let p = one-part (st .m) (st .h) (st .g) (c .before .before .before .before .before .before .before .pre .1) s enough (lp .k) _ _ _ lt (c .before .before .previous .ensures) (c .before .scenario .ensures) (c .tail .ensures) in
-    let long = length-sheet (st .m) (st .h) (st .g) (c .before .before .before .before .before .before .before .pre .1) s enough (lp .k) _ p in
+    let p = one-part (st .m) (st .h) (st .g) (c .before .before .before .before .before .pre .1) s enough (lp .k) _ lt (c .runs .ensures) in
+    let long = length-sheet (st .m) (st .h) (st .g) (c .before .before .before .before .before .pre .1) s enough (lp .k) _ p in
     omega (arith, sheet-longer (st .h) (st .g) s (lp .k + 1) (st .m) (omega arith))
 
 part-write-part-start : tie.Need-part-write-part-start Inv-loop μ-loop
 part-write-part-start c =
-    let st = c .before .before .before .before .before .before .before .args in
-    let lp = c .before .before .before .before .loop in
+    let st = c .before .before .before .before .before .args in
+    let lp = c .before .before .loop in
     let s = st .scenarios .now in
-    let enough = c .before .before .before .before .before .before .before .pre .2 in
-    let lt : lp .k < st .m = c .before .before .before .loop-test .taken in
-    let p = one-part (st .m) (st .h) (st .g) (c .before .before .before .before .before .before .before .pre .1) s enough (lp .k) _ _ _ lt (c .before .before .previous .ensures) (c .before .scenario .ensures) (c .tail .ensures) in
-    let long = length-sheet (st .m) (st .h) (st .g) (c .before .before .before .before .before .before .before .pre .1) s enough (lp .k) _ p in
+    let enough = c .before .before .before .before .before .pre .2 in
+    let lt : lp .k < st .m = c .before .loop-test .taken in
+    let p = one-part (st .m) (st .h) (st .g) (c .before .before .before .before .before .pre .1) s enough (lp .k) _ lt (c .runs .ensures) in
+    let long = length-sheet (st .m) (st .h) (st .g) (c .before .before .before .before .before .pre .1) s enough (lp .k) _ p in
     omega (arith, sheet-longer (st .h) (st .g) s (lp .k + 1) (st .m) (omega arith))
 
 part-write-part-end : tie.Need-part-write-part-end Inv-loop μ-loop
@@ -75,24 +63,24 @@ part-write-part-end c = search needs
 
 write-part-requires : tie.Need-write-part-requires Inv-loop μ-loop
 write-part-requires c κs =
-    let st = c .before .before .before .before .before .before .before .before .args in
-    let lp = c .before .before .before .before .before .loop in
+    let st = c .before .before .before .before .before .before .args in
+    let lp = c .before .before .before .loop in
     let s = st .scenarios .now in
-    let enough = c .before .before .before .before .before .before .before .before .pre .2 in
-    let lt : lp .k < st .m = c .before .before .before .before .loop-test .taken in
-    let p = one-part (st .m) (st .h) (st .g) (c .before .before .before .before .before .before .before .before .pre .1) s enough (lp .k) _ _ _ lt (c .before .before .before .previous .ensures) (c .before .before .scenario .ensures) (c .before .tail .ensures) in
-    let long = length-sheet (st .m) (st .h) (st .g) (c .before .before .before .before .before .before .before .before .pre .1) s enough (lp .k) _ p in
-    (c .before .before .before .before .before .before .before .before .pre .1, c .before .before .before .before .before .before .before .before .pre .0, p .short, simp (length-take, length-drop) (omega (arith, sheet-longer (st .h) (st .g) s (lp .k + 1) (st .m) (omega arith))))
+    let enough = c .before .before .before .before .before .before .pre .2 in
+    let lt : lp .k < st .m = c .before .before .loop-test .taken in
+    let p = one-part (st .m) (st .h) (st .g) (c .before .before .before .before .before .before .pre .1) s enough (lp .k) _ lt (c .before .runs .ensures) in
+    let long = length-sheet (st .m) (st .h) (st .g) (c .before .before .before .before .before .before .pre .1) s enough (lp .k) _ p in
+    (c .before .before .before .before .before .before .pre .1, c .before .before .before .before .before .before .pre .0, p .short, simp (length-take, length-drop) (omega (arith, sheet-longer (st .h) (st .g) s (lp .k + 1) (st .m) (omega arith))))
 
 add-at : tie.Need-add-at Inv-loop μ-loop
 add-at c =
-    let st = c .before .before .before .before .before .before .before .before .before .before .before .args in
-    let lp = c .before .before .before .before .before .before .before .before .loop in
+    let st = c .before .before .before .before .before .before .before .before .before .args in
+    let lp = c .before .before .before .before .before .before .loop in
     let s = st .scenarios .now in
-    let enough = c .before .before .before .before .before .before .before .before .before .before .before .pre .2 in
-    let lt : lp .k < st .m = c .before .before .before .before .before .before .before .loop-test .taken in
-    let p = one-part (st .m) (st .h) (st .g) (c .before .before .before .before .before .before .before .before .before .before .before .pre .1) s enough (lp .k) _ _ _ lt (c .before .before .before .before .before .before .previous .ensures) (c .before .before .before .before .before .scenario .ensures) (c .before .before .before .before .tail .ensures) in
-    let long = length-sheet (st .m) (st .h) (st .g) (c .before .before .before .before .before .before .before .before .before .before .before .pre .1) s enough (lp .k) _ p in
+    let enough = c .before .before .before .before .before .before .before .before .before .pre .2 in
+    let lt : lp .k < st .m = c .before .before .before .before .before .loop-test .taken in
+    let p = one-part (st .m) (st .h) (st .g) (c .before .before .before .before .before .before .before .before .before .pre .1) s enough (lp .k) _ lt (c .before .before .before .before .runs .ensures) in
+    let long = length-sheet (st .m) (st .h) (st .g) (c .before .before .before .before .before .before .before .before .before .pre .1) s enough (lp .k) _ p in
     omega (arith, sheet-longer (st .h) (st .g) s (lp .k + 1) (st .m) (omega arith))
 
 add-k : tie.Need-add-k Inv-loop μ-loop
@@ -103,18 +91,18 @@ loop-less c = search needs
 
 loop-again : tie.Need-loop-again Inv-loop μ-loop
 loop-again c =
-    let st = c .before .before .before .before .before .before .before .before .before .before .before .args in
-    let lp = c .before .before .before .before .before .before .before .before .loop in
+    let st = c .before .before .before .before .before .before .before .before .before .args in
+    let lp = c .before .before .before .before .before .before .loop in
     let s = st .scenarios .now in
-    let enough = c .before .before .before .before .before .before .before .before .before .before .before .pre .2 in
-    let lt : lp .k < st .m = c .before .before .before .before .before .before .before .loop-test .taken in
-    let p = one-part (st .m) (st .h) (st .g) (c .before .before .before .before .before .before .before .before .before .before .before .pre .1) s enough (lp .k) _ _ _ lt (c .before .before .before .before .before .before .previous .ensures) (c .before .before .before .before .before .scenario .ensures) (c .before .before .before .before .tail .ensures) in
-    let long = length-sheet (st .m) (st .h) (st .g) (c .before .before .before .before .before .before .before .before .before .before .before .pre .1) s enough (lp .k) _ p in
+    let enough = c .before .before .before .before .before .before .before .before .before .pre .2 in
+    let lt : lp .k < st .m = c .before .before .before .before .before .loop-test .taken in
+    let p = one-part (st .m) (st .h) (st .g) (c .before .before .before .before .before .before .before .before .before .pre .1) s enough (lp .k) _ lt (c .before .before .before .before .runs .ensures) in
+    let long = length-sheet (st .m) (st .h) (st .g) (c .before .before .before .before .before .before .before .before .before .pre .1) s enough (lp .k) _ p in
     let w = c .before .before .write-part in (
       omega arith,
       c .before .out .given .1 ∙ lp .inv .1,
       omega arith,
-      rw (p .text-more) (front-from (sheetText (lp .k) (st .h) (st .g) s) (st .out .now) (text (partOf (st .h) (st .g) (c .before .before .before .before .tail .result .now))) (lp .out) _ (lp .at) (lp .inv .2) (lp .inv .3) (w .ensures .1)),
+      rw (p .text-more) (front-from (sheetText (lp .k) (st .h) (st .g) s) (st .out .now) (text (partOf (st .h) (st .g) (c .before .before .before .before .runs .result .now))) (lp .out) _ (lp .at) (lp .inv .2) (lp .inv .3) (w .ensures .1)),
     )
 
 same-length : tie.Need-same-length Inv-loop μ-loop
@@ -134,9 +122,7 @@ write-sheet-spec =
     Inv-loop
     μ-loop
     loop-holds
-    previous-requires
-    scenario-requires
-    tail-requires
+    runs-requires
     sub-write-part
     part-write-part-start
     part-write-part-end
