@@ -166,12 +166,12 @@ uint64_t wandukhai_draws(uint64_t n, uint64_t z, uint64_t seed, uint8_t limit, u
  *   run e e ...       the events are run: the current sequence goes on by them
  *   save j            slot j holds the current sequence from here on
  * Slot j is for the first j * g events of a scenario; slot 0 holds the start, and is never saved. Each scenario, in list order, loads the deepest
- * such depth within the start that it shares with the scenario before it, the first one slot 0. It then runs on, and saves at each depth that it
- * reaches: a run ends at the next such depth or at h, and none is empty. A scenario equal to the one before is `load` alone where g divides h,
- * and so is every one where h is 0. With its last line each scenario is arrived at. g may be any number but 0; over h, nothing is saved and every
- * scenario is run from the start. The slots needed are 0 to h / g, rounded down.
- * scenarios: at least m * h bytes, also where that is 2^64 or more; scenario number k is the h bytes from k * h, as wandukhai_scenarios fills
- * them, and any byte may stand. Those past m * h are passed over.
+ * such depth within the start that it shares with the scenario before it, the first one slot 0. It then runs on, and saves at each such depth
+ * that it reaches: a run ends at the next such depth or at h, and none is empty. A scenario equal to the one before is `load` alone where g
+ * divides h, and so is every one where h is 0. After the last line of a scenario the current sequence is that scenario. g may be any number but
+ * 0; over h, nothing is saved and every scenario is run from the start. The slots needed are 0 to h / g, rounded down.
+ * scenarios: at least m * h bytes; m * h is meant exactly, and may have more than 64 bits. Scenario number k is the h bytes from k * h, as
+ * wandukhai_scenarios fills them, and any byte may stand. Those past m * h are passed over.
  * out: begins with the sheet; the bytes past it are kept, and all of them after a refusal. 7 + 17 * h bytes for each scenario are enough.
  * answer: served, the length of the sheet in bytes and the event total, which is the sum of h less the loaded depth over all scenarios; refused,
  * the place, which is 0, and 0. */

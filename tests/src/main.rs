@@ -59,7 +59,7 @@ struct Tally {
     lacking: BTreeMap<&'static str, u64>,
     /// By how far the start shared with the scenario before goes, g from 3 up to h: how many scenarios of served sheets.
     starts: BTreeMap<&'static str, u64>,
-    /// By the digits of the slot: how many loads of served sheets.
+    /// By the digits of the slot that it is to load: how many scenarios of served sheets but the first of each.
     slots: BTreeMap<usize, u64>,
 }
 

@@ -18,7 +18,7 @@ use Rattle.promises.specs.Sheets.{sheetCall}
 use Rattle.capi.specs.Words.{numberOf, wordsOf, wordOf}
 
 -- 'Returned: 0 where the call is served, else the number of refusal, with a place'
--- 'answer: served, N and the passes of pruning; refused, the place and 0'; 'served, the sheet's length in bytes and the event total; refused, the place and 0'
+-- 'answer: served, N and the passes of pruning; refused, the place and 0'; of a sheet 'the length of the sheet in bytes and the event total'
 abbrev pub readWords : ℕ → List ℕ → Answer
 readWords zero ws = served ws
 readWords (suc n) ws = refused (suc n) (getD ws 0 0)

@@ -132,5 +132,6 @@ numbers-written word d out out′ out″ a b from next end h f q n q′ e q″ =
     let l = length-append word (fieldBytes a) in
     let m = length-append (word ++ fieldBytes a) (fieldBytes b) in
     let two : out′ ≡ (word ++ fieldBytes a) ++ drop (length (word ++ fieldBytes a)) d = q′ ∙ front-placed word (fieldBytes a) d out from f q in
-    ended (word ++ fieldBytes a ++ fieldBytes b) d out″ end (omega (arith, l, m)) (omega (arith, l, m))
-    (q″ ∙ front-placed (word ++ fieldBytes a) (fieldBytes b) d out′ next (omega (arith, l)) two)
+    rw (append-nil, ← append-assoc word (fieldBytes a) (fieldBytes b))
+    (ended (word ++ fieldBytes a ++ fieldBytes b) d out″ end (omega (arith, l, m)) (omega (arith, l, m))
+    (q″ ∙ front-placed (word ++ fieldBytes a) (fieldBytes b) d out′ next (omega (arith, l)) two))

@@ -23,7 +23,7 @@ lineOf index events = lineFrom (decimal index) events
 
 -- '`count`, N, passes' and '`no`, number, place'
 unfoldable pub numbersOf : List ℕ → ℕ → ℕ → List ℕ
-numbersOf word a b = word ++ fieldBytes a ++ fieldBytes b ++ 10 ∷ []
+numbersOf word a b = lineFrom word (a ∷ b ∷ [])
 
 abbrev pub placed : List ℕ → ℕ → List ℕ → List ℕ
 placed s at d = take at d ++ s ++ drop (at + length s) d

@@ -1,5 +1,5 @@
 -- The sheet call owes what its request says: the bytes that it writes read back as commands that bring the bench to every scenario.
---   numbersOf c       == the numbers of a command
+--   numbersIn c       == the numbers of a command
 -- Why: no digit and no letter is byte 9 or 10, and a number has one way to be written; slots are at most 1,000 and events are bytes, so that no number has more
 -- than five digits. Assumes nothing.
 use mathlib.Core.Path.{_≡_, refl, sym, ap, _∙_, subst}
@@ -26,19 +26,19 @@ use Rattle.promises.specs.Spelling.{spelled, Small, joined}
 use Rattle.promises.specs.Calls.{outputAfter}
 use Rattle.promises.specs.Demand3.{block}
 use Rattle.promises.specs.Shapes.{Shaped}
-use Rattle.promises.specs.Sheets.{Command, load, run, save, shared, slotFor, depthFor, tail, leg, legs, part, before, sheet, events, commandLine, text, scenario, sheetText, sheetCall, sheetOutput, Shares, Deepest, asSlot, asRun, formOf, command, Drives, Case20, Case12·sheet, SheetReady, SheetOwed, SheetExamples}
+use Rattle.promises.specs.Sheets.{Command, load, run, save, shared, slotFor, depthFor, tail, leg, legs, part, previous, sheet, events, commandLine, text, scenario, sheetText, sheetCall, sheetOutput, asSlot, asRun, formOf, command, Drives, Case20, Case12·sheet, SheetReady, SheetOwed, SheetExamples}
 use Rattle.promises.proofs.Pieces.{Free, lines-joined, unended-joined}
 use Rattle.promises.proofs.Spelling.{numbers-read, fields-spelled, spelled-free}
 use Rattle.promises.proofs.Buffers.{unless-served, output-left}
 use Rattle.promises.proofs.Shapes.{checked}
-use Rattle.promises.proofs.Bench.{sheet-arrives, sheet-proper, sheet-unsaved, loads-sheet, events-sheet, first-slot, slot-deepest}
+use Rattle.promises.proofs.Bench.{loaded-short, sheet-arrives, sheet-proper, sheet-unsaved, loads-sheet, events-sheet, first-slot, slot-deepest}
 
 -- ---- lines and commands
 
-numbersOf : Command → List ℕ
-numbersOf (load j) = j ∷ []
-numbersOf (run es) = es
-numbersOf (save j) = j ∷ []
+numbersIn : Command → List ℕ
+numbersIn (load j) = j ∷ []
+numbersIn (run es) = es
+numbersIn (save j) = j ∷ []
 
 line-free : (c : Command) → Free 10 (commandLine c)
 unfolding commandLine
@@ -49,20 +49,20 @@ line-free (save j) = spelled-free "save" (j ∷ []) refl
 lines-free : (cs : List Command) (l : List ℕ) → In l (map commandLine cs) → Free 10 l
 lines-free cs l i = let (c, j, q) = in-map commandLine cs i in subst (Free 10) (sym q) (line-free c)
 
-command-line : (c : Command) → Small (numbersOf c) → command (commandLine c) ≡ some c
-unfolding command formOf same commandLine numbersOf asSlot asRun
+command-line : (c : Command) → Small (numbersIn c) → command (commandLine c) ≡ some c
+unfolding command formOf same commandLine numbersIn asSlot asRun
 command-line (load j) w = rw (fields-spelled "load" (j ∷ []) refl, numbers-read (j ∷ []) w)
 command-line (run es) w = rw (fields-spelled "run" es refl, numbers-read es w)
 command-line (save j) w = rw (fields-spelled "save" (j ∷ []) refl, numbers-read (j ∷ []) w)
 
 AllSmall : List Command → Type 0
-AllSmall cs = (c : Command) → In c cs → Small (numbersOf c)
+AllSmall cs = (c : Command) → In c cs → Small (numbersIn c)
 
 text-reads : (cs : List Command) → AllSmall cs → map command (lines (text cs)) ≡ map some cs
 unfolding text AllSmall
 text-reads cs w = ap (map command) (lines-joined (map commandLine cs) (lines-free cs)) ∙ each cs w
   where
-    each : (cs : List Command) → ((c : Command) → In c cs → Small (numbersOf c)) → map command (map commandLine cs) ≡ map some cs
+    each : (cs : List Command) → ((c : Command) → In c cs → Small (numbersIn c)) → map command (map commandLine cs) ≡ map some cs
     each [] w = refl
     each (c ∷ cs) w = rw (command-line c (w c (here refl)), each cs (λ d i. w d (there i)))
 
@@ -77,7 +77,7 @@ unfolding Small
 slot-small j h n i = rw (in-one i) h
 
 leg-small : (g j : ℕ) (es : List ℕ) → j < 100000 → Small es → AllSmall (leg g j es)
-unfolding AllSmall leg numbersOf
+unfolding AllSmall leg numbersIn
 leg-small g j es h w c (here q) = rw q w
 leg-small g j es h w c (there i) = case (eqb (length es) g) (λ t. rw (in-one (rw t at i)) (slot-small j h)) (λ t. absurd (List·Memᴰ·not-nil (rw t at i)))
 
@@ -92,12 +92,12 @@ legs-small (suc f) g j (e ∷ r) h w c i =
     (in-append (leg g (suc j) (take g (e ∷ r))) i)
 
 module _ (g : ℕ) (pos : 0 < g) where
-  pub slot-within : (prev s : List ℕ) → (slotFor g prev s ≤ depthFor g prev s) × (depthFor g prev s ≤ length s)
-  unfolding depthFor Deepest Shares
-  slot-within prev s = (le-mul-of-pos-right (slotFor g prev s) pos, slot-deepest g pos prev s .0 .1)
+  slot-within : (prev s : List ℕ) → (slotFor g prev s ≤ depthFor g prev s) × (depthFor g prev s ≤ length s)
+  unfolding depthFor
+  slot-within prev s = (le-mul-of-pos-right (slotFor g prev s) pos, loaded-short g pos s prev)
 
   part-small : (prev s : List ℕ) → length s ≤ 1000 → Small s → AllSmall (part g prev s)
-  unfolding AllSmall part numbersOf
+  unfolding AllSmall part numbersIn
   part-small prev s h w c (here q) = rw q (slot-small (slotFor g prev s) (omega (arith, slot-within prev s)))
   part-small prev s h w c (there i) =
       legs-small (length (tail g prev s)) g (slotFor g prev s) (tail g prev s)
@@ -110,18 +110,24 @@ module _ (g : ℕ) (pos : 0 < g) where
   sheet-small ss (suc m) short w c i =
       ⊎-elim
       (sheet-small ss m (λ k l. short k (omega arith)) (λ k l. w k (omega arith)) c)
-      (part-small (before ss m) (ss m) (short m (omega arith)) (w m (omega arith)) c)
+      (part-small (previous ss m) (ss m) (short m (omega arith)) (w m (omega arith)) c)
       (in-append (sheet g ss m) i)
+
+-- ---- the scenarios
+
+-- number k ends within m × h bytes
+pub scenario-within : (k m h n : ℕ) → k < m → m * h ≤ n → k * h + h ≤ n
+scenario-within k m h n lt le = omega (arith, suc-mul k h, mul-le-mul-right h lt)
+
+pub scenario-long : (m h : ℕ) (scenarios : List ℕ) → m * h ≤ length scenarios → (k : ℕ) → k < m → length (scenario h scenarios k) ≡ h
+unfolding scenario block
+scenario-long m h scenarios le k lt = length-take h (drop (k * h) scenarios) ∙ omega (arith, length-drop (k * h) scenarios, scenario-within k m h (length scenarios) lt le)
 
 -- ---- the call
 
 module _ (m h g : ℕ) (scenarios out : List ℕ) where
   ss : ℕ → List ℕ
   ss = scenario h scenarios
-
-  pub scenario-long : m * h ≤ length scenarios → (k : ℕ) → k < m → length (scenario h scenarios k) ≡ h
-  unfolding scenario block
-  scenario-long le k lt = length-take h (drop (k * h) scenarios) ∙ omega (arith, length-drop (k * h) scenarios, suc-mul k h, mul-le-mul-right h lt)
 
   seven-no : (Case7 h → ⊥) → ltb 1000 h ≡ false
   unfolding Case7
@@ -166,7 +172,7 @@ module _ (m h g : ℕ) (scenarios out : List ℕ) where
 
     long : (k : ℕ) → k < m → length (ss k) ≡ h
     unfolding ss
-    long = scenario-long enough
+    long = scenario-long m h scenarios enough
 
     written : take (length (sheetText m h g scenarios)) (sheetOutput m h g scenarios out) ≡ sheetText m h g scenarios
     unfolding sheetOutput outputAfter
@@ -176,20 +182,20 @@ module _ (m h g : ℕ) (scenarios out : List ℕ) where
     unfolding ss Small scenario block
     small w = sheet-small g pos ss m (λ k l. omega (arith, short, long k l)) (λ k l e i. omega (arith, w e (in-drop (k * h) scenarios (in-take h (drop (k * h) scenarios) i))))
 
-    driven : ((e : ℕ) → In e scenarios → e < 256) → Drives m h g ss (sheetText m h g scenarios) (length (sheetText m h g scenarios)) (events (sheet g ss m)) (sheet g ss m)
+    text-drives : ((e : ℕ) → In e scenarios → e < 256) → Drives m h g ss (sheetText m h g scenarios) (length (sheetText m h g scenarios)) (events (sheet g ss m)) (sheet g ss m)
     unfolding sheetText ss
-    driven w =
-        let slots = loads-sheet g pos ss m in
+    text-drives w =
+        let slots = loads-sheet g ss m in
         record {
           long = refl;
           ended = text-ended (sheet g ss m);
           reads = text-reads (sheet g ss m) (small w);
           arrives = λ b z. sheet-arrives g pos ss h b z m long;
-          unsaved = sheet-unsaved g pos ss m;
+          unsaved = sheet-unsaved g ss m;
           proper = λ b z. sheet-proper g pos ss h b z m long;
           each-loads = ap length slots ∙ length-tabulate _ m;
-          first-loads = λ lt. ap (λ l. getD l 0 0) slots ∙ getD-tabulate _ m 0 0 lt ∙ first-slot g pos ss;
-          next-loads = λ k lt. rw (ap (λ l. getD l (suc k) 0) slots ∙ getD-tabulate _ m (suc k) 0 lt) (unfold before in (slot-deepest g pos (ss k) (ss (suc k))));
+          first-loads = λ lt. ap (λ l. getD l 0 0) slots ∙ getD-tabulate _ m 0 0 lt ∙ first-slot g ss;
+          next-loads = λ k lt. rw (ap (λ l. getD l (suc k) 0) slots ∙ getD-tabulate _ m (suc k) 0 lt) (unfold previous in (slot-deepest g pos (ss k) (ss (suc k))));
           run-events = refl;
           sum-of-tails = ap (sum (λ j. h - j * g)) slots ∙ sym (events-sheet g pos ss h m long);
         }
@@ -208,12 +214,12 @@ module _ (m h g : ℕ) (scenarios out : List ℕ) where
     twenty = λ c7 c. unfold sheetCall in (rw (seven-no c7, tells-true (tells-eq g 0) c));
     twelve = λ c7 c20 c. unfold sheetCall in (rw (seven-no c7, spaced-no c20, tells-true tells-12 c));
     served-just = (ready, λ r. (_, call-is r));
-    long = λ r. scenario-long (enough r);
-    drives = λ r w. unfold ss in (length (sheetText m h g scenarios), events (sheet g (scenario h scenarios) m), sheet g (scenario h scenarios) m, call-is r, rw (written r) (driven r w));
+    long = λ r. scenario-long m h scenarios (enough r);
+    drives = λ r w. unfold ss in (length (sheetText m h g scenarios), events (sheet g (scenario h scenarios) m), sheet g (scenario h scenarios) m, call-is r, refl, rw (written r) (text-drives r w));
     output-left = unfold sheetOutput in (output-left (length (sheetText m h g scenarios)) (sheetCall m h g scenarios out) (sheetText m h g scenarios) out (λ s. (refl, fits (ready s))));
     shaped = two-told;
   }
 
 pub sheet-examples : SheetExamples
-unfolding sheetOutput sheetCall sheetText scenario sheet stack part before tail depthFor slotFor shared legs leg text commandLine events joined spelled block tabulate outputAfter decimal digits
+unfolding sheetOutput sheetCall sheetText scenario sheet stack part previous tail depthFor slotFor shared legs leg text commandLine events joined spelled block tabulate outputAfter decimal digits
 sheet-examples = record { three = refl; equal = refl; told = refl; one-byte-short = refl; no-events = refl; spaced-0 = refl; all-three = refl; exact = refl }

@@ -6,14 +6,14 @@
 --   leg g j es        == the run es, and the save of slot j where it ends at that slot's depth
 --   legs f g j rest   == the commands after the load of slot j, `rest` being what is left of the scenario, in at most f legs
 --   part g prev s     == the commands of one scenario
---   before ss k       == the scenario before number k, and nothing before the first
+--   previous ss k     == the scenario before number k, and nothing before the first
 --   sheet g ss m      == the commands for the scenarios ss 0 .. ss (m−1)
 --   events cs         == how many events the runs of cs have together
 --   commandLine c, text cs  == a command as a line, and commands as a text
 --   scenario h scenarios k  == scenario number k of those that were filled
 --   sheetText m h g scenarios == the bytes of the sheet
 --   sheetCall, sheetOutput  == the call's answer, and the output afterwards
--- and in words, apart from the definitions above:
+-- and in words, apart from the definitions above but `events`, and `sheetText` for the length of the sheet:
 --   Bench             == the plain machine: a current sequence, and slots
 --   step b c          == the machine after a command
 --   arrivals b cs     == where the machine stands before each load, and at the end
@@ -87,12 +87,12 @@ part g prev s = load (slotFor g prev s) ∷ legs (length (tail g prev s)) g (slo
 -- ---- the sheet
 
 -- '(slot 0 for the first)': nothing is shared with no scenario
-unfoldable pub before : (ℕ → List ℕ) → ℕ → List ℕ
-before ss zero = []
-before ss (suc k) = ss k
+unfoldable pub previous : (ℕ → List ℕ) → ℕ → List ℕ
+previous ss zero = []
+previous ss (suc k) = ss k
 
 unfoldable pub sheet : ℕ → (ℕ → List ℕ) → ℕ → List Command
-sheet g ss m = stack (λ k. part g (before ss k) (ss k)) m
+sheet g ss m = stack (λ k. part g (previous ss k) (ss k)) m
 
 unfoldable pub events : List Command → ℕ
 events [] = 0
@@ -215,6 +215,7 @@ pub record Drives (m h g : ℕ) (ss : ℕ → List ℕ) (written : List ℕ) (by
   pub reads : map command (lines written) ≡ map some cs
   -- 'Run on it, the sheet arrives at every scenario, in list order.'
   pub arrives : (b : Bench) → b .slot 0 ≡ [] → arrivals b cs ≡ b .current ∷ tabulate ss m
+  -- 'saves at each depth reached after the load', and nothing before the first load
   pub unsaved : savesNext cs ≡ none
   pub proper : (b : Bench) → b .slot 0 ≡ [] → Proper g h b cs
   -- 'Each scenario loads the deepest such depth within the start it shares with the one before (slot 0 for the first)'
@@ -248,7 +249,7 @@ pub record SheetOwed (m h g : ℕ) (scenarios out : List ℕ) : Type 0 where
   -- 'For a served sheet its length in bytes and the event total are reported'; 'each event byte as a number, and any byte may stand'
   pub drives : SheetReady m h g scenarios out → ((e : ℕ) → In e scenarios → e < 256)
       → (n : ℕ) × (total : ℕ) × (cs : List Command) × (sheetCall m h g scenarios out ≡ served (n ∷ total ∷ []))
-      × Drives m h g (scenario h scenarios) (take n (sheetOutput m h g scenarios out)) n total cs
+      × (n ≡ length (sheetText m h g scenarios)) × Drives m h g (scenario h scenarios) (take n (sheetOutput m h g scenarios out)) n total cs
   pub output-left : OutputLeft (length (sheetText m h g scenarios)) (sheetCall m h g scenarios out) out (sheetOutput m h g scenarios out)
   -- two values are told, and 0 is no number of refusal
   pub shaped : Shaped 2 (sheetCall m h g scenarios out)

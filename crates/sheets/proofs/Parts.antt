@@ -14,13 +14,37 @@ use Rattle.lists.proofs.Decimal.{decimal-some}
 use Rattle.line.specs.Line.{lineFrom}
 use Rattle.promises.specs.Text.{bytes}
 use Rattle.promises.specs.Spelling.{joined}
-use Rattle.promises.specs.Sheets.{load, slotFor, depthFor, tail, leg, legs, part, before, sheet, events, text, scenario, sheetText}
-use Rattle.promises.proofs.Bench.{events-append, events-part}
-use Rattle.promises.proofs.Sheets.{slot-within, scenario-long}
+use Rattle.promises.specs.Sheets.{load, slotFor, depthFor, tail, leg, legs, part, previous, sheet, events, text, scenario, sheetText}
+use Rattle.promises.proofs.Bench.{loaded-short, events-append, events-part}
+use Rattle.promises.proofs.Sheets.{scenario-long}
 use Rattle.sheets.specs.Writing.{legsText, partOf}
-use Rattle.sheets.proofs.Texts.{text-load, text-append, load-long}
+use Rattle.sheets.proofs.Texts.{text-load, text-append, slot-long}
 
 -- ---- the legs
+
+module _ (g j from : ℕ) (rest : List ℕ) where
+  -- the run of a leg, and what is left after it
+  pub record OneLeg (run : List ℕ) : Type 0 where
+    pub some : 0 < length run
+    pub within : from + length run ≤ length rest
+    pub text-more : legsText g j (drop from rest) ≡ text (leg g (j + 1) run) ++ legsText g (j + 1) (drop (from + length run) rest)
+
+  pub length-more : (run : List ℕ) → OneLeg run → length (legsText g j (drop from rest)) ≡ length (text (leg g (j + 1) run)) + length (legsText g (j + 1) (drop (from + length run) rest))
+  length-more run l = ap length (l .text-more) ∙ length-append (text (leg g (j + 1) run)) (legsText g (j + 1) (drop (from + length run) rest))
+
+  pub legs-end : length rest ≤ from → legsText g j (drop from rest) ≡ []
+  unfolding legs text joined
+  legs-end h = rw (drop-of-length-le rest {i = from} h)
+
+  -- where the next leg begins
+  next-leg : drop (from + length (take g (drop from rest))) rest ≡ drop g (drop from rest)
+  next-leg = go (split g (length (drop from rest)))
+    where
+      go : (g ≤ length (drop from rest)) ⊎ (length (drop from rest) < g) → drop (from + length (take g (drop from rest))) rest ≡ drop g (drop from rest)
+      go (inl h) = rw (length-take-le g (drop from rest) h) (sym (drop-drop g from rest))
+      go (inr h) =
+          drop-of-length-le rest {i = from + length (take g (drop from rest))} (rw length-take (omega (arith, length-drop from rest)))
+          ∙ sym (drop-of-length-le (drop from rest) {i = g} (omega arith))
 
 module _ (g : ℕ) (pos : 0 < g) where
   -- legs enough are as good as any other number of them
@@ -44,36 +68,12 @@ module _ (g : ℕ) (pos : 0 < g) where
         text-append (leg g (suc j) (take g (e ∷ r))) (legs (length r) g (suc j) (drop g (e ∷ r)))
         ∙ ap (λ cs. text (leg g (suc j) (take g (e ∷ r))) ++ text cs) (legs-enough (length r) (length (drop g (e ∷ r))) (suc j) (drop g (e ∷ r)) (rw length-drop (omega arith)) (omega arith))
 
-    module _ (from : ℕ) (rest : List ℕ) where
-      -- where the next leg begins
-      next-leg : drop (from + length (take g (drop from rest))) rest ≡ drop g (drop from rest)
-      next-leg = go (split g (length (drop from rest)))
-        where
-          go : (g ≤ length (drop from rest)) ⊎ (length (drop from rest) < g) → drop (from + length (take g (drop from rest))) rest ≡ drop g (drop from rest)
-          go (inl h) = rw (length-take-le g (drop from rest) h) (sym (drop-drop g from rest))
-          go (inr h) =
-              drop-of-length-le rest {i = from + length (take g (drop from rest))} (rw length-take (omega (arith, length-drop from rest)))
-              ∙ sym (drop-of-length-le (drop from rest) {i = g} (omega arith))
-
-      -- the run of a leg, and what is left after it
-      pub record OneLeg (run : List ℕ) : Type 0 where
-        pub some : 0 < length run
-        pub within : from + length run ≤ length rest
-        pub text-more : legsText g j (drop from rest) ≡ text (leg g (j + 1) run) ++ legsText g (j + 1) (drop (from + length run) rest)
-
-      pub one-leg : (run : List ℕ) → run ≡ take g (drop from rest) → from < length rest → OneLeg run
-      one-leg run q h = record {
-        some = rw (q, length-take) (omega (arith, length-drop from rest));
-        within = rw (q, length-take) (omega (arith, length-drop from rest));
-        text-more = rw (q, add-one j, next-leg) (legs-first (drop from rest) (rw length-drop (omega arith)));
-      }
-
-      pub length-more : (run : List ℕ) → OneLeg run → length (legsText g j (drop from rest)) ≡ length (text (leg g (j + 1) run)) + length (legsText g (j + 1) (drop (from + length run) rest))
-      length-more run l = ap length (l .text-more) ∙ length-append (text (leg g (j + 1) run)) (legsText g (j + 1) (drop (from + length run) rest))
-
-      pub legs-end : length rest ≤ from → legsText g j (drop from rest) ≡ []
-      unfolding legs text joined
-      legs-end h = rw (drop-of-length-le rest {i = from} h)
+    pub one-leg : (from : ℕ) (rest run : List ℕ) → run ≡ take g (drop from rest) → from < length rest → OneLeg g j from rest run
+    one-leg from rest run q h = record {
+      some = rw (q, length-take) (omega (arith, length-drop from rest));
+      within = rw (q, length-take) (omega (arith, length-drop from rest));
+      text-more = rw (q, add-one j, next-leg g j from rest) (legs-first (drop from rest) (rw length-drop (omega arith)));
+    }
 
 -- ---- one scenario
 
@@ -92,7 +92,7 @@ module _ (h g : ℕ) (pos : 0 < g) (prev s : List ℕ) (long : length s ≡ h) w
   slot-is : (h - length (tail g prev s)) / g ≡ slotFor g prev s
   unfolding tail depthFor
   slot-is =
-      let back : h - length (drop (slotFor g prev s * g) s) ≡ slotFor g prev s * g = rw length-drop (omega (arith, slot-within g pos prev s .1)) in
+      let back : h - length (drop (slotFor g prev s * g) s) ≡ slotFor g prev s * g = rw length-drop (omega (arith, loaded-short g pos s prev)) in
       rw back (mul-div-cancel (slotFor g prev s) pos)
 
   part-is : part g prev s ≡ partOf h g (tail g prev s)
@@ -101,29 +101,16 @@ module _ (h g : ℕ) (pos : 0 < g) (prev s : List ℕ) (long : length s ≡ h) w
 
 -- ---- the scenarios one after the other
 
-module _ (m h g : ℕ) (pos : 0 < g) (scenarios : List ℕ) (enough : m * h ≤ length scenarios) where
+module _ (h g : ℕ) (scenarios : List ℕ) where
   -- what a scenario runs, and the sheet up to it
   pub record OnePart (k : ℕ) (rest : List ℕ) : Type 0 where
     pub short : length rest ≤ h
     pub text-more : sheetText (k + 1) h g scenarios ≡ sheetText k h g scenarios ++ text (partOf h g rest)
     pub events-more : events (sheet g (scenario h scenarios) (k + 1)) ≡ events (sheet g (scenario h scenarios) k) + length rest
 
-  pub one-part : (k : ℕ) (rest : List ℕ) → k < m → rest ≡ tail g (before (scenario h scenarios) k) (scenario h scenarios k) → OnePart k rest
-  unfolding sheetText sheet stack
-  one-part k rest lt q =
-      let prev = before (scenario h scenarios) k in
-      let s = scenario h scenarios k in
-      let long = scenario-long m h g scenarios [] enough k lt in
-      record {
-        short = rw q (unfold tail in (rw length-drop (omega arith)));
-        text-more = rw (add-one k, q) (text-append (sheet g (scenario h scenarios) k) (part g prev s) ∙ ap (λ cs. text (sheet g (scenario h scenarios) k) ++ text cs) (part-is h g pos prev s long));
-        events-more = rw (add-one k, q) (events-append (sheet g (scenario h scenarios) k) (part g prev s) ∙ ap (λ n. events (sheet g (scenario h scenarios) k) + n) (events-part g pos prev s));
-      }
-
   pub length-sheet : (k : ℕ) (rest : List ℕ) → OnePart k rest → length (sheetText (k + 1) h g scenarios) ≡ length (sheetText k h g scenarios) + length (text (partOf h g rest))
   length-sheet k rest p = ap length (p .text-more) ∙ length-append (sheetText k h g scenarios) (text (partOf h g rest))
 
-module _ (h g : ℕ) (scenarios : List ℕ) where
   pub sheet-none : (sheetText 0 h g scenarios ≡ []) × (events (sheet g (scenario h scenarios) 0) ≡ 0)
   unfolding sheetText sheet stack text joined events
   sheet-none = (refl, refl)
@@ -134,15 +121,15 @@ module _ (h g : ℕ) (scenarios : List ℕ) where
   part-seven prev s =
       let j = slotFor g prev s in
       let rest = legs (length (tail g prev s)) g j (tail g prev s) in
-      rw (text-load j rest, length-append (lineFrom (bytes "load") (j ∷ [])) (text rest)) (omega (arith, load-long j, decimal-some j))
+      rw (text-load j rest, length-append (lineFrom (bytes "load") (j ∷ [])) (text rest)) (omega (arith, slot-long "load" j refl, decimal-some j))
 
   sheet-next : (k : ℕ) → 7 + length (sheetText k h g scenarios) ≤ length (sheetText (suc k) h g scenarios)
   unfolding sheetText sheet stack
   sheet-next k =
-      let more = part g (before (scenario h scenarios) k) (scenario h scenarios k) in
-      rw (text-append (sheet g (scenario h scenarios) k) more, length-append) (omega (arith, part-seven (before (scenario h scenarios) k) (scenario h scenarios k)))
+      let more = part g (previous (scenario h scenarios) k) (scenario h scenarios k) in
+      rw (text-append (sheet g (scenario h scenarios) k) more, length-append) (omega (arith, part-seven (previous (scenario h scenarios) k) (scenario h scenarios k)))
 
-  pub sheet-grows : (d k : ℕ) → 7 * d + length (sheetText k h g scenarios) ≤ length (sheetText (k + d) h g scenarios)
+  sheet-grows : (d k : ℕ) → 7 * d + length (sheetText k h g scenarios) ≤ length (sheetText (k + d) h g scenarios)
   sheet-grows zero k = rw add-zero (omega arith)
   sheet-grows (suc d) k = rw add-suc (omega (arith, sheet-grows d k, sheet-next (k + d)))
 
@@ -151,3 +138,16 @@ module _ (h g : ℕ) (scenarios : List ℕ) where
 
   pub sheet-sevens : (m : ℕ) → 7 * m ≤ length (sheetText m h g scenarios)
   sheet-sevens m = let l = rw zero-add at (sheet-grows m 0) in omega (arith, l)
+
+pub one-part : (m h g : ℕ) → 0 < g → (scenarios : List ℕ) → m * h ≤ length scenarios → (k : ℕ) (rest : List ℕ) → k < m
+    → rest ≡ tail g (previous (scenario h scenarios) k) (scenario h scenarios k) → OnePart h g scenarios k rest
+unfolding sheetText sheet stack
+one-part m h g pos scenarios enough k rest lt q =
+    let prev = previous (scenario h scenarios) k in
+    let s = scenario h scenarios k in
+    let long = scenario-long m h scenarios enough k lt in
+    record {
+      short = rw q (unfold tail in (rw length-drop (omega arith)));
+      text-more = rw (add-one k, q) (text-append (sheet g (scenario h scenarios) k) (part g prev s) ∙ ap (λ cs. text (sheet g (scenario h scenarios) k) ++ text cs) (part-is h g pos prev s long));
+      events-more = rw (add-one k, q) (events-append (sheet g (scenario h scenarios) k) (part g prev s) ∙ ap (λ n. events (sheet g (scenario h scenarios) k) + n) (events-part g pos prev s));
+    }

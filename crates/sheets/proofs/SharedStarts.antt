@@ -2,16 +2,14 @@
 use mathlib.Core.Path.{_≡_, refl, sym, ap₂, _∙_}
 use mathlib.Core.Logic.{_≢_}
 use mathlib.Core.List.{List, [], _∷_, _++_, head-eq-of-cons-eq, tail-eq-of-cons-eq}
-use Prim.Native.Nat.{ℕ, zero, suc, _+_, _-_, _*_, _/_, _≤_, _<_, min}
+use Prim.Native.Nat.{ℕ, zero, suc, _+_, _-_, _*_, _≤_, _<_, min}
 use native.Mathlib.Numerals.{add-one}
 use native.Mathlib.Omega.{arith}
-use native.Mathlib.Nat.{zero-add, add-sub-cancel-left, suc-mul, mul-le-mul-right, div-lt-iff-lt-mul, pos-of-ne-zero}
+use native.Mathlib.Nat.{zero-add, add-sub-cancel-left, suc-mul}
 use lib.ListN.{length, getD, take, drop, length-drop}
 use lib.Seq.{drop-cons, take-suc, take-add}
-use lib.Dec.{ltb}
-use borrow.Author.Tests.{eq-eqb, ne-eqb, lt-ltb, ltb-true}
-use Rattle.lists.proofs.Tests.{bool-ext}
-use Rattle.promises.specs.Sheets.{shared, before}
+use borrow.Author.Tests.{eq-eqb, ne-eqb}
+use Rattle.promises.specs.Sheets.{shared, previous}
 use Rattle.promises.proofs.Bench.{shared-left, shared-right}
 
 module _ (a b : List ℕ) (k : ℕ) where
@@ -42,21 +40,12 @@ alike-more a b i l r q e = rw (add-one i, take-suc a i 0 l, take-suc b i 0 r, q,
 pub block-more : (a b : List ℕ) (k : ℕ) → take (k + 16 - k) (drop k a) ≡ take (k + 16 - k) (drop k b) → take k a ≡ take k b → take (k + 16) a ≡ take (k + 16) b
 block-more a b k e q = take-add k 16 a ∙ ap₂ _++_ q (rw add-sub-cancel-left at e) ∙ sym (take-add k 16 b)
 
-pub before-next : (ss : ℕ → List ℕ) (k : ℕ) → k ≢ 0 → ss (k - 1) ≡ before ss k
-unfolding before
-before-next ss zero n = absurd (n refl)
-before-next ss (suc k) n = let q : suc k - 1 ≡ k = omega arith in rw q
+pub previous-next : (ss : ℕ → List ℕ) (k : ℕ) → k ≢ 0 → ss (k - 1) ≡ previous ss k
+unfolding previous
+previous-next ss zero n = absurd (n refl)
+previous-next ss (suc k) n = let q : suc k - 1 ≡ k = omega arith in rw q
 
--- scenario number k ends within m × h bytes, and the one before it where it begins
-pub scenario-within : (k m h n : ℕ) → k < m → m * h ≤ n → k * h + h ≤ n
-scenario-within k m h n lt le = omega (arith, suc-mul k h, mul-le-mul-right h lt)
-
-pub before-within : (k h : ℕ) → k ≢ 0 → (k - 1) * h + h ≡ k * h
-before-within zero h n = absurd (n refl)
-before-within (suc k) h n = let q : suc k - 1 ≡ k = omega arith in rw q (sym (suc-mul k h))
-
--- m × h bytes are more than there are, whether or not that number has 64 bits
-pub short-is : (bytes m h : ℕ) → h ≢ 0 → ltb (bytes / h) m ≡ ltb bytes (m * h)
-short-is bytes m h n =
-    let (to, from) = div-lt-iff-lt-mul {k = h} {x = bytes} {y = m} (pos-of-ne-zero n) in
-    bool-ext (ltb (bytes / h) m) (ltb bytes (m * h)) (λ t. lt-ltb bytes (m * h) (to (ltb-true (bytes / h) m t))) (λ t. lt-ltb (bytes / h) m (from (ltb-true bytes (m * h) t)))
+-- it ends where number k begins
+pub previous-within : (k h : ℕ) → k ≢ 0 → (k - 1) * h + h ≡ k * h
+previous-within zero h n = absurd (n refl)
+previous-within (suc k) h n = let q : suc k - 1 ≡ k = omega arith in rw q (sym (suc-mul k h))

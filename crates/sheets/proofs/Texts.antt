@@ -59,8 +59,5 @@ pub run-long : (es : List ℕ) → length (lineFrom (bytes "run") es) ≡ 4 + le
 run-long es = rw (length-append, length-append) (omega arith)
 
 -- a `load` or `save` line
-pub load-long : (j : ℕ) → length (lineFrom (bytes "load") (j ∷ [])) ≡ 5 + length (fieldBytes j)
-load-long j = number-long (bytes "load") j ∙ omega arith
-
-pub save-long : (j : ℕ) → length (lineFrom (bytes "save") (j ∷ [])) ≡ 5 + length (fieldBytes j)
-save-long j = number-long (bytes "save") j ∙ omega arith
+pub slot-long : (w : String) (j : ℕ) → length (bytes w) ≡ 4 → length (lineFrom (bytes w) (j ∷ [])) ≡ 5 + length (fieldBytes j)
+slot-long w j four = number-long (bytes w) j ∙ omega arith

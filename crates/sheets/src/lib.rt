@@ -4,11 +4,10 @@
 ghost use mathlib.Core.Path.{_≡_};
 ghost use mathlib.Core.Bool.{true};
 ghost use mathlib.Core.List.{_++_};
-ghost use Prim.Native.Nat.{_+_, _*_, _<_, _≤_, min};
+ghost use Prim.Native.Nat.{_+_, _*_, _<_, _≤_};
 ghost use lib.ListN.{length, take, drop};
-ghost use lib.Dec.{ltb};
 ghost use Rattle.line.specs.Line.{fieldBytes};
-ghost use Rattle.promises.specs.Sheets.{leg as legOf, before, text, scenario as scenarioOf, shared as sharedBy, tail as tailOf, sheetText, sheetCall, sheetOutput};
+ghost use Rattle.promises.specs.Sheets.{leg as legOf, previous as previousOf, text, scenario as scenarioOf, shared as sharedBy, tail as tailOf, sheetText, sheetCall, sheetOutput};
 ghost use Rattle.sheets.specs.Writing.{sheetAnswer, legsText, partOf, Measures};
 
 // What the call answers: the length of the sheet and the events that it runs, or a refusal's number and place.
@@ -35,7 +34,7 @@ pub fn sheet(scenarios: &[u8], m: u64, h: u64, g: u64, out: &mut [u8]) -> Sheete
     if g == 0 {
         return Sheeted::Refused(20, 0);
     }
-    if is_short(scenarios.len() as u64, m, h) {
+    if !ranking::fits(m as usize, h as usize, scenarios.len()) {
         return Sheeted::Refused(12, 0);
     }
     // A scenario has a `load` line, and this has seven bytes at least.
@@ -48,16 +47,6 @@ pub fn sheet(scenarios: &[u8], m: u64, h: u64, g: u64, out: &mut [u8]) -> Sheete
     }
     write_sheet(scenarios, m as usize, h as usize, g as usize, out);
     Sheeted::Served(measured.length as u64, measured.total as u64)
-}
-
-// Whether so many bytes are fewer than m × h, which may have more than 64 bits.
-fn is_short(bytes: u64, m: u64, h: u64) -> bool
-    ensures { λ r. ⌜ r ≡ ltb bytes (m * h) ⌝ }
-{
-    if h == 0 {
-        return false;
-    }
-    bytes / h < m
 }
 
 // Measures the sheet, up to the first scenario for which there is no room.
@@ -102,7 +91,7 @@ fn write_sheet(scenarios: &[u8], m: usize, h: usize, g: usize, out: &mut [u8])
 // What scenario number k runs: its part after the depth that it loads.
 fn runs(scenarios: &[u8], h: usize, g: usize, k: usize) -> &[u8]
     requires { ⌜ (0 < g) × (k * h + h ≤ length (now scenarios)) ⌝ }
-    ensures { λ r. ⌜ now r ≡ tailOf g (before (scenarioOf h (now (scenarios .entry))) k) (scenarioOf h (now (scenarios .entry)) k) ⌝ }
+    ensures { λ r. ⌜ now r ≡ tailOf g (previousOf (scenarioOf h (now (scenarios .entry))) k) (scenarioOf h (now (scenarios .entry)) k) ⌝ }
 {
     tail(previous(scenarios, h, k), scenario(scenarios, h, k), g)
 }
@@ -119,7 +108,7 @@ fn scenario(scenarios: &[u8], h: usize, k: usize) -> &[u8]
 // The scenario before number k, and an empty one before the first.
 fn previous(scenarios: &[u8], h: usize, k: usize) -> &[u8]
     requires { ⌜ k * h ≤ length (now scenarios) ⌝ }
-    ensures { λ r. ⌜ now r ≡ before (scenarioOf h (now (scenarios .entry))) k ⌝ }
+    ensures { λ r. ⌜ now r ≡ previousOf (scenarioOf h (now (scenarios .entry))) k ⌝ }
 {
     if k == 0 {
         return &scenarios[..0];
@@ -137,10 +126,10 @@ fn tail<'p, 'n>(prev: &'p [u8], new: &'n [u8], g: usize) -> &'n [u8]
 }
 
 // How many events the two begin with alike: sixteen at once as long as all of them are, then one by one.
-fn shared<'p, 'n>(prev: &'p [u8], new: &'n [u8]) -> usize
+fn shared(prev: &[u8], new: &[u8]) -> usize
     ensures { λ r. ⌜ r ≡ sharedBy (now (prev .entry)) (now (new .entry)) ⌝ }
 {
-    let limit = shorter(prev.len(), new.len());
+    let limit = ranking::smaller(prev.len(), new.len());
     let from = shared_blocks(prev, new, limit);
     for k in from..limit {
         if prev[k] != new[k] {
@@ -151,7 +140,7 @@ fn shared<'p, 'n>(prev: &'p [u8], new: &'n [u8]) -> usize
 }
 
 // How many of the first `limit` events are in blocks of sixteen that are alike, up to the first block that is not.
-fn shared_blocks<'p, 'n>(prev: &'p [u8], new: &'n [u8], limit: usize) -> usize
+fn shared_blocks(prev: &[u8], new: &[u8], limit: usize) -> usize
     requires { ⌜ (limit ≤ length (now prev)) × (limit ≤ length (now new)) ⌝ }
     ensures { λ r. ⌜ (r ≤ limit) × (take r (now (prev .entry)) ≡ take r (now (new .entry))) ⌝ }
 {
@@ -165,8 +154,8 @@ fn shared_blocks<'p, 'n>(prev: &'p [u8], new: &'n [u8], limit: usize) -> usize
     k
 }
 
-// Whether sixteen events are alike. All are looked at, so that no step waits for the one before.
-fn alike<'p, 'n>(a: &'p [u8], b: &'n [u8]) -> bool
+// True only if sixteen events are alike. All are looked at, so that no step waits for the one before.
+fn alike(a: &[u8], b: &[u8]) -> bool
     requires { ⌜ (length (now a) ≡ 16) × (length (now b) ≡ 16) ⌝ }
     ensures { λ r. ⌜ (r ≡ true → now (a .entry) ≡ now (b .entry)) ⌝ }
 {
@@ -177,17 +166,11 @@ fn alike<'p, 'n>(a: &'p [u8], b: &'n [u8]) -> bool
     same == 16
 }
 
-// 1 where the two events are the same.
+// 1 only where the two events are the same, else 0.
 fn same_event(a: u8, b: u8) -> usize
     ensures { λ r. ⌜ (r ≤ 1) × (r ≡ 1 → a ≡ b) ⌝ }
 {
     if a == b { 1 } else { 0 }
-}
-
-fn shorter(a: usize, b: usize) -> usize
-    ensures { λ r. ⌜ r ≡ min a b ⌝ }
-{
-    if a < b { a } else { b }
 }
 
 // How many bytes the commands of a scenario of h events have, of which `rest` is what it runs.
@@ -257,8 +240,8 @@ fn leg(rest: &[u8], from: usize, g: usize) -> &[u8]
     &rest[from..from + g]
 }
 
-// How many bytes a run has, with the save of slot j where it reaches that slot's depth: the word, four for each event, and the save's line, which has 26 at
-// most.
+// How many bytes a run has, with the save of slot j where it reaches that slot's depth: four for the word and the line end, at most four for each event, and
+// at most 26 for the save.
 fn leg_length(run: &[u8], g: usize, j: usize) -> usize
     requires { ⌜ length (now run) ≤ 1000 ⌝ }
     ensures { λ r. ⌜ (r ≡ length (text (legOf g j (now (run .entry))))) × (r ≤ 4030) ⌝ }

@@ -1,9 +1,10 @@
 -- `sheets::leg_length`: the bytes of the run, and those of the save where it is written. Assumes nothing.
+use mathlib.Core.Path.{refl}
 use native.Mathlib.Omega.{arith}
 use lib.ListN.{length-append}
 use Rattle.decimal.proofs.Digits.{decimal-fits}
 use Rattle.line.proofs.Pieces.{fields-short}
-use Rattle.sheets.proofs.Texts.{leg-saved, leg-unsaved, run-long, save-long}
+use Rattle.sheets.proofs.Texts.{leg-saved, leg-unsaved, run-long, slot-long}
 use borrow.Author.Needs.{needs}
 use Rattle.sheets.proofs.leg_length.Statement.{statement}
 use Rattle.sheets.proofs.leg_length.Tie as tie
@@ -28,7 +29,7 @@ returns : tie.Need-returns
 returns c =
     let st = c .before .before .before .before .args in
     let es = st .run .now in (
-      rw (leg-saved (st .g) (st .j) es (c .before .if1 .taken), length-append) (omega (arith, run-long es, save-long (st .j))),
+      rw (leg-saved (st .g) (st .j) es (c .before .if1 .taken), length-append) (omega (arith, run-long es, slot-long "save" (st .j) refl)),
       omega (arith, fields-short es (λ k. omega (arith, c .before .before .before .shared-slice-known .given k)), decimal-fits (st .j) (omega arith)),
     )
 

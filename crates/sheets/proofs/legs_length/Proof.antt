@@ -54,13 +54,13 @@ loop-again c =
     let st = c .before .before .before .before .before .args in
     let lp = c .before .before .before .loop in
     let l = one-leg (st .g) (c .before .before .before .before .before .pre .0) (lp .j) (lp .from) (st .rest .now) _ (c .before .leg .ensures) (c .before .before .loop-test .taken) in
-    (l .within, omega (arith, l .some), omega (arith, length-more (st .g) (c .before .before .before .before .before .pre .0) (lp .j) (lp .from) (st .rest .now) _ l), omega (arith, l .some))
+    (l .within, omega (arith, l .some), omega (arith, length-more (st .g) (lp .j) (lp .from) (st .rest .now) _ l), omega (arith, l .some))
 
 returns : tie.Need-returns Inv-loop μ-loop
 returns c =
     let st = c .before .before .before .args in
     let lp = c .before .loop in
-    (omega (arith, ap length (legs-end (st .g) (c .before .before .before .pre .0) (lp .j) (lp .from) (st .rest .now) (c .loop-test .left))), omega arith)
+    (omega (arith, ap length (legs-end (st .g) (lp .j) (lp .from) (st .rest .now) (c .loop-test .left))), omega arith)
 
 pub legs-length-spec : {M : Type 1} → statement M
 legs-length-spec =

@@ -8,7 +8,7 @@ use lib.ListN.{length}
 use borrow.Author.Tests.{le-leb, lt-leb}
 use Rattle.lists.proofs.Tests.{contra}
 use Rattle.promises.specs.Sheets.{sheet, events, scenario, sheetText}
-use Rattle.sheets.proofs.SharedStarts.{scenario-within}
+use Rattle.promises.proofs.Sheets.{scenario-within}
 use Rattle.sheets.proofs.Parts.{sheet-none, one-part, length-sheet, sheet-longer}
 use borrow.Author.Needs.{needs}
 use Rattle.sheets.proofs.measure.Statement.{statement}
@@ -55,7 +55,7 @@ sub-if1 c =
     let enough = c .before .before .before .before .before .pre .2 in
     let lt : lp .k < st .m = c .before .before .loop-test .taken in
     let p = one-part (st .m) (st .h) (st .g) (c .before .before .before .before .before .pre .1) s enough (lp .k) _ lt (c .before .runs .ensures) in
-    let long = length-sheet (st .m) (st .h) (st .g) (c .before .before .before .before .before .pre .1) s enough (lp .k) _ p in
+    let long = length-sheet (st .h) (st .g) s (lp .k) _ p in
     omega arith
 
 returns : tie.Need-returns Inv-loop μ-loop
@@ -66,7 +66,7 @@ returns c =
     let enough = c .before .before .before .before .before .before .pre .2 in
     let lt : lp .k < st .m = c .before .before .before .loop-test .taken in
     let p = one-part (st .m) (st .h) (st .g) (c .before .before .before .before .before .before .pre .1) s enough (lp .k) _ lt (c .before .before .runs .ensures) in
-    let long = length-sheet (st .m) (st .h) (st .g) (c .before .before .before .before .before .before .pre .1) s enough (lp .k) _ p in
+    let long = length-sheet (st .h) (st .g) s (lp .k) _ p in
     let more : st .room < length (sheetText (st .m) (st .h) (st .g) s) = omega (arith, sheet-longer (st .h) (st .g) s (lp .k + 1) (st .m) (omega arith)) in
     record { told = sym (lt-leb (length (sheetText (st .m) (st .h) (st .g) s)) (st .room) more); bytes = λ q. contra q refl; ran = λ q. contra q refl }
 
@@ -78,7 +78,7 @@ add-length c =
     let enough = c .before .before .before .before .before .before .pre .2 in
     let lt : lp .k < st .m = c .before .before .before .loop-test .taken in
     let p = one-part (st .m) (st .h) (st .g) (c .before .before .before .before .before .before .pre .1) s enough (lp .k) _ lt (c .before .before .runs .ensures) in
-    let long = length-sheet (st .m) (st .h) (st .g) (c .before .before .before .before .before .before .pre .1) s enough (lp .k) _ p in
+    let long = length-sheet (st .h) (st .g) s (lp .k) _ p in
     omega arith
 
 add-total : tie.Need-add-total Inv-loop μ-loop
@@ -89,7 +89,7 @@ add-total c =
     let enough = c .before .before .before .before .before .before .pre .2 in
     let lt : lp .k < st .m = c .before .before .before .loop-test .taken in
     let p = one-part (st .m) (st .h) (st .g) (c .before .before .before .before .before .before .pre .1) s enough (lp .k) _ lt (c .before .before .runs .ensures) in
-    let long = length-sheet (st .m) (st .h) (st .g) (c .before .before .before .before .before .before .pre .1) s enough (lp .k) _ p in
+    let long = length-sheet (st .h) (st .g) s (lp .k) _ p in
     omega (arith, p .short, scenario-within (lp .k) (st .m) (st .h) (length s) lt enough)
 
 add-k : tie.Need-add-k Inv-loop μ-loop
@@ -106,7 +106,7 @@ loop-again c =
     let enough = c .before .before .before .before .before .before .pre .2 in
     let lt : lp .k < st .m = c .before .before .before .loop-test .taken in
     let p = one-part (st .m) (st .h) (st .g) (c .before .before .before .before .before .before .pre .1) s enough (lp .k) _ lt (c .before .before .runs .ensures) in
-    let long = length-sheet (st .m) (st .h) (st .g) (c .before .before .before .before .before .before .pre .1) s enough (lp .k) _ p in
+    let long = length-sheet (st .h) (st .g) s (lp .k) _ p in
     (omega arith, omega arith, omega arith, omega (arith, p .events-more), rw add-one (omega (arith, p .short, suc-mul (lp .k) (st .h))))
 
 returns-2 : tie.Need-returns-2 Inv-loop μ-loop

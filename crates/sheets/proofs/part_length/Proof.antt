@@ -1,9 +1,10 @@
 -- `sheets::part_length`: the bytes of the load, and those of the legs. Assumes nothing.
+use mathlib.Core.Path.{refl}
 use native.Mathlib.Omega.{arith}
 use Prim.Native.Nat.{_-_, _/_}
 use lib.ListN.{length}
 use Rattle.decimal.proofs.Digits.{decimal-fits}
-use Rattle.sheets.proofs.Texts.{load-long}
+use Rattle.sheets.proofs.Texts.{slot-long}
 use Rattle.sheets.proofs.Parts.{length-part, slot-few}
 use borrow.Author.Needs.{needs}
 use Rattle.sheets.proofs.part_length.Statement.{statement}
@@ -32,7 +33,7 @@ add-result c =
 returns : tie.Need-returns
 returns c =
     let st = c .before .before .before .args in
-    omega (arith, length-part (st .h) (st .g) (st .rest .now), load-long ((st .h - length (st .rest .now)) / st .g))
+    omega (arith, length-part (st .h) (st .g) (st .rest .now), slot-long "load" ((st .h - length (st .rest .now)) / st .g) refl)
 
 pub part-length-spec : {M : Type 1} → statement M
 part-length-spec =

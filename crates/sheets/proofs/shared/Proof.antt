@@ -15,8 +15,8 @@ Inv-loop prev new limit from k₀ k = (k ≤ limit) × (limit ≡ min (length pr
 abbrev μ-loop : tie.MeasureT-loop
 μ-loop prev new limit from k₀ k = limit - k
 
-shorter-requires : tie.Need-shorter-requires Inv-loop μ-loop
-shorter-requires c κs = search needs
+smaller-requires : tie.Need-smaller-requires Inv-loop μ-loop
+smaller-requires c κs = search needs
 
 shared-blocks-requires : tie.Need-shared-blocks-requires Inv-loop μ-loop
 shared-blocks-requires c κs = (omega arith, omega arith)
@@ -25,7 +25,7 @@ loop-holds : tie.Need-loop-holds Inv-loop μ-loop
 loop-holds c =
     let st = c .before .before .before .before .args in
     let b = c .shared-blocks in
-    (b .ensures .0, c .before .shorter .ensures, shared-skip (b .result) (st .prev .now) (st .new .now) (omega (arith, b .ensures .0)) (omega (arith, b .ensures .0)) (b .ensures .1))
+    (b .ensures .0, c .before .smaller .ensures, shared-skip (b .result) (st .prev .now) (st .new .now) (omega (arith, b .ensures .0)) (omega (arith, b .ensures .0)) (b .ensures .1))
 
 shared-slice-read-if1 : tie.Need-shared-slice-read-if1 Inv-loop μ-loop
 shared-slice-read-if1 c = search needs
@@ -66,7 +66,7 @@ shared-spec =
     (tie.spec
     Inv-loop
     μ-loop
-    shorter-requires
+    smaller-requires
     shared-blocks-requires
     loop-holds
     shared-slice-read-if1

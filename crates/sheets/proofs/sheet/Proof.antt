@@ -21,13 +21,13 @@ returns-2 c =
     let st = c .before .before .before .before .args in
     refused-20 (st .m) (st .h) (st .g) (st .scenarios .now) (st .out .now) (c .before .if1 .left) (c .if2 .taken)
 
-is-short-requires : tie.Need-is-short-requires
-is-short-requires c κs = search needs
+fits-requires : tie.Need-fits-requires
+fits-requires c κs = search needs
 
 returns-3 : tie.Need-returns-3
 returns-3 c =
     let st = c .before .before .before .before .before .before .args in
-    too-few (st .m) (st .h) (st .g) (st .scenarios .now) (st .out .now) (c .before .before .before .if1 .left) (c .before .before .if2 .left) (ltb-true _ _ (sym (c .before .is-short .ensures) ∙ c .if3 .taken))
+    too-few (st .m) (st .h) (st .g) (st .scenarios .now) (st .out .now) (c .before .before .before .if1 .left) (c .before .before .if2 .left) (ltb-true _ _ (eq-true-of-not-eq-false' (sym (c .before .fits2 .ensures) ∙ eq-false-of-not-eq-true' (c .if3 .taken))))
 
 returns-4 : tie.Need-returns-4
 returns-4 c =
@@ -37,7 +37,7 @@ returns-4 c =
 measure-requires : tie.Need-measure-requires
 measure-requires c κs =
     let st = c .before .before .before .before .before .before .before .args in
-    let enough : st .m * st .h ≤ length (st .scenarios .now) = ltb-false (length (st .scenarios .now)) (st .m * st .h) (sym (c .before .before .is-short .ensures) ∙ c .before .if3 .left) in
+    let enough : st .m * st .h ≤ length (st .scenarios .now) = ltb-false _ _ (eq-false-of-not-eq-true' (sym (c .before .before .fits2 .ensures) ∙ eq-true-of-not-eq-false' (c .before .if3 .left))) in
     (c .before .before .before .before .if1 .left, pos-of-ne-zero (c .before .before .before .if2 .left), enough)
 
 returns-5 : tie.Need-returns-5
@@ -49,7 +49,7 @@ returns-5 c =
 write-sheet-requires : tie.Need-write-sheet-requires
 write-sheet-requires c κs =
     let st = c .before .before .before .before .before .before .before .before .before .before .before .args in
-    let enough : st .m * st .h ≤ length (st .scenarios .now) = ltb-false (length (st .scenarios .now)) (st .m * st .h) (sym (c .before .before .before .before .before .before .is-short .ensures) ∙ c .before .before .before .before .before .if3 .left) in
+    let enough : st .m * st .h ≤ length (st .scenarios .now) = ltb-false _ _ (eq-false-of-not-eq-true' (sym (c .before .before .before .before .before .before .fits2 .ensures) ∙ eq-true-of-not-eq-false' (c .before .before .before .before .before .if3 .left))) in
     let me = c .before .before .before .measure .ensures in
     (c .before .before .before .before .before .before .before .before .if1 .left, pos-of-ne-zero (c .before .before .before .before .before .before .before .if2 .left), enough, leb-true (length (sheetText (st .m) (st .h) (st .g) (st .scenarios .now))) (length (st .out .now)) (sym (me .told) ∙ eq-true-of-not-eq-false' (c .before .if5 .left)))
 
@@ -59,7 +59,7 @@ same-length c = search needs
 returns-6 : tie.Need-returns-6
 returns-6 c =
     let st = c .before .before .before .before .before .before .before .before .before .before .before .before .before .before .args in
-    let enough : st .m * st .h ≤ length (st .scenarios .now) = ltb-false (length (st .scenarios .now)) (st .m * st .h) (sym (c .before .before .before .before .before .before .before .before .before .is-short .ensures) ∙ c .before .before .before .before .before .before .before .before .if3 .left) in
+    let enough : st .m * st .h ≤ length (st .scenarios .now) = ltb-false _ _ (eq-false-of-not-eq-true' (sym (c .before .before .before .before .before .before .before .before .before .fits2 .ensures) ∙ eq-true-of-not-eq-false' (c .before .before .before .before .before .before .before .before .if3 .left))) in
     let me = c .before .before .before .before .before .before .measure .ensures in
     let fits = eq-true-of-not-eq-false' (c .before .before .before .before .if5 .left) in
     let (answer, written) = all-served (st .m) (st .h) (st .g) (st .scenarios .now) (st .out .now) (c .before .before .before .before .before .before .before .before .before .before .before .if1 .left) (c .before .before .before .before .before .before .before .before .before .before .if2 .left) enough (leb-true (length (sheetText (st .m) (st .h) (st .g) (st .scenarios .now))) (length (st .out .now)) (sym (me .told) ∙ fits)) in
@@ -71,7 +71,7 @@ sheet-spec =
     (tie.spec
     returns
     returns-2
-    is-short-requires
+    fits-requires
     returns-3
     returns-4
     measure-requires

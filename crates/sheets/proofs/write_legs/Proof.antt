@@ -35,7 +35,7 @@ sub-write-leg c =
     let st = c .before .before .before .before .before .args in
     let lp = c .before .before .loop in
     let l = one-leg (st .g) (c .before .before .before .before .before .pre .0 .0) (lp .j) (lp .from) (st .rest .now) _ (c .leg .ensures) (c .before .loop-test .taken) in
-    let long = length-more (st .g) (c .before .before .before .before .before .pre .0 .0) (lp .j) (lp .from) (st .rest .now) _ l in
+    let long = length-more (st .g) (lp .j) (lp .from) (st .rest .now) _ l in
     let all = ap length (lp .inv .5) ∙ length-append (lp .inv .3) (legsText (st .g) (lp .j) (drop (lp .from) (st .rest .now))) in
     omega arith
 
@@ -44,7 +44,7 @@ part-write-leg-start c =
     let st = c .before .before .before .before .before .args in
     let lp = c .before .before .loop in
     let l = one-leg (st .g) (c .before .before .before .before .before .pre .0 .0) (lp .j) (lp .from) (st .rest .now) _ (c .leg .ensures) (c .before .loop-test .taken) in
-    let long = length-more (st .g) (c .before .before .before .before .before .pre .0 .0) (lp .j) (lp .from) (st .rest .now) _ l in
+    let long = length-more (st .g) (lp .j) (lp .from) (st .rest .now) _ l in
     let all = ap length (lp .inv .5) ∙ length-append (lp .inv .3) (legsText (st .g) (lp .j) (drop (lp .from) (st .rest .now))) in
     omega arith
 
@@ -56,7 +56,7 @@ write-leg-requires c κs =
     let st = c .before .before .before .before .before .before .args in
     let lp = c .before .before .before .loop in
     let l = one-leg (st .g) (c .before .before .before .before .before .before .pre .0 .0) (lp .j) (lp .from) (st .rest .now) _ (c .before .leg .ensures) (c .before .before .loop-test .taken) in
-    let long = length-more (st .g) (c .before .before .before .before .before .before .pre .0 .0) (lp .j) (lp .from) (st .rest .now) _ l in
+    let long = length-more (st .g) (lp .j) (lp .from) (st .rest .now) _ l in
     let all = ap length (lp .inv .5) ∙ length-append (lp .inv .3) (legsText (st .g) (lp .j) (drop (lp .from) (st .rest .now))) in
     simp (length-take, length-drop) (omega arith)
 
@@ -65,7 +65,7 @@ add-at c =
     let st = c .before .before .before .before .before .before .before .before .before .args in
     let lp = c .before .before .before .before .before .before .loop in
     let l = one-leg (st .g) (c .before .before .before .before .before .before .before .before .before .pre .0 .0) (lp .j) (lp .from) (st .rest .now) _ (c .before .before .before .before .leg .ensures) (c .before .before .before .before .before .loop-test .taken) in
-    let long = length-more (st .g) (c .before .before .before .before .before .before .before .before .before .pre .0 .0) (lp .j) (lp .from) (st .rest .now) _ l in
+    let long = length-more (st .g) (lp .j) (lp .from) (st .rest .now) _ l in
     let all = ap length (lp .inv .5) ∙ length-append (lp .inv .3) (legsText (st .g) (lp .j) (drop (lp .from) (st .rest .now))) in
     omega arith
 
@@ -88,7 +88,7 @@ loop-again c =
     let st = c .before .before .before .before .before .before .before .before .before .args in
     let lp = c .before .before .before .before .before .before .loop in
     let l = one-leg (st .g) (c .before .before .before .before .before .before .before .before .before .pre .0 .0) (lp .j) (lp .from) (st .rest .now) _ (c .before .before .before .before .leg .ensures) (c .before .before .before .before .before .loop-test .taken) in
-    let long = length-more (st .g) (c .before .before .before .before .before .before .before .before .before .pre .0 .0) (lp .j) (lp .from) (st .rest .now) _ l in
+    let long = length-more (st .g) (lp .j) (lp .from) (st .rest .now) _ l in
     let all = ap length (lp .inv .5) ∙ length-append (lp .inv .3) (legsText (st .g) (lp .j) (drop (lp .from) (st .rest .now))) in
     let w = c .before .before .write-leg in
     let t = text (leg (st .g) (lp .j + 1) (c .before .before .before .before .leg .result .now)) in (
@@ -108,7 +108,7 @@ returns : tie.Need-returns Inv-loop μ-loop
 returns c =
     let st = c .before .before .before .before .args in
     let lp = c .before .loop in
-    let all : legsText (st .g) (st .slot) (st .rest .now) ≡ lp .inv .3 = lp .inv .5 ∙ ap (λ r. lp .inv .3 ++ r) (legs-end (st .g) (c .before .before .before .before .pre .0 .0) (lp .j) (lp .from) (st .rest .now) (c .loop-test .left)) ∙ append-nil (lp .inv .3) in
+    let all : legsText (st .g) (st .slot) (st .rest .now) ≡ lp .inv .3 = lp .inv .5 ∙ ap (λ r. lp .inv .3 ++ r) (legs-end (st .g) (lp .j) (lp .from) (st .rest .now) (c .loop-test .left)) ∙ append-nil (lp .inv .3) in
     rw all (lp .inv .4, lp .inv .6)
 
 pub write-legs-spec : {M : Type 1} → statement M

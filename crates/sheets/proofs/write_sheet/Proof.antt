@@ -6,8 +6,8 @@ use native.Mathlib.Omega.{arith}
 use lib.ListN.{length, drop, length-take, length-drop}
 use Rattle.lists.proofs.Fronts.{front-from}
 use Rattle.promises.specs.Sheets.{text, sheetText}
+use Rattle.promises.proofs.Sheets.{scenario-within}
 use Rattle.sheets.specs.Writing.{partOf}
-use Rattle.sheets.proofs.SharedStarts.{scenario-within}
 use Rattle.sheets.proofs.Parts.{sheet-none, one-part, length-sheet, sheet-longer}
 use borrow.Author.Needs.{needs}
 use Rattle.sheets.proofs.write_sheet.Statement.{statement}
@@ -44,7 +44,7 @@ sub-write-part c =
     let enough = c .before .before .before .before .before .pre .2 in
     let lt : lp .k < st .m = c .before .loop-test .taken in
     let p = one-part (st .m) (st .h) (st .g) (c .before .before .before .before .before .pre .1) s enough (lp .k) _ lt (c .runs .ensures) in
-    let long = length-sheet (st .m) (st .h) (st .g) (c .before .before .before .before .before .pre .1) s enough (lp .k) _ p in
+    let long = length-sheet (st .h) (st .g) s (lp .k) _ p in
     omega (arith, sheet-longer (st .h) (st .g) s (lp .k + 1) (st .m) (omega arith))
 
 part-write-part-start : tie.Need-part-write-part-start Inv-loop μ-loop
@@ -55,7 +55,7 @@ part-write-part-start c =
     let enough = c .before .before .before .before .before .pre .2 in
     let lt : lp .k < st .m = c .before .loop-test .taken in
     let p = one-part (st .m) (st .h) (st .g) (c .before .before .before .before .before .pre .1) s enough (lp .k) _ lt (c .runs .ensures) in
-    let long = length-sheet (st .m) (st .h) (st .g) (c .before .before .before .before .before .pre .1) s enough (lp .k) _ p in
+    let long = length-sheet (st .h) (st .g) s (lp .k) _ p in
     omega (arith, sheet-longer (st .h) (st .g) s (lp .k + 1) (st .m) (omega arith))
 
 part-write-part-end : tie.Need-part-write-part-end Inv-loop μ-loop
@@ -69,7 +69,7 @@ write-part-requires c κs =
     let enough = c .before .before .before .before .before .before .pre .2 in
     let lt : lp .k < st .m = c .before .before .loop-test .taken in
     let p = one-part (st .m) (st .h) (st .g) (c .before .before .before .before .before .before .pre .1) s enough (lp .k) _ lt (c .before .runs .ensures) in
-    let long = length-sheet (st .m) (st .h) (st .g) (c .before .before .before .before .before .before .pre .1) s enough (lp .k) _ p in
+    let long = length-sheet (st .h) (st .g) s (lp .k) _ p in
     (c .before .before .before .before .before .before .pre .1, c .before .before .before .before .before .before .pre .0, p .short, simp (length-take, length-drop) (omega (arith, sheet-longer (st .h) (st .g) s (lp .k + 1) (st .m) (omega arith))))
 
 add-at : tie.Need-add-at Inv-loop μ-loop
@@ -80,7 +80,7 @@ add-at c =
     let enough = c .before .before .before .before .before .before .before .before .before .pre .2 in
     let lt : lp .k < st .m = c .before .before .before .before .before .loop-test .taken in
     let p = one-part (st .m) (st .h) (st .g) (c .before .before .before .before .before .before .before .before .before .pre .1) s enough (lp .k) _ lt (c .before .before .before .before .runs .ensures) in
-    let long = length-sheet (st .m) (st .h) (st .g) (c .before .before .before .before .before .before .before .before .before .pre .1) s enough (lp .k) _ p in
+    let long = length-sheet (st .h) (st .g) s (lp .k) _ p in
     omega (arith, sheet-longer (st .h) (st .g) s (lp .k + 1) (st .m) (omega arith))
 
 add-k : tie.Need-add-k Inv-loop μ-loop
@@ -97,7 +97,7 @@ loop-again c =
     let enough = c .before .before .before .before .before .before .before .before .before .pre .2 in
     let lt : lp .k < st .m = c .before .before .before .before .before .loop-test .taken in
     let p = one-part (st .m) (st .h) (st .g) (c .before .before .before .before .before .before .before .before .before .pre .1) s enough (lp .k) _ lt (c .before .before .before .before .runs .ensures) in
-    let long = length-sheet (st .m) (st .h) (st .g) (c .before .before .before .before .before .before .before .before .before .pre .1) s enough (lp .k) _ p in
+    let long = length-sheet (st .h) (st .g) s (lp .k) _ p in
     let w = c .before .before .write-part in (
       omega arith,
       c .before .out .given .1 ∙ lp .inv .1,
