@@ -217,8 +217,8 @@ pub extern "C" fn wandukhai_sheet(
             *answer = [length, total];
             0
         }
-        Sheeted::Refused(number, at) => {
-            *answer = [at, 0];
+        Sheeted::Refused(number, place) => {
+            *answer = [place, 0];
             number
         }
     }
