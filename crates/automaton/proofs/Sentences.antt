@@ -14,19 +14,19 @@ use lib.Dec.{eqb, ltb}
 use borrow.Author.Tests.{eq-eqb, lt-ltb, ltb-true}
 use Rattle.lists.specs.Lists.{any}
 use Rattle.lists.proofs.Tests.{case, and_right}
-use Rattle.lists.proofs.Members.{any-in}
+use Rattle.lists.proofs.Members.{any_in}
 use Rattle.automaton.specs.Automaton.{Automaton, bounded, Over, walk, Admits}
 use Rattle.automaton.proofs.Joint.{admits-state, admits-last}
 
 -- ---- events
 
-over-nil : (es : List ℕ) → Over es []
+over_nil : (es : List ℕ) → Over es []
 unfolding Over
-over-nil es e i = absurd (Memᴰ.not-nil i)
+over_nil es e i = absurd (Memᴰ.not-nil i)
 
-over-cons : (es : List ℕ) (e : ℕ) (s : List ℕ) → Over es (e ∷ s) ↔ (In e es × Over es s)
+over_cons : (es : List ℕ) (e : ℕ) (s : List ℕ) → Over es (e ∷ s) ↔ (In e es × Over es s)
 unfolding Over
-over-cons es e s = (λ o. (o e (here refl), λ d i. o d (there i)), λ o. both o)
+over_cons es e s = (λ o. (o e (here refl), λ d i. o d (there i)), λ o. both o)
   where
     both : In e es × Over es s → (d : ℕ) → In d (e ∷ s) → In d es
     both o d (here q) = subst (λ d. In d es) (sym q) o.0
@@ -39,61 +39,61 @@ Steps A Φ = (x e : ℕ) (s : List ℕ) → x < A.states → Φ x (e ∷ s) ↔ 
 
 module _ (A : Automaton) (Φ : ℕ → List ℕ → Type 0) (step : Steps A Φ) where
   -- it holds of a sequence of events just if that is admitted, and leads to a state in which it holds of nothing further
-  pub says-walk : (x : ℕ) (s : List ℕ) → x < A.states → (Over A.events s × Φ x s) ↔ (Admits A x s × Φ (walk A x s) [])
+  pub says_walk : (x : ℕ) (s : List ℕ) → x < A.states → (Over A.events s × Φ x s) ↔ (Admits A x s × Φ (walk A x s) [])
   unfolding Steps Admits walk
-  says-walk x [] h = (λ p. (h, p.1), λ p. (over-nil A.events, p.1))
-  says-walk x (e ∷ s) h = (
+  says_walk x [] h = (λ p. (h, p.1), λ p. (over_nil A.events, p.1))
+  says_walk x (e ∷ s) h = (
     λ (o, p).
-        let (i, o') = (over-cons A.events e s).0 o in
+        let (i, o') = (over_cons A.events e s).0 o in
         let (k, q) = (step x e s h).0 p in
-        let (a, r) = (says-walk (A.next x e) s k).0 (o', q) in
+        let (a, r) = (says_walk (A.next x e) s k).0 (o', q) in
         ((h, i, a), r),
     λ ((l, i, a), r).
         let k = admits-state A (A.next x e) s a in
-        let (o, q) = (says-walk (A.next x e) s k).1 (a, r) in
-        ((over-cons A.events e s).1 (i, o), (step x e s h).1 (k, q)),
+        let (o, q) = (says_walk (A.next x e) s k).1 (a, r) in
+        ((over_cons A.events e s).1 (i, o), (step x e s h).1 (k, q)),
   )
 
   -- so where it holds of nothing further in every state, it says what is admitted
-  pub says-admits : ((x : ℕ) → x < A.states → Φ x []) → (x : ℕ) (s : List ℕ) → x < A.states → Admits A x s ↔ (Over A.events s × Φ x s)
-  says-admits end x s h = (λ a. (says-walk x s h).1 (a, end (walk A x s) (admits-last A x s a)), λ p. ((says-walk x s h).0 p).0)
+  pub says_admits : ((x : ℕ) → x < A.states → Φ x []) → (x : ℕ) (s : List ℕ) → x < A.states → Admits A x s ↔ (Over A.events s × Φ x s)
+  says_admits end x s h = (λ a. (says_walk x s h).1 (a, end (walk A x s) (admits-last A x s a)), λ p. ((says_walk x s h).0 p).0)
 
 -- what is admitted is made of events
 pub admits-over : (A : Automaton) (x : ℕ) (s : List ℕ) → Admits A x s → Over A.events s
 unfolding Admits
-admits-over A x [] a = over-nil A.events
-admits-over A x (e ∷ s) (h, i, a) = (over-cons A.events e s).1 (i, admits-over A (A.next x e) s a)
+admits-over A x [] a = over_nil A.events
+admits-over A x (e ∷ s) (h, i, a) = (over_cons A.events e s).1 (i, admits-over A (A.next x e) s a)
 
 -- ---- bounds
 
 module _ (A : Automaton) where
   -- from a state on an event, a move to a state is as it was, and no other becomes one
-  bounded-next : (x e : ℕ) → x < A.states → In e A.events → A.next x e < A.states → (bounded A).next x e ≡ A.next x e
+  bounded_next : (x e : ℕ) → x < A.states → In e A.events → A.next x e < A.states → (bounded A).next x e ≡ A.next x e
   unfolding bounded
-  bounded-next x e h i k = rw (lt-ltb x A.states h, any-in (eqb e) i (eq-eqb e e refl), lt-ltb (A.next x e) A.states k)
+  bounded_next x e h i k = rw (lt-ltb x A.states h, any_in (eqb e) i (eq-eqb e e refl), lt-ltb (A.next x e) A.states k)
 
-  bounded-state : (x e : ℕ) → (bounded A).next x e < A.states → A.next x e < A.states
+  bounded_state : (x e : ℕ) → (bounded A).next x e < A.states → A.next x e < A.states
   unfolding bounded
-  bounded-state x e h =
+  bounded_state x e h =
       case ((ltb x A.states && any (eqb e) A.events) && ltb (A.next x e) A.states)
       (λ p. ltb-true (A.next x e) A.states (and_right (ltb x A.states && any (eqb e) A.events) _ p))
       (λ p. let k : A.states < A.states = rw p at h in absurd (omega arith))
 
-  pub bounded-admits : (x : ℕ) (s : List ℕ) → Admits (bounded A) x s ↔ Admits A x s
-  bounded-admits x [] = unfold Admits bounded in (λ h. h, λ h. h)
-  bounded-admits x (e ∷ s) = step (bounded-admits (A.next x e) s)
+  pub bounded_admits : (x : ℕ) (s : List ℕ) → Admits (bounded A) x s ↔ Admits A x s
+  bounded_admits x [] = unfold Admits bounded in (λ h. h, λ h. h)
+  bounded_admits x (e ∷ s) = step (bounded_admits (A.next x e) s)
     where
       step : Admits (bounded A) (A.next x e) s ↔ Admits A (A.next x e) s → Admits (bounded A) x (e ∷ s) ↔ Admits A x (e ∷ s)
-      step (to, from) = unfold Admits in (λ (h, i, a). on (unfold bounded in h) (unfold bounded in i) a, λ (h, i, a). (unfold bounded in h, unfold bounded in i, rw (bounded-next x e h i (admits-state A (A.next x e) s a)) (from a)))
+      step (to, from) = unfold Admits in (λ (h, i, a). on (unfold bounded in h) (unfold bounded in i) a, λ (h, i, a). (unfold bounded in h, unfold bounded in i, rw (bounded_next x e h i (admits-state A (A.next x e) s a)) (from a)))
         where
           on : x < A.states → In e A.events → Admits (bounded A) ((bounded A).next x e) s → (x < A.states) × In e A.events × Admits A (A.next x e) s
-          on h i a = (h, i, to (rw (bounded-next x e h i (bounded-state x e (unfold bounded in admits-state (bounded A) ((bounded A).next x e) s a))) at a))
+          on h i a = (h, i, to (rw (bounded_next x e h i (bounded_state x e (unfold bounded in admits-state (bounded A) ((bounded A).next x e) s a))) at a))
 
-  pub bounded-walk : (x : ℕ) (s : List ℕ) → Admits A x s → walk (bounded A) x s ≡ walk A x s
+  pub bounded_walk : (x : ℕ) (s : List ℕ) → Admits A x s → walk (bounded A) x s ≡ walk A x s
   unfolding Admits walk
-  bounded-walk x [] a = refl
-  bounded-walk x (e ∷ s) (h, i, a) = rw (bounded-next x e h i (admits-state A (A.next x e) s a)) (bounded-walk (A.next x e) s a)
+  bounded_walk x [] a = refl
+  bounded_walk x (e ∷ s) (h, i, a) = rw (bounded_next x e h i (admits-state A (A.next x e) s a)) (bounded_walk (A.next x e) s a)
 
-  pub bounded-stop : (x : ℕ) → x < A.states → (bounded A).stop x ≡ A.stop x
+  pub bounded_stop : (x : ℕ) → x < A.states → (bounded A).stop x ≡ A.stop x
   unfolding bounded
-  bounded-stop x h = rw (lt-ltb x A.states h)
+  bounded_stop x h = rw (lt-ltb x A.states h)

@@ -3,7 +3,7 @@
 --   unrank A r x i       == the scenario of index i from x with r events left
 --   before c es e        == the counts of the events that stand before e, together
 --   rank A x s           == the index of the scenario s from x
---   firstViolation A x s == the place of the first event of s that isn't admitted or leads to a state not live; the length of s where there is none
+--   first_violation A x s == the place of the first event of s that isn't admitted or leads to a state not live; the length of s where there is none
 -- Assumes nothing.
 use Rattle.std.specs.Prelude.{List, [], ◌∷◌, ℕ, zero, suc, ◌+◌, ◌-◌, length, ltb, eqb}
 use Rattle.lists.specs.Lists.{pick}
@@ -33,6 +33,6 @@ module _ (A : Automaton) where
   rank x (e ∷ s) = before (λ d. N A (length s) (next x d)) events e + rank (next x e) s
 
   -- refusal 14: 'first event that isn't admitted or leads to a state not live'
-  unfoldable pub firstViolation : ℕ → List ℕ → ℕ
-  firstViolation x [] = 0
-  firstViolation x (e ∷ s) = pick (live A (next x e)) (suc (firstViolation (next x e) s)) 0
+  unfoldable pub first_violation : ℕ → List ℕ → ℕ
+  first_violation x [] = 0
+  first_violation x (e ∷ s) = pick (live A (next x e)) (suc (first_violation (next x e) s)) 0

@@ -43,7 +43,7 @@ module _ (A : Automaton) where
   -- definition 3
   pub record Safe (Φ : ℕ → Bool) : Type 0 where
     pub solves : Solves Φ
-    pub greatest-of : (Ψ : ℕ → Bool) → Solves Ψ → (x : ℕ) → x < states → Ψ x ≡ true → Φ x ≡ true
+    pub greatest_of : (Ψ : ℕ → Bool) → Solves Ψ → (x : ℕ) → x < states → Ψ x ≡ true → Φ x ≡ true
 
   module _ (Φ : ℕ → Bool) where
     -- definition 4: 'f(x, u) if f(x, u) is defined and Φ(f(x, u)) = true, and undefined otherwise'
@@ -60,16 +60,16 @@ module _ (A : Automaton) where
     ξ x u k = before (λ v. or_zero (λ y. ext y k) (fgen x v)) events u
 
     -- algorithm 1, lines 6 to 10
-    unfoldable pub nb-traces : ℕ → ℕ → ℕ
-    nb-traces x₀ h = ext x₀ h
+    unfoldable pub nb_traces : ℕ → ℕ → ℕ
+    nb_traces x₀ h = ext x₀ h
 
     -- lines 14 to 19: k events are left, from x, and m is what is left of the index
-    unfoldable pub traceFrom : ℕ → ℕ → ℕ → List ℕ
-    traceFrom x zero m = []
-    traceFrom x (suc k) m =
+    unfoldable pub trace_from : ℕ → ℕ → ℕ → List ℕ
+    trace_from x zero m = []
+    trace_from x (suc k) m =
         let u = greatest (λ u. leb (ξ x u k) m) events in
-        u ∷ traceFrom (or_zero (λ y. y) (fgen x u)) k (m - ξ x u k)
+        u ∷ trace_from (or_zero (λ y. y) (fgen x u)) k (m - ξ x u k)
 
     -- lines 11 to 13
     unfoldable pub trace : ℕ → ℕ → ℕ → Option (List ℕ)
-    trace x₀ i h = pick (leb (nb-traces x₀ h) i) none (some (traceFrom x₀ h i))
+    trace x₀ i h = pick (leb (nb_traces x₀ h) i) none (some (trace_from x₀ h i))

@@ -7,16 +7,16 @@ use native.Mathlib.Omega.{arith}
 use native.Mathlib.Nat.{add-mul, mul-le-mul_right, eq-or-lt_of_le}
 use lib.ListN.{length, get_or, take, drop, set, length-take, length-drop, take-append-drop, drop_of_length-le}
 use lib.Seq.{take-add, take_at, drop_at, drop-drop, ext_get_or, get_or-take, get_or-drop, get_or-set_same, get_or-set_other}
-use Rattle.lists.specs.Lists.{concatMap}
-use Rattle.lists.proofs.Blocks.{concatMap-append, blocks-are}
+use Rattle.lists.specs.Lists.{concat_map}
+use Rattle.lists.proofs.Blocks.{concat_map-append, blocks_are}
 use Rattle.automaton.specs.Automaton.{Automaton}
 use Rattle.automaton.specs.Counting.{N, most}
 use Rattle.automaton.specs.Ranking.{unrank}
-use Rattle.ranking.specs.Ranks.{IndicesBelow, withScenarios}
-use Rattle.ranking.proofs.Walk.{length-unrank, length-concatMap-sized}
+use Rattle.ranking.specs.Ranks.{IndicesBelow, with_scenarios}
+use Rattle.ranking.proofs.Walk.{length-unrank, length_concat_map_sized}
 use Rattle.keeping.specs.Keeping.{Past}
 use Rattle.batches.specs.Batches.{AllBegun, Copied}
-use Rattle.keeping.proofs.Places.{place-below}
+use Rattle.keeping.proofs.Places.{place_below}
 
 -- one index more is copied
 pub copied_more : (is left : List ℕ) (k : ℕ) → k < length left → ((j : ℕ) → j < k → get_or left j 0 ≡ get_or is j 0) → (j : ℕ) → j < k + 1 → get_or (set left k (get_or is k 0)) j 0 ≡ get_or is j 0
@@ -28,11 +28,11 @@ copied_more is left k lt so_far j l = go (eq-or-lt_of_le {n = j} {m = k} (omega 
 
 module _ (A : Automaton) (x h : ℕ) (is : List ℕ) (below : IndicesBelow (N A h x) is) where
   -- nothing is written, and each scenario is left whole
-  pub begun-none : (states left out : List ℕ) → N A h x < most → ((k : ℕ) → k < length is → get_or states k 0 ≡ x) → Copied is left → AllBegun A x h is (h - h) h states left out
+  pub begun_none : (states left out : List ℕ) → N A h x < most → ((k : ℕ) → k < length is → get_or states k 0 ≡ x) → Copied is left → AllBegun A x h is (h - h) h states left out
   unfolding AllBegun Copied IndicesBelow
-  begun-none states left out few here copied k lt =
+  begun_none states left out few here copied k lt =
       let z : h - h ≡ 0 = omega arith in
-      rw (here k lt, copied k lt, z) (record { not-cut-off = few; is_below = below k lt; written = λ j l. absurd (omega arith); rest = refl })
+      rw (here k lt, copied k lt, z) (record { not_cut_off = few; is_below = below k lt; written = λ j l. absurd (omega arith); rest = refl })
 
   -- each scenario is written whole, in its own h bytes
   module _ (states left out after : List ℕ) (all : AllBegun A x h is (h - 0) 0 states left after) (past : Past (length is * h) out after)
@@ -40,25 +40,25 @@ module _ (A : Automaton) (x h : ℕ) (is : List ℕ) (below : IndicesBelow (N A 
     block : (k : ℕ) → k < length is → take h (drop (k * h) after) ≡ unrank A h x (get_or is k 0)
     unfolding AllBegun IndicesBelow
     block k lt =
-        let own = place-below k (length is) h lt in
+        let own = place_below k (length is) h lt in
         let n : length (take h (drop (k * h) after)) ≡ h = simp (length-take, length-drop) (omega arith) in
         ext_get_or 0 (take h (drop (k * h) after)) (unrank A h x (get_or is k 0)) (n ∙ sym (length-unrank A h x (get_or is k 0) (below k lt)))
         (λ j l. get_or-take h (drop (k * h) after) j 0 (omega arith) ∙ get_or-drop (k * h) after j 0 ∙ (all k lt).written j (omega arith))
 
-    pub all-written : after ≡ withScenarios A h x is out
-    unfolding withScenarios Past
-    all-written =
+    pub all_written : after ≡ with_scenarios A h x is out
+    unfolding with_scenarios Past
+    all_written =
         sym (take-append-drop (length is * h) after)
-        ∙ ap (λ (l : List ℕ). l ++ drop (length is * h) after) (blocks-are (unrank A h x) h is after block)
-        ∙ ap (λ (l : List ℕ). concatMap (unrank A h x) is ++ l) (ext_get_or 0 (drop (length is * h) after) (drop (length is * h) out) (rw (length-drop (length is * h) after, length-drop (length is * h) out, long))
+        ∙ ap (λ (l : List ℕ). l ++ drop (length is * h) after) (blocks_are (unrank A h x) h is after block)
+        ∙ ap (λ (l : List ℕ). concat_map (unrank A h x) is ++ l) (ext_get_or 0 (drop (length is * h) after) (drop (length is * h) out) (rw (length-drop (length is * h) after, length-drop (length is * h) out, long))
         (λ j l. get_or-drop (length is * h) after j 0 ∙ past (length is * h + j) (omega arith) ∙ sym (get_or-drop (length is * h) out j 0)))
 
 -- ---- batches one after the other
 
 module _ (A : Automaton) (x h : ℕ) (is : List ℕ) (below : IndicesBelow (N A h x) is) where
-  part-below : (n m : ℕ) → n + m ≤ length is → IndicesBelow (N A h x) (take m (drop n is))
+  part_below : (n m : ℕ) → n + m ≤ length is → IndicesBelow (N A h x) (take m (drop n is))
   unfolding IndicesBelow
-  part-below n m le k lt =
+  part_below n m le k lt =
       let few : length (take m (drop n is)) ≡ m = simp (length-take, length-drop) (omega arith) in
       rw (get_or-take m (drop n is) k 0 (omega arith), get_or-drop n is k 0) (below (n + k) (omega arith))
 
@@ -67,36 +67,36 @@ module _ (A : Automaton) (x h : ℕ) (is : List ℕ) (below : IndicesBelow (N A 
     abbrev part : List ℕ
     part = take (to - n) (drop n is)
 
-    pub batch-below : IndicesBelow (N A h x) part
-    batch-below = part-below n (to - n) (omega arith)
+    pub batch_below : IndicesBelow (N A h x) part
+    batch_below = part_below n (to - n) (omega arith)
 
-    part-long : length part ≡ to - n
-    part-long = simp (length-take, length-drop) (omega arith)
+    part_long : length part ≡ to - n
+    part_long = simp (length-take, length-drop) (omega arith)
 
-    written-long : (l : List ℕ) → IndicesBelow (N A h x) l → length (concatMap (unrank A h x) l) ≡ length l * h
+    written_long : (l : List ℕ) → IndicesBelow (N A h x) l → length (concat_map (unrank A h x) l) ≡ length l * h
     unfolding IndicesBelow
-    written-long l b = length-concatMap-sized (unrank A h x) h l (λ k lt. length-unrank A h x (get_or l k 0) (b k lt))
+    written_long l b = length_concat_map_sized (unrank A h x) h l (λ k lt. length-unrank A h x (get_or l k 0) (b k lt))
 
     -- its scenarios follow those before it
-    pub batch-more : (d out last : List ℕ) → to * h ≤ length d → out ≡ concatMap (unrank A h x) (take n is) ++ drop (n * h) d
-        → last ≡ withScenarios A h x part (take (to * h - n * h) (drop (n * h) out))
-        → take (n * h) out ++ (last ++ drop (to * h - n * h) (drop (n * h) out)) ≡ concatMap (unrank A h x) (take to is) ++ drop (to * h) d
-    unfolding withScenarios
-    batch-more d out last room now back =
+    pub batch_more : (d out last : List ℕ) → to * h ≤ length d → out ≡ concat_map (unrank A h x) (take n is) ++ drop (n * h) d
+        → last ≡ with_scenarios A h x part (take (to * h - n * h) (drop (n * h) out))
+        → take (n * h) out ++ (last ++ drop (to * h - n * h) (drop (n * h) out)) ≡ concat_map (unrank A h x) (take to is) ++ drop (to * h) d
+    unfolding with_scenarios
+    batch_more d out last room now back =
         let f = unrank A h x in
         let few : length (take n is) ≡ n = simp length-take (omega arith) in
-        let len : length (concatMap f (take n is)) ≡ n * h = written-long (take n is) (part-below 0 n (omega arith)) ∙ ap (λ (k : ℕ). k * h) few in
-        let w : take (n * h) out ≡ concatMap f (take n is) = ap (take (n * h)) now ∙ take_at (concatMap f (take n is)) (drop (n * h) d) (n * h) len in
-        let r : drop (n * h) out ≡ drop (n * h) d = ap (drop (n * h)) now ∙ drop_at (concatMap f (take n is)) (drop (n * h) d) (n * h) len in
+        let len : length (concat_map f (take n is)) ≡ n * h = written_long (take n is) (part_below 0 n (omega arith)) ∙ ap (λ (k : ℕ). k * h) few in
+        let w : take (n * h) out ≡ concat_map f (take n is) = ap (take (n * h)) now ∙ take_at (concat_map f (take n is)) (drop (n * h) d) (n * h) len in
+        let r : drop (n * h) out ≡ drop (n * h) d = ap (drop (n * h)) now ∙ drop_at (concat_map f (take n is)) (drop (n * h) d) (n * h) len in
         let order : n * h ≤ to * h = mul-le-mul_right h le in
-        let sub : (to - n) * h ≡ to * h - n * h = omega (arith, add-mul n (to - n) h, ap (λ (k : ℕ). k * h) (split-to)) in
+        let sub : (to - n) * h ≡ to * h - n * h = omega (arith, add-mul n (to - n) h, ap (λ (k : ℕ). k * h) (split_to)) in
         let none : drop (length part * h) (take (to * h - n * h) (drop (n * h) out)) ≡ [] =
-        drop_of_length-le (take (to * h - n * h) (drop (n * h) out)) {i = length part * h} (rw (part-long, sub, length-take) (omega arith)) in
+        drop_of_length-le (take (to * h - n * h) (drop (n * h) out)) {i = length part * h} (rw (part_long, sub, length-take) (omega arith)) in
         let past : n * h + (to * h - n * h) ≡ to * h = omega arith in
         let tail : drop (to * h - n * h) (drop (n * h) out) ≡ drop (to * h) d = ap (drop (to * h - n * h)) r ∙ drop-drop (to * h - n * h) (n * h) d ∙ ap (λ (k : ℕ). drop k d) past in
-        let all : concatMap f (take to is) ≡ concatMap f (take n is) ++ concatMap f part =
-        ap (λ (k : ℕ). concatMap f (take k is)) (sym split-to) ∙ ap (concatMap f) (take-add n (to - n) is) ∙ concatMap-append f (take n is) part in
-        rw (back, none, append-nil, tail, w, all) (sym (append_assoc (concatMap f (take n is)) (concatMap f part) (drop (to * h) d)))
+        let all : concat_map f (take to is) ≡ concat_map f (take n is) ++ concat_map f part =
+        ap (λ (k : ℕ). concat_map f (take k is)) (sym split_to) ∙ ap (concat_map f) (take-add n (to - n) is) ∙ concat_map-append f (take n is) part in
+        rw (back, none, append-nil, tail, w, all) (sym (append_assoc (concat_map f (take n is)) (concat_map f part) (drop (to * h) d)))
       where
-        split-to : n + (to - n) ≡ to
-        split-to = omega arith
+        split_to : n + (to - n) ≡ to
+        split_to = omega arith

@@ -13,17 +13,17 @@ use Rattle.lists.proofs.Tests.{split}
 use Rattle.automaton.specs.Automaton.{Automaton}
 use Rattle.automaton.specs.Ranking.{unrank}
 use Rattle.ranking.specs.Ranks.{Unranked, Begun}
-use Rattle.ranking.proofs.Parts.{unranked-long, begun_more}
+use Rattle.ranking.proofs.Parts.{unranked_long, begun_more}
 use Rattle.keeping.specs.Keeping.{Past}
 use Rattle.batches.specs.Batches.{AllBegun, StatesBelow}
-use Rattle.lists.proofs.Splices.{splice-before, splice-past}
-use Rattle.keeping.proofs.Places.{place-below}
+use Rattle.lists.proofs.Splices.{splice_before, splice_past}
+use Rattle.keeping.proofs.Places.{place_below}
 
 module _ (A : Automaton) (x h : ℕ) where
   -- bytes written beside it
-  begun-beside : (i at b s l o : ℕ) (out after : List ℕ) → ((j : ℕ) → j < at → get_or after (o + j) 0 ≡ get_or out (o + j) 0) → Begun A x h i at b s l o out → Begun A x h i at b s l o after
-  begun-beside i at b s l o out after same is = record {
-    not-cut-off = is.not-cut-off;
+  begun_beside : (i at b s l o : ℕ) (out after : List ℕ) → ((j : ℕ) → j < at → get_or after (o + j) 0 ≡ get_or out (o + j) 0) → Begun A x h i at b s l o out → Begun A x h i at b s l o after
+  begun_beside i at b s l o out after same is = record {
+    not_cut_off = is.not_cut_off;
     is_below = is.is_below;
     written = λ j lt. same j lt ∙ is.written j lt;
     rest = is.rest;
@@ -39,9 +39,9 @@ module _ (A : Automaton) (x h : ℕ) (is : List ℕ) (at n b : ℕ) where
   unfolding AllBegun
   passed_none states left out all = record { done = λ j lt. absurd (omega arith); ahead = λ j le lt. all j lt }
 
-  pub passed-all : (k : ℕ) (states left out : List ℕ) → k ≡ length is → Passed A x h is at n b k states left out → AllBegun A x h is (at + n) b states left out
+  pub passed_all : (k : ℕ) (states left out : List ℕ) → k ≡ length is → Passed A x h is at n b k states left out → AllBegun A x h is (at + n) b states left out
   unfolding AllBegun
-  passed-all k states left out e p j lt = p.done j (omega arith)
+  passed_all k states left out e p j lt = p.done j (omega arith)
 
   module _ (k : ℕ) (states left out last : List ℕ) (s' l' : ℕ) (lt : k < length is) (within : at + n ≤ h) (fits : length is * h ≤ length out)
       (some : k < length states) (some_left : k < length left) (p : Passed A x h is at n b k states left out)
@@ -50,7 +50,7 @@ module _ (A : Automaton) (x h : ℕ) (is : List ℕ) (at n b : ℕ) where
     part = subst (λ (j : ℕ). Unranked A b j (get_or states k 0) (get_or left k 0) last s' l') m-is told
 
     long : length last ≡ n
-    long = unranked-long A b n (get_or states k 0) (get_or left k 0) last s' l' (p.ahead k (omega arith) lt).is_below part
+    long = unranked_long A b n (get_or states k 0) (get_or left k 0) last s' l' (p.ahead k (omega arith) lt).is_below part
 
     abbrev from : ℕ
     from = k * h + at
@@ -58,19 +58,19 @@ module _ (A : Automaton) (x h : ℕ) (is : List ℕ) (at n b : ℕ) where
     abbrev written : List ℕ
     written = take from out ++ (last ++ drop n (drop from out))
 
-    own-end : k * h + h ≤ length out
-    own-end = omega (arith, place-below k (length is) h lt)
+    own_end : k * h + h ≤ length out
+    own_end = omega (arith, place_below k (length is) h lt)
 
     room : from + n ≤ length out
-    room = omega (arith, own-end)
+    room = omega (arith, own_end)
 
     beside : (j : ℕ) → j ≢ k → (i at b : ℕ) → at ≤ h → Begun A x h i at b (get_or states j 0) (get_or left j 0) (j * h) out
         → Begun A x h i at b (get_or (set states k s') j 0) (get_or (set left k l') j 0) (j * h) written
     beside j ne i at' b' le is' =
-        rw (get_or-set_other states k j s' 0 ne, get_or-set_other left k j l' 0 ne) (begun-beside A x h i at' b' (get_or states j 0) (get_or left j 0) (j * h) out written (λ m l. same m l (split k j)) is')
+        rw (get_or-set_other states k j s' 0 ne, get_or-set_other left k j l' 0 ne) (begun_beside A x h i at' b' (get_or states j 0) (get_or left j 0) (j * h) out written (λ m l. same m l (split k j)) is')
       where
         same : (m : ℕ) → m < at' → (k ≤ j) ⊎ (j < k) → get_or written (j * h + m) 0 ≡ get_or out (j * h + m) 0
-        same m l (inl kj) = splice-past out last from n 0 room long (j * h + m) (omega (arith, place-below k j h (next kj ne)))
+        same m l (inl kj) = splice_past out last from n 0 room long (j * h + m) (omega (arith, place_below k j h (next kj ne)))
           where
             next : k ≤ j → j ≢ k → k < j
             next a b = go (eq-or-lt_of_le a)
@@ -78,7 +78,7 @@ module _ (A : Automaton) (x h : ℕ) (is : List ℕ) (at n b : ℕ) where
                 go : (k ≡ j) ⊎ (k < j) → k < j
                 go (inl q) = absurd (b (sym q))
                 go (inr q) = q
-        same m l (inr jk) = splice-before out last from n 0 room long (j * h + m) (omega (arith, place-below j k h jk))
+        same m l (inr jk) = splice_before out last from n 0 room long (j * h + m) (omega (arith, place_below j k h jk))
 
     done_more : (j : ℕ) → (j ≡ k) ⊎ (j < k) → Begun A x h (get_or is j 0) (at + n) b (get_or (set states k s') j 0) (get_or (set left k l') j 0) (j * h) written
     done_more j (inl q) =
@@ -92,10 +92,10 @@ module _ (A : Automaton) (x h : ℕ) (is : List ℕ) (at n b : ℕ) where
       ahead = λ j le l. beside j (λ q. omega arith) (get_or is j 0) at (b + n) (omega arith) (p.ahead j (omega arith) l);
     }
 
-    pub passed-more : (d : List ℕ) → Past (length is * h) d out → Passed A x h is at n b (k + 1) (set states k s') (set left k l') (take from out ++ (last ++ drop w (drop from out)))
+    pub passed_more : (d : List ℕ) → Past (length is * h) d out → Passed A x h is at n b (k + 1) (set states k s') (set left k l') (take from out ++ (last ++ drop w (drop from out)))
         × Past (length is * h) d (take from out ++ (last ++ drop w (drop from out)))
     unfolding Past
-    passed-more d past = rw w-is (next, λ i le. splice-past out last from n 0 room long i (omega (arith, place-below k (length is) h lt)) ∙ past i le)
+    passed_more d past = rw w-is (next, λ i le. splice_past out last from n 0 room long i (omega (arith, place_below k (length is) h lt)) ∙ past i le)
 
 -- a state told is stored
 pub states-set : (p m k v : ℕ) (states : List ℕ) → v < p → k < length states → StatesBelow p m states → StatesBelow p m (set states k v)
@@ -107,5 +107,5 @@ states-set p m k v states lt some all j l = go (ℕ_discrete j k)
     go (no n) = rw (get_or-set_other states k j v 0 n) (all j l)
 
 -- so many events are written, by another sum
-pub begun-at : (A : Automaton) (x h : ℕ) (is : List ℕ) (b : ℕ) (states left out : List ℕ) {at to : ℕ} → at ≡ to → AllBegun A x h is at b states left out → AllBegun A x h is to b states left out
-begun-at A x h is b states left out e all = subst (λ (n : ℕ). AllBegun A x h is n b states left out) e all
+pub begun_at : (A : Automaton) (x h : ℕ) (is : List ℕ) (b : ℕ) (states left out : List ℕ) {at to : ℕ} → at ≡ to → AllBegun A x h is at b states left out → AllBegun A x h is to b states left out
+begun_at A x h is b states left out e all = subst (λ (n : ℕ). AllBegun A x h is n b states left out) e all

@@ -11,7 +11,7 @@ use Rattle.std.specs.Prelude.{◌≡◌, List, ℕ, ◌+◌, ◌-◌, ◌*◌, �
 use Rattle.automaton.specs.Automaton.{Automaton}
 use Rattle.automaton.specs.Counting.{N, most}
 use Rattle.counting.specs.Tabled.{Tabled}
-use Rattle.ranking.specs.Ranks.{HoldsRows, Begun, IndicesBelow, withScenarios}
+use Rattle.ranking.specs.Ranks.{HoldsRows, Begun, IndicesBelow, with_scenarios}
 use Rattle.keeping.specs.Keeping.{Sixteenths, Past}
 
 unfoldable pub StatesBelow : ℕ → ℕ → List ℕ → Type 0
@@ -35,7 +35,7 @@ unfoldable pub Copied : List ℕ → List ℕ → Type 0
 Copied is left = (k : ℕ) → k < length is → get_or left k 0 ≡ get_or is k 0
 
 pub record Listed (A : Automaton) (p x h : ℕ) (is cells cells' out out' : List ℕ) : Type 0 where
-  pub written : out' ≡ withScenarios A h x is out
+  pub written : out' ≡ with_scenarios A h x is out
   pub kept : Sixteenths A p (h / 16) cells'
   pub past : Past ((h / 16 + 16) * p) cells cells'
 

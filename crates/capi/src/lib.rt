@@ -2,12 +2,12 @@
 ghost use Rattle.std.specs.Prelude.{◌≡◌};
 ghost use Rattle.promises.specs.Calls.{ShuffleKeeps};
 ghost use Rattle.promises.specs.Calls as promised;
-ghost use Rattle.promises.specs.Small.{small, smallOutput, SmallKeeps};
+ghost use Rattle.promises.specs.Small.{small, small_output, SmallKeeps};
 ghost use Rattle.promises.specs.Forward.{forward, ForwardKeeps};
-ghost use Rattle.promises.specs.Draws.{draws as drawn, drawsOutput};
-ghost use Rattle.promises.specs.Sheets.{sheetCall, sheetOutput};
+ghost use Rattle.promises.specs.Draws.{draws as drawn, draws_output};
+ghost use Rattle.promises.specs.Sheets.{sheet_call, sheet_output};
 ghost use Rattle.shuffle.specs.Outcome.{answer_of};
-ghost use Rattle.generator.specs.Outcomes.{countAnswer, listAnswer};
+ghost use Rattle.generator.specs.Outcomes.{count_answer, list_answer};
 ghost use Rattle.capi.specs.Words.{number_of, words_of, word_of};
 
 use generator::{Counted, Indexed, Listed};
@@ -24,7 +24,7 @@ pub extern "C" fn wandukhai_count(
 ) -> u64
     ensures value { result ≡ number_of (promised.count text.now h cells.old) }
     ensures answer_after { answer.new ≡ words_of (promised.count text.now h cells.old) }
-    ensures cells_after { cells.new ≡ promised.countCells text.now h cells.old }
+    ensures cells_after { cells.new ≡ promised.count_cells text.now h cells.old }
 {
     let counted = generator::count(text, h, cells);
     tell_counted(counted, answer)
@@ -48,8 +48,8 @@ pub extern "C" fn wandukhai_count_forward(
 
 // Tells the answer of a call that counts: its number, and N and the passes, or the place and 0.
 fn tell_counted(counted: Counted, answer: &mut [u64; 2]) -> u64
-    ensures value { result ≡ number_of (countAnswer counted) }
-    ensures answer_after { answer.new ≡ words_of (countAnswer counted) }
+    ensures value { result ≡ number_of (count_answer counted) }
+    ensures answer_after { answer.new ≡ words_of (count_answer counted) }
 {
     match counted {
         Counted::Served(n, passes) => {
@@ -75,7 +75,7 @@ pub extern "C" fn wandukhai_scenarios(
 ) -> u64
     ensures value { result ≡ number_of (promised.scenarios text.now h list.now cells.old out.old) }
     ensures place_after { place.new ≡ word_of (promised.scenarios text.now h list.now cells.old out.old) }
-    ensures cells_after { cells.new ≡ promised.scenariosCells text.now h list.now cells.old out.old }
+    ensures cells_after { cells.new ≡ promised.scenarios_cells text.now h list.now cells.old out.old }
     ensures out_after { out.new ≡ promised.written text.now h list.now cells.old out.old }
 {
     let listed = generator::scenarios(text, h, list, cells, out);
@@ -95,7 +95,7 @@ pub extern "C" fn wandukhai_scenarios_small(
     ensures value { result ≡ number_of (small text.now h list.now cells.old out.old) }
     ensures place_after { place.new ≡ word_of (small text.now h list.now cells.old out.old) }
     ensures small_keeps { SmallKeeps text.now h list.now cells.old out.old cells.new }
-    ensures out_after { out.new ≡ smallOutput text.now h list.now cells.old out.old }
+    ensures out_after { out.new ≡ small_output text.now h list.now cells.old out.old }
 {
     let listed = small::scenarios_small(text, h, list, cells, out);
     tell_listed(listed, place)
@@ -103,8 +103,8 @@ pub extern "C" fn wandukhai_scenarios_small(
 
 // Tells the answer of a call that lists scenarios: its number, and the place.
 fn tell_listed(listed: Listed, place: &mut u64) -> u64
-    ensures value { result ≡ number_of (listAnswer listed) }
-    ensures place_after { place.new ≡ word_of (listAnswer listed) }
+    ensures value { result ≡ number_of (list_answer listed) }
+    ensures place_after { place.new ≡ word_of (list_answer listed) }
 {
     match listed {
         Listed::Served => {
@@ -128,7 +128,7 @@ pub extern "C" fn wandukhai_index(
 ) -> u64
     ensures value { result ≡ number_of (promised.index text.now sequence.now cells.old) }
     ensures answer_after { answer.new ≡ word_of (promised.index text.now sequence.now cells.old) }
-    ensures cells_after { cells.new ≡ promised.indexCells text.now sequence.now cells.old }
+    ensures cells_after { cells.new ≡ promised.index_cells text.now sequence.now cells.old }
 {
     let indexed = generator::index(text, sequence, cells);
     match indexed {
@@ -173,7 +173,7 @@ pub extern "C" fn wandukhai_draws(
 ) -> u64
     ensures value { result ≡ number_of (drawn n z seed limit out.old) }
     ensures place_after { place.new ≡ word_of (drawn n z seed limit out.old) }
-    ensures out_after { out.new ≡ drawsOutput n z seed limit out.old }
+    ensures out_after { out.new ≡ draws_output n z seed limit out.old }
 {
     let answered = draws::draws(n, z, seed, limit, out);
     tell_answered(answered, place)
@@ -206,9 +206,9 @@ pub extern "C" fn wandukhai_sheet(
     out: &mut [u8],
     answer: &mut [u64; 2],
 ) -> u64
-    ensures value { result ≡ number_of (sheetCall m h g scenarios.now out.old) }
-    ensures answer_after { answer.new ≡ words_of (sheetCall m h g scenarios.now out.old) }
-    ensures out_after { out.new ≡ sheetOutput m h g scenarios.now out.old }
+    ensures value { result ≡ number_of (sheet_call m h g scenarios.now out.old) }
+    ensures answer_after { answer.new ≡ words_of (sheet_call m h g scenarios.now out.old) }
+    ensures out_after { out.new ≡ sheet_output m h g scenarios.now out.old }
 {
     let sheeted = sheets::sheet(scenarios, m, h, g, out);
     match sheeted {

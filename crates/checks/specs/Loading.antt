@@ -1,6 +1,6 @@
 -- What rows 1 to 8 and 16 to 18 come to, for a call on a text.
---   checkedOr c a                  == the refusal that c tells, or a where it tells none
---   rowsFor k h                    == how many rows of cells a call needs that keeps the rows k
+--   checked_or c a                  == the refusal that c tells, or a where it tells none
+--   rows_for k h                    == how many rows of cells a call needs that keeps the rows k
 --   FitsFor r states x rows h room == the record r has so many joint states and starts in x, and h and the room for so many rows of cells are as sized
 --   Fits r states x h room         == so for all rows up to h
 --   Ready t rows h room r states x == the record r stands for the readable text t, and fits
@@ -10,34 +10,34 @@
 -- after which the cells are filled. Assumes nothing.
 use Rattle.std.specs.Prelude.{◌≡◌, false, List, ℕ, ◌+◌, ◌*◌, ◌≤◌, ◌<◌, length}
 use Rattle.rig.specs.declared.Rig.{Rig}
-use Rattle.rig.specs.Record.{recordAutomaton, recordStart, WellFormed}
+use Rattle.rig.specs.Record.{record_automaton, record_start, WellFormed}
 use Rattle.promises.specs.Answer.{Answer, refused}
-use Rattle.promises.specs.Text.{decoded, eventsOf, Readable}
-use Rattle.promises.specs.Rig.{rigAutomaton, start}
-use Rattle.promises.specs.Calls.{sizeRows, fills, sizedFor}
-use Rattle.promises.specs.Small.{smallRows}
-use Rattle.promises.specs.Forward.{forwardRows}
-use Rattle.reader.specs.Reading.{recordOf}
+use Rattle.promises.specs.Text.{decoded, events_of, Readable}
+use Rattle.promises.specs.Rig.{rig_automaton, start}
+use Rattle.promises.specs.Calls.{size_rows, fills, sized_for}
+use Rattle.promises.specs.Small.{small_rows}
+use Rattle.promises.specs.Forward.{forward_rows}
+use Rattle.reader.specs.Reading.{record_of}
 use Rattle.checks.specs.declared.Checked.{Checked}
 use Rattle.checks.specs.declared.Checked.TheVariants.{Passed, Refused}
 use Rattle.checks.specs.declared.Rows.{Rows}
 use Rattle.checks.specs.declared.Rows.TheVariants.{All, Sixteenths, Two}
 use Rattle.checks.specs.declared.Loaded.{Loaded}
 
-abbrev pub checkedOr : Checked → Answer → Answer
-checkedOr Passed a = a
-checkedOr (Refused number place) a = refused number place
+abbrev pub checked_or : Checked → Answer → Answer
+checked_or Passed a = a
+checked_or (Refused number place) a = refused number place
 
-abbrev pub rowsFor : Rows → ℕ → ℕ
-rowsFor All h = h + 1
-rowsFor Sixteenths h = smallRows h
-rowsFor Two h = forwardRows
+abbrev pub rows_for : Rows → ℕ → ℕ
+rows_for All h = h + 1
+rows_for Sixteenths h = small_rows h
+rows_for Two h = forward_rows
 
 pub record FitsFor (r : Rig) (states x rows h room : ℕ) : Type 0 where
-  pub well-formed : WellFormed r
-  pub joint : states ≡ (recordAutomaton r).states
-  pub starts : x ≡ recordStart r
-  pub start-below : x < states
+  pub well_formed : WellFormed r
+  pub joint : states ≡ (record_automaton r).states
+  pub starts : x ≡ record_start r
+  pub start_below : x < states
   pub horizon : h ≤ 1000
   pub enough : rows * states ≤ room
 
@@ -46,21 +46,21 @@ Fits r states x h room = FitsFor r states x (h + 1) h room
 
 pub record Ready (t : List ℕ) (rows h room : ℕ) (r : Rig) (states x : ℕ) : Type 0 where
   pub readable : Readable t
-  pub automaton : recordAutomaton r ≡ rigAutomaton t
-  pub events : r.events ≡ eventsOf (decoded t)
+  pub automaton : record_automaton r ≡ rig_automaton t
+  pub events : r.events ≡ events_of (decoded t)
   pub starts : x ≡ start t
   pub fits : FitsFor r states x rows h room
 
 pub record ChecksSizes (r : Rig) (rows h room : ℕ) (o : Loaded) : Type 0 where
-  pub answer : (a : Answer) → sizeRows rows (recordAutomaton r).states h room a ≡ checkedOr o.checked a
+  pub answer : (a : Answer) → size_rows rows (record_automaton r).states h room a ≡ checked_or o.checked a
   pub untouched : (n p : ℕ) → o.checked ≡ Refused n p → fills (refused n p) ≡ false
-  pub refused-states : (n p : ℕ) → o.checked ≡ Refused n p → (o.states ≡ 0) × (o.start ≡ 0)
+  pub refused_states : (n p : ℕ) → o.checked ≡ Refused n p → (o.states ≡ 0) × (o.start ≡ 0)
   pub same : o.rig ≡ r
   pub passed : o.checked ≡ Passed → FitsFor r o.states o.start rows h room
 
 pub record Loads (t : List ℕ) (rows h room : ℕ) (o : Loaded) : Type 0 where
-  pub answer : (cells : List ℕ) (a : Answer) → length cells ≡ room → sizedFor t rows h cells a ≡ checkedOr o.checked a
+  pub answer : (cells : List ℕ) (a : Answer) → length cells ≡ room → sized_for t rows h cells a ≡ checked_or o.checked a
   pub untouched : (n p : ℕ) → o.checked ≡ Refused n p → fills (refused n p) ≡ false
-  pub refused-states : (n p : ℕ) → o.checked ≡ Refused n p → (o.states ≡ 0) × (o.start ≡ 0)
-  pub is-record : o.rig ≡ recordOf t
+  pub refused_states : (n p : ℕ) → o.checked ≡ Refused n p → (o.states ≡ 0) × (o.start ≡ 0)
+  pub is_record : o.rig ≡ record_of t
   pub ready : o.checked ≡ Passed → Ready t rows h room o.rig o.states o.start

@@ -1,7 +1,7 @@
 // Rows 1 to 8 and 16 to 18 of the table of refusals: the text, the horizon and the room for the cells, checked before anything is written.
 ghost use Rattle.std.specs.Prelude.{◌≡◌, ◌≤◌};
 ghost use Rattle.rig.specs.Record.{WellFormed};
-ghost use Rattle.checks.specs.Loading.{rowsFor, Loads, ChecksSizes};
+ghost use Rattle.checks.specs.Loading.{rows_for, Loads, ChecksSizes};
 
 use reader::Verdict;
 use rig::Rig;
@@ -32,7 +32,7 @@ pub struct Loaded {
 
 // Rows 1 to 8 and 16 to 18: the text, the horizon, and the room for the cells.
 pub fn load(text: &[u8], h: u64, rows: Rows, room: usize) -> Loaded
-    ensures { Loads text.now (rowsFor rows h) h room result }
+    ensures { Loads text.now (rows_for rows h) h room result }
 {
     let r = reader::read(text);
     let verdict = r.verdict;
@@ -51,7 +51,7 @@ pub fn load(text: &[u8], h: u64, rows: Rows, room: usize) -> Loaded
 // Rows 7 and 8, for a record that was read.
 fn check_sizes(rig: Rig, h: u64, rows: Rows, room: usize) -> Loaded
     requires { WellFormed rig }
-    ensures { ChecksSizes rig (rowsFor rows h) h room result }
+    ensures { ChecksSizes rig (rows_for rows h) h room result }
 {
     if 1000 < h {
         return Loaded {
@@ -82,7 +82,7 @@ fn check_sizes(rig: Rig, h: u64, rows: Rows, room: usize) -> Loaded
 // How many rows of cells there must be room for.
 fn needed_rows(rows: Rows, h: usize) -> usize
     requires { h ≤ 1000 }
-    ensures { result ≡ rowsFor rows h }
+    ensures { result ≡ rows_for rows h }
 {
     match rows {
         Rows::All => h + 1,

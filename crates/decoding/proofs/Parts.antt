@@ -11,27 +11,27 @@ use lib.Dec.{eqb}
 use borrow.Author.Tests.{eq-eqb, ne_eqb}
 use Rattle.lists.specs.Lists.{pick, index_of}
 use Rattle.lists.proofs.Tests.{case}
-use Rattle.promises.specs.Text.{onto, splitOn, same}
+use Rattle.promises.specs.Text.{onto, split_on, same}
 
 -- ---- where a byte first stands, stepped over
 
 module _ (s : List ℕ) (b i : ℕ) where
-  pub indexOf-here : i < length s → get_or s i 0 ≡ b → index_of (drop i s) b ≡ 0
+  pub index_of_here : i < length s → get_or s i 0 ≡ b → index_of (drop i s) b ≡ 0
   unfolding index_of
-  indexOf-here h q = rw (drop-cons s i 0 h, eq-eqb _ _ q)
+  index_of_here h q = rw (drop-cons s i 0 h, eq-eqb _ _ q)
 
-  pub indexOf-more : i < length s → (get_or s i 0 ≡ b → ⊥) → index_of (drop i s) b ≡ suc (index_of (drop (i + 1) s) b)
+  pub index_of_more : i < length s → (get_or s i 0 ≡ b → ⊥) → index_of (drop i s) b ≡ suc (index_of (drop (i + 1) s) b)
   unfolding index_of
-  indexOf-more h q = rw (drop-cons s i 0 h, ne_eqb _ _ q, add-one)
+  index_of_more h q = rw (drop-cons s i 0 h, ne_eqb _ _ q, add-one)
 
-  pub indexOf-end : length s ≤ i → index_of (drop i s) b ≡ 0
+  pub index_of_end : length s ≤ i → index_of (drop i s) b ≡ 0
   unfolding index_of
-  indexOf-end h = rw (drop_of_length-le s {i = i} h)
+  index_of_end h = rw (drop_of_length-le s {i = i} h)
 
-pub indexOf-le : (l : List ℕ) (b : ℕ) → index_of l b ≤ length l
+pub index_of_le : (l : List ℕ) (b : ℕ) → index_of l b ≤ length l
 unfolding index_of
-indexOf-le [] b = omega arith
-indexOf-le (x ∷ l) b = go (eqb x b) (indexOf-le l b)
+index_of_le [] b = omega arith
+index_of_le (x ∷ l) b = go (eqb x b) (index_of_le l b)
   where
     go : (t : Bool) → index_of l b ≤ length l → pick t 0 (suc (index_of l b)) ≤ suc (length l)
     go true h = omega arith
@@ -40,16 +40,16 @@ indexOf-le (x ∷ l) b = go (eqb x b) (indexOf-le l b)
 -- ---- the pieces
 
 -- nothing parts the list
-pub splitOn-whole : (b : ℕ) (l : List ℕ) → length l ≤ index_of l b → splitOn b l ≡ l ∷ []
-unfolding index_of splitOn onto
-splitOn-whole b [] h = refl
-splitOn-whole b (x ∷ l) h = case (eqb x b) (λ p. let z = rw p at h in absurd (omega arith)) (λ p. let z = rw p at h in rw (p, splitOn-whole b l (omega arith)))
+pub split_on-whole : (b : ℕ) (l : List ℕ) → length l ≤ index_of l b → split_on b l ≡ l ∷ []
+unfolding index_of split_on onto
+split_on-whole b [] h = refl
+split_on-whole b (x ∷ l) h = case (eqb x b) (λ p. let z = rw p at h in absurd (omega arith)) (λ p. let z = rw p at h in rw (p, split_on-whole b l (omega arith)))
 
 -- the first piece, and the pieces of what follows it
-pub splitOn-first : (b : ℕ) (l : List ℕ) → index_of l b < length l → splitOn b l ≡ take (index_of l b) l ∷ splitOn b (drop (index_of l b + 1) l)
-unfolding index_of splitOn onto
-splitOn-first b [] h = absurd (omega arith)
-splitOn-first b (x ∷ l) h = case (eqb x b) (λ p. rw p) (λ p. let z = rw p at h in rw (p, splitOn-first b l (omega arith), add-one (index_of l b), add-one))
+pub split_on-first : (b : ℕ) (l : List ℕ) → index_of l b < length l → split_on b l ≡ take (index_of l b) l ∷ split_on b (drop (index_of l b + 1) l)
+unfolding index_of split_on onto
+split_on-first b [] h = absurd (omega arith)
+split_on-first b (x ∷ l) h = case (eqb x b) (λ p. rw p) (λ p. let z = rw p at h in rw (p, split_on-first b l (omega arith), add-one (index_of l b), add-one))
 
 -- ---- two lists, byte by byte
 

@@ -5,15 +5,15 @@
 --   part_of p         == the line p of a monitor, likewise
 --   form_of l         == the line form l, likewise; of an `ord` line, how many events it lists
 --   over es os       == the numbers es as bytes, 255 for a larger one, written over the front of os as far as that goes
---   orOther f n      == the form of the number n, or `other` where there is none
---   pairOr f p       == the form of the two numbers of p, likewise
---   signedOr f x     == the form of the signed number x, likewise
---   asField n more i == the field that is the number n, the next one starting at i where there is more
+--   or_other f n      == the form of the number n, or `other` where there is none
+--   pair_or f p       == the form of the two numbers of p, likewise
+--   signed_or f x     == the form of the signed number x, likewise
+--   as_field n more i == the field that is the number n, the next one starting at i where there is more
 --   field_of l        == the first field of what is left of a line
---   fieldsFrom l k   == the fields after the byte 9 at k, none where the line l ends there
+--   fields_from l k   == the fields after the byte 9 at k, none where the line l ends there
 --   leading fs       == the numbers that the fields fs begin with, up to the first that is none
---   listedIn l       == these of the line l where its word is `ord`, else none
---   fieldBy rest l x == what `rest` makes of the field x, the first of l, and of the fields after it
+--   listed_in l       == these of the line l where its word is `ord`, else none
+--   field_by rest l x == what `rest` makes of the field x, the first of l, and of the fields after it
 -- A new line form is one constructor of Kind, Part or Form and one clause here. Assumes nothing.
 use Rattle.std.specs.Prelude.{Bool, List, [], ◌∷◌, ℕ, ◌+◌, min, ℤ, length, take, drop, ltb}
 use Rattle.std.proofs.Math.Option.{Option, none, some}
@@ -69,41 +69,41 @@ over [] os = os
 over (e ∷ es) [] = []
 over (e ∷ es) (o ∷ os) = min e 255 ∷ over es os
 
-abbrev pub orOther : (ℕ → Line) → Option ℕ → Line
-orOther f none = other
-orOther f (some n) = f n
+abbrev pub or_other : (ℕ → Line) → Option ℕ → Line
+or_other f none = other
+or_other f (some n) = f n
 
-abbrev pub pairOr : (ℕ → ℕ → Line) → Pair → Line
-pairOr f (Both a b) = f a b
-pairOr f Neither = other
+abbrev pub pair_or : (ℕ → ℕ → Line) → Pair → Line
+pair_or f (Both a b) = f a b
+pair_or f Neither = other
 
-abbrev pub signedOr : (ℤ → Line) → Option ℤ → Line
-signedOr f none = other
-signedOr f (some x) = f x
+abbrev pub signed_or : (ℤ → Line) → Option ℤ → Line
+signed_or f none = other
+signed_or f (some x) = f x
 
-abbrev pub asField : Option ℕ → Bool → ℕ → Field
-asField none more next = Bad
-asField (some n) more next = pick more (More n next) (Last n)
+abbrev pub as_field : Option ℕ → Bool → ℕ → Field
+as_field none more next = Bad
+as_field (some n) more next = pick more (More n next) (Last n)
 
 -- what stands before the first byte 9, as a number, and whether a field follows
 unfoldable pub field_of : List ℕ → Field
-field_of l = asField (number (take (index_of l 9) l)) (ltb (index_of l 9) (length l)) (index_of l 9 + 1)
+field_of l = as_field (number (take (index_of l 9) l)) (ltb (index_of l 9) (length l)) (index_of l 9 + 1)
 
-unfoldable pub fieldsFrom : List ℕ → ℕ → List (List ℕ)
-fieldsFrom l k = pick (ltb k (length l)) (fields (drop (k + 1) l)) []
+unfoldable pub fields_from : List ℕ → ℕ → List (List ℕ)
+fields_from l k = pick (ltb k (length l)) (fields (drop (k + 1) l)) []
 
-unfoldable pub onFirst : Option ℕ → List ℕ → List ℕ
-onFirst none ns = []
-onFirst (some n) ns = n ∷ ns
+unfoldable pub on_first : Option ℕ → List ℕ → List ℕ
+on_first none ns = []
+on_first (some n) ns = n ∷ ns
 
 unfoldable pub leading : List (List ℕ) → List ℕ
 leading [] = []
-leading (f ∷ fs) = onFirst (number f) (leading fs)
+leading (f ∷ fs) = on_first (number f) (leading fs)
 
-unfoldable pub listedIn : List ℕ → List ℕ
-listedIn l = pick (same (take (index_of l 9) l) (bytes "ord")) (leading (fieldsFrom l (index_of l 9))) []
+unfoldable pub listed_in : List ℕ → List ℕ
+listed_in l = pick (same (take (index_of l 9) l) (bytes "ord")) (leading (fields_from l (index_of l 9))) []
 
-abbrev pub fieldBy : (ℕ → List (List ℕ) → Line) → List ℕ → Field → Line
-fieldBy rest l (Last n) = rest n []
-fieldBy rest l (More n next) = rest n (fields (drop next l))
-fieldBy rest l Bad = other
+abbrev pub field_by : (ℕ → List (List ℕ) → Line) → List ℕ → Field → Line
+field_by rest l (Last n) = rest n []
+field_by rest l (More n next) = rest n (fields (drop next l))
+field_by rest l Bad = other

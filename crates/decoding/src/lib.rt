@@ -1,9 +1,9 @@
 // A line's bytes as its form: the word, and the numbers of its fields.
 ghost use Rattle.std.specs.Prelude.{◌≡◌, false, ◌∷◌, ℕ, ◌≤◌, min, ℤ, length};
 ghost use Rattle.lists.specs.Lists.{index_of};
-ghost use Rattle.promises.specs.Text.{Line, rig, ord, begins, mon, gap, reply, bal, day, continues, go, stop, amp, opens, one, two, three, four, oneSigned, twoSigned, thenSigned, oneOrTwo, anyNumber, bytes, fields};
+ghost use Rattle.promises.specs.Text.{Line, rig, ord, begins, mon, gap, reply, bal, day, continues, go, stop, amp, opens, one, two, three, four, one_signed, two_signed, then_signed, one_or_two, any_number, bytes, fields};
 ghost use Rattle.promises.specs.Text as text;
-ghost use Rattle.decoding.specs.Forms.{value_of, signed_of, field_of, orOther, signedOr, pairOr, fieldsFrom, leading, listedIn, over, form_of};
+ghost use Rattle.decoding.specs.Forms.{value_of, signed_of, field_of, or_other, signed_or, pair_or, fields_from, leading, listed_in, over, form_of};
 
 // What a field is: a number of paper 01, or none.
 #[derive(Drop)]
@@ -97,7 +97,7 @@ fn same(a: &[u8], b: &[u8]) -> bool
 // The number that at most five digits make.
 fn digits_value(field: &[u8]) -> Decimal
     requires { length field.now ≤ 5 }
-    ensures { value_of result ≡ text.digitsValue 0 field.now }
+    ensures { value_of result ≡ text.digits_value 0 field.now }
 {
     let mut n = 0;
     let mut i = 0;
@@ -179,7 +179,7 @@ fn read_field(rest: &[u8]) -> Field
 
 // The number that is the only field left of a line.
 fn only_number(rest: &[u8]) -> Decimal
-    ensures { (f : ℕ → Line) → one f (fields rest.now) ≡ orOther f (value_of result) }
+    ensures { (f : ℕ → Line) → one f (fields rest.now) ≡ or_other f (value_of result) }
 {
     match read_field(rest) {
         Field::Last(n) => Decimal::Value(n),
@@ -190,7 +190,7 @@ fn only_number(rest: &[u8]) -> Decimal
 
 // The signed number that is the only field left of a line.
 fn only_signed(rest: &[u8]) -> Integer
-    ensures { (f : ℤ → Line) → oneSigned f (fields rest.now) ≡ signedOr f (signed_of result) }
+    ensures { (f : ℤ → Line) → one_signed f (fields rest.now) ≡ signed_or f (signed_of result) }
 {
     if until(rest, 9) < rest.len() {
         return Integer::Wrong; // a further field
@@ -210,7 +210,7 @@ fn rig_form(rest: &[u8]) -> Form
 
 // `mon`, S, start; or `mon`, S, which starts in 0
 fn mon_form(rest: &[u8]) -> Form
-    ensures { result ≡ form_of (oneOrTwo (λ S. begins (mon S 0)) (λ S a. begins (mon S a)) (fields rest.now)) }
+    ensures { result ≡ form_of (one_or_two (λ S. begins (mon S 0)) (λ S a. begins (mon S a)) (fields rest.now)) }
 {
     match read_field(rest) {
         Field::Last(s) => Form::Begins(Kind::Mon(s, 0)),
@@ -242,7 +242,7 @@ fn go_form(rest: &[u8]) -> Form
 
 // The two numbers that are the only fields left of a line.
 fn only_pair(rest: &[u8]) -> Pair
-    ensures { (f : ℕ → ℕ → Line) → two f (fields rest.now) ≡ pairOr f result }
+    ensures { (f : ℕ → ℕ → Line) → two f (fields rest.now) ≡ pair_or f result }
 {
     let Field::More(a, next) = read_field(rest) else {
         return Pair::Neither;
@@ -282,7 +282,7 @@ fn reply_form(rest: &[u8]) -> Form
 
 // `bal`, lo, hi
 fn bal_form(rest: &[u8]) -> Form
-    ensures { result ≡ form_of (twoSigned (λ lo hi. begins (bal lo hi)) (fields rest.now)) }
+    ensures { result ≡ form_of (two_signed (λ lo hi. begins (bal lo hi)) (fields rest.now)) }
 {
     let end = until(rest, 9);
     if rest.len() <= end {
@@ -300,7 +300,7 @@ fn bal_form(rest: &[u8]) -> Form
 
 // `amp`, e, d
 fn amp_form(rest: &[u8]) -> Form
-    ensures { result ≡ form_of (thenSigned (λ e d. continues (amp e d)) (fields rest.now)) }
+    ensures { result ≡ form_of (then_signed (λ e d. continues (amp e d)) (fields rest.now)) }
 {
     let Field::More(e, next) = read_field(rest) else {
         return Form::Other;
@@ -353,8 +353,8 @@ fn as_byte(n: usize) -> u8
 
 // `ord` and any number of numbers, the first after the byte 9 at `at`; none where the line ends there. `order` gets those that it has room for.
 fn ord_form(line: &[u8], at: usize, order: &mut [u8]) -> Form
-    ensures value { result ≡ form_of (anyNumber (λ es. ord es) (fieldsFrom line.now at)) }
-    ensures order_after { order.new ≡ over (leading (fieldsFrom line.now at)) order.old }
+    ensures value { result ≡ form_of (any_number (λ es. ord es) (fields_from line.now at)) }
+    ensures order_after { order.new ≡ over (leading (fields_from line.now at)) order.old }
 {
     let mut count = 0;
     let mut from = at;
@@ -414,7 +414,7 @@ fn word_form(word: &[u8], rest: &[u8]) -> Form
 // The form that a line is. The numbers of an `ord` line, up to a field that is none, are written over the front of `order`, as bytes.
 pub fn decode(line: &[u8], order: &mut [u8]) -> Form
     ensures value { result ≡ form_of (text.decode line.now) }
-    ensures order_after { order.new ≡ over (listedIn line.now) order.old }
+    ensures order_after { order.new ≡ over (listed_in line.now) order.old }
 {
     let end = until(line, 9);
     let word = &line[..end];

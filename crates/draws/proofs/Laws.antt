@@ -11,13 +11,13 @@ use native.Mathlib.Numerals.{add-one}
 use mathlib.Mathlib.Data.Bool.Basic.{eq-true_of_not-eq-false', eq-false_of_not-eq-true'}
 use lib.ListN.{length, set, drop, length-append}
 use borrow.Author.Tests.{lt-ltb, le-ltb}
-use Rattle.lists.proofs.Fronts.{front-put}
+use Rattle.lists.proofs.Fronts.{front_put}
 use Rattle.promises.specs.Answer.{refused}
-use Rattle.promises.specs.Calls.{outputAfter}
-use Rattle.promises.specs.SplitMix.{nextState, mix, raw}
-use Rattle.promises.specs.Draws.{thrownAway, taken, Outcome, drawn, failed, onto, drawsFrom, outcome, said, draws, drawsOutput}
-use Rattle.promises.proofs.Draws.{draws-is, draws-owed}
-use Rattle.draws.specs.Making.{Enough, taken_of, firstFailed, AllMade}
+use Rattle.promises.specs.Calls.{output_after}
+use Rattle.promises.specs.SplitMix.{next_state, mix, raw}
+use Rattle.promises.specs.Draws.{thrown_away, taken, Outcome, drawn, failed, onto, draws_from, outcome, said, draws, draws_output}
+use Rattle.promises.proofs.Draws.{draws_is, draws_owed}
+use Rattle.draws.specs.Making.{Enough, taken_of, first_failed, AllMade}
 use Rattle.draws.specs.declared.Draw.{Draw}
 
 -- ---- one raw number
@@ -27,13 +27,13 @@ pub remainder_is : (w : ℕ) → w ≤ 2 ^ 64 → 2 ^ 64 % w ≡ (2 ^ 64 - w) % 
 remainder_is w l = mod-eq-sub-mod l
 
 module _ (w e r : ℕ) (enough : Enough w e) where
-  pub enough-kept : e ≤ r → thrownAway (2 ^ 64) w r ≡ false
-  unfolding thrownAway
-  enough-kept h = le-ltb r (2 ^ 64 % w) (omega (arith, enough.0))
+  pub enough_kept : e ≤ r → thrown_away (2 ^ 64) w r ≡ false
+  unfolding thrown_away
+  enough_kept h = le-ltb r (2 ^ 64 % w) (omega (arith, enough.0))
 
-  pub less-thrown : 2 ^ 60 ≤ w → r < e → thrownAway (2 ^ 64) w r ≡ true
-  unfolding thrownAway
-  less-thrown l h = lt-ltb r (2 ^ 64 % w) (omega (arith, enough.1 l))
+  pub less_thrown : 2 ^ 60 ≤ w → r < e → thrown_away (2 ^ 64) w r ≡ true
+  unfolding thrown_away
+  less_thrown l h = lt-ltb r (2 ^ 64 % w) (omega (arith, enough.1 l))
 
 -- ---- one draw
 
@@ -41,40 +41,40 @@ module _ (w e r : ℕ) (enough : Enough w e) where
 left : (m k : ℕ) → k < m → m - k ≡ suc (m - (k + 1))
 left m k h = omega arith
 
-module _ (limit k w s u r : ℕ) (within : k < limit) (next : u ≡ nextState s) (is : r ≡ mix u) where
+module _ (limit k w s u r : ℕ) (within : k < limit) (next : u ≡ next_state s) (is : r ≡ mix u) where
   -- raw number k is kept
-  pub taken_here : not (thrownAway (2 ^ 64) w r) ≡ true → taken (limit - k) w s ≡ some (r, u)
+  pub taken_here : not (thrown_away (2 ^ 64) w r) ≡ true → taken (limit - k) w s ≡ some (r, u)
   unfolding taken raw
-  taken_here h = rw (left limit k within, ← next, ← is, eq-false_of_not-eq-true' {a = thrownAway (2 ^ 64) w r} h)
+  taken_here h = rw (left limit k within, ← next, ← is, eq-false_of_not-eq-true' {a = thrown_away (2 ^ 64) w r} h)
 
   -- raw number k is thrown away
-  pub taken-later : not (thrownAway (2 ^ 64) w r) ≡ false → taken (limit - k) w s ≡ taken (limit - (k + 1)) w u
+  pub taken_later : not (thrown_away (2 ^ 64) w r) ≡ false → taken (limit - k) w s ≡ taken (limit - (k + 1)) w u
   unfolding taken raw
-  taken-later h = rw (left limit k within, ← next, ← is, eq-true_of_not-eq-false' {a = thrownAway (2 ^ 64) w r} h)
+  taken_later h = rw (left limit k within, ← next, ← is, eq-true_of_not-eq-false' {a = thrown_away (2 ^ 64) w r} h)
 
 -- none is left
-pub taken-nowhere : (limit k w s : ℕ) → limit ≤ k → taken (limit - k) w s ≡ none
+pub taken_nowhere : (limit k w s : ℕ) → limit ≤ k → taken (limit - k) w s ≡ none
 unfolding taken
-taken-nowhere limit k w s h = let e : limit - k ≡ 0 = omega arith in rw e
+taken_nowhere limit k w s h = let e : limit - k ≡ 0 = omega arith in rw e
 
 -- ---- the draws from place i on
 
 module _ (limit n z i s : ℕ) where
   module _ (within : i < z) where
-    pub from-failed : taken limit (n - i) s ≡ none → drawsFrom limit n (z - i) i s ≡ failed i
-    unfolding drawsFrom
-    from-failed q = rw (left z i within, q)
+    pub from_failed : taken limit (n - i) s ≡ none → draws_from limit n (z - i) i s ≡ failed i
+    unfolding draws_from
+    from_failed q = rw (left z i within, q)
 
-    pub from_more : (r u : ℕ) → taken limit (n - i) s ≡ some (r, u) → drawsFrom limit n (z - i) i s ≡ onto (i + r % (n - i)) (drawsFrom limit n (z - (i + 1)) (i + 1) u)
-    unfolding drawsFrom
+    pub from_more : (r u : ℕ) → taken limit (n - i) s ≡ some (r, u) → draws_from limit n (z - i) i s ≡ onto (i + r % (n - i)) (draws_from limit n (z - (i + 1)) (i + 1) u)
+    unfolding draws_from
     from_more r u q = rw (left z i within, q, add-one i)
 
-  pub from_end : z ≤ i → drawsFrom limit n (z - i) i s ≡ drawn []
-  unfolding drawsFrom
+  pub from_end : z ≤ i → draws_from limit n (z - i) i s ≡ drawn []
+  unfolding draws_from
   from_end h = let e : z - i ≡ 0 = omega arith in rw e
 
 -- a draw that is made fails nowhere
-pub failed-onto : (z d : ℕ) (o : Outcome) → firstFailed z (onto d o) ≡ firstFailed z o
+pub failed-onto : (z d : ℕ) (o : Outcome) → first_failed z (onto d o) ≡ first_failed z o
 unfolding onto
 failed-onto z d (drawn ds) = refl
 failed-onto z d (failed i) = refl
@@ -102,23 +102,23 @@ pub record Written (limit n z : ℕ) (o : Outcome) (out₀ : List ℕ) (i s : �
   pub front : List ℕ
   pub rest : List ℕ
   pub all : o ≡ drawn (front ++ rest)
-  pub ahead : drawsFrom limit n (z - i) i s ≡ drawn rest
+  pub ahead : draws_from limit n (z - i) i s ≡ drawn rest
   pub long : length front ≡ i
   pub holds : out ≡ front ++ drop (length front) out₀
 
 module _ (limit n z : ℕ) (o : Outcome) (out₀ : List ℕ) where
-  pub written-first : (s : ℕ) → o ≡ drawsFrom limit n z 0 s → AllMade o → Written limit n z o out₀ 0 s out₀
-  written-first s q (ds, e) = record { front = []; rest = ds; all = e; ahead = rw sub-zero (sym q ∙ e); long = refl; holds = refl }
+  pub written_first : (s : ℕ) → o ≡ draws_from limit n z 0 s → AllMade o → Written limit n z o out₀ 0 s out₀
+  written_first s q (ds, e) = record { front = []; rest = ds; all = e; ahead = rw sub-zero (sym q ∙ e); long = refl; holds = refl }
 
   module _ (i s : ℕ) (out : List ℕ) (w : Written limit n z o out₀ i s out) where
-    pub written-more : (t : Draw) → i < z → z ≤ length out₀ → taken_of t ≡ taken limit (n - i) s → Written limit n z o out₀ (i + 1) t.state (set out i (i + t.raw % (n - i)))
-    written-more t lt room q = go (not t.made) refl
+    pub written_more : (t : Draw) → i < z → z ≤ length out₀ → taken_of t ≡ taken limit (n - i) s → Written limit n z o out₀ (i + 1) t.state (set out i (i + t.raw % (n - i)))
+    written_more t lt room q = go (not t.made) refl
       where
         d : ℕ
         d = i + t.raw % (n - i)
 
         go : (b : Bool) → not t.made ≡ b → Written limit n z o out₀ (i + 1) t.state (set out i d)
-        go true e = absurd (not-drawn i w.rest (sym (from-failed limit n z i s lt (not_made limit (n - i) s t q e)) ∙ w.ahead))
+        go true e = absurd (not-drawn i w.rest (sym (from_failed limit n z i s lt (not_made limit (n - i) s t q e)) ∙ w.ahead))
         go false e =
             let (es, a, c) = onto-drawn d _ w.rest (sym (from_more limit n z i s lt t.raw t.state (is_made limit (n - i) s t q e)) ∙ w.ahead) in
             record {
@@ -127,7 +127,7 @@ module _ (limit n z : ℕ) (o : Outcome) (out₀ : List ℕ) where
               all = w.all ∙ ap (λ l. drawn (w.front ++ l)) (sym c) ∙ ap drawn (sym (append_assoc w.front (d ∷ []) es));
               ahead = a;
               long = rw length-append (omega (arith, w.long));
-              holds = ap (λ l. set l i d) w.holds ∙ ap (λ k. set (w.front ++ drop (length w.front) out₀) k d) (sym w.long) ∙ front-put w.front out₀ d (omega (arith, w.long));
+              holds = ap (λ l. set l i d) w.holds ∙ ap (λ k. set (w.front ++ drop (length w.front) out₀) k d) (sym w.long) ∙ front_put w.front out₀ d (omega (arith, w.long));
             }
 
     pub written_all : z ≤ i → o ≡ drawn w.front
@@ -139,22 +139,22 @@ module _ (limit n z : ℕ) (o : Outcome) (out₀ : List ℕ) where
 -- ---- the call
 
 module _ (n z seed limit : ℕ) (out : List ℕ) where
-  pub refused-output : (k p : ℕ) → draws n z seed limit out ≡ refused k p → drawsOutput n z seed limit out ≡ out
-  unfolding drawsOutput outputAfter
-  refused-output k p q = rw q
+  pub refused_output : (k p : ℕ) → draws n z seed limit out ≡ refused k p → draws_output n z seed limit out ≡ out
+  unfolding draws_output output_after
+  refused_output k p q = rw q
 
   module _ (a : z ≤ length out) (b : z ≤ n) where
-    pub failed-refused : firstFailed z (outcome n z seed limit) < z → draws n z seed limit out ≡ refused 19 (firstFailed z (outcome n z seed limit))
-    failed-refused = rw (draws-is n z seed limit out a b) (go (outcome n z seed limit))
+    pub failed_refused : first_failed z (outcome n z seed limit) < z → draws n z seed limit out ≡ refused 19 (first_failed z (outcome n z seed limit))
+    failed_refused = rw (draws_is n z seed limit out a b) (go (outcome n z seed limit))
       where
-        go : (o : Outcome) → firstFailed z o < z → said o ≡ refused 19 (firstFailed z o)
+        go : (o : Outcome) → first_failed z o < z → said o ≡ refused 19 (first_failed z o)
         go (drawn ds) h = absurd (omega arith)
         go (failed i) h = unfold said in refl
 
-    pub all_made : z ≤ firstFailed z (outcome n z seed limit) → AllMade (outcome n z seed limit)
+    pub all_made : z ≤ first_failed z (outcome n z seed limit) → AllMade (outcome n z seed limit)
     unfolding said
     all_made h = go (outcome n z seed limit) refl
       where
         go : (o : Outcome) → outcome n z seed limit ≡ o → AllMade (outcome n z seed limit)
         go (drawn ds) q = (ds, q)
-        go (failed i) q = let lt = (((draws-owed n z seed limit out).nineteen a b i).0 (draws-is n z seed limit out a b ∙ ap said q)).0 in absurd (omega (arith, rw q at h))
+        go (failed i) q = let lt = (((draws_owed n z seed limit out).nineteen a b i).0 (draws_is n z seed limit out a b ∙ ap said q)).0 in absurd (omega (arith, rw q at h))

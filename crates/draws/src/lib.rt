@@ -4,8 +4,8 @@
 // second buffer is needed.
 ghost use Rattle.std.specs.Prelude.{◌≡◌, ◌%◌, ◌<◌, ◌≤◌, ◌^◌, length};
 ghost use Rattle.shuffle.specs.Outcome.{answer_of};
-ghost use Rattle.promises.specs.Draws.{thrownAway, taken, outcome, draws as promised, drawsOutput};
-ghost use Rattle.draws.specs.Making.{Enough, taken_of, firstFailed, AllMade};
+ghost use Rattle.promises.specs.Draws.{thrown_away, taken, outcome, draws as promised, draws_output};
+ghost use Rattle.draws.specs.Making.{Enough, taken_of, first_failed, AllMade};
 
 use shuffle::Answered;
 
@@ -23,7 +23,7 @@ const SMALL: u64 = 1152921504606846976;
 // Puts z draws from the seed at the first places of the output, each made of at most `limit` raw numbers.
 pub fn draws(n: u64, z: u64, seed: u64, limit: u8, out: &mut [u64]) -> Answered
     ensures result_value { answer_of result ≡ promised n z seed limit out.old }
-    ensures out_after { out.new ≡ drawsOutput n z seed limit out.old }
+    ensures out_after { out.new ≡ draws_output n z seed limit out.old }
 {
     if (out.len() as u64) < z {
         return Answered::Refused(12, 0);
@@ -42,7 +42,7 @@ pub fn draws(n: u64, z: u64, seed: u64, limit: u8, out: &mut [u64]) -> Answered
 // The place of the first draw that is not made, or z.
 fn first_failed(n: u64, z: u64, seed: u64, limit: u8) -> u64
     requires { z ≤ n }
-    ensures { result ≡ firstFailed z (outcome n z seed limit) }
+    ensures { result ≡ first_failed z (outcome n z seed limit) }
 {
     let mut state = seed;
     for i in 0..z {
@@ -58,7 +58,7 @@ fn first_failed(n: u64, z: u64, seed: u64, limit: u8) -> u64
 // Writes the draws, all of which are made.
 fn write_draws(n: u64, z: u64, seed: u64, limit: u8, out: &mut [u64])
     requires { (z ≤ n) × (z ≤ length out.old) × AllMade (outcome n z seed limit) }
-    ensures { out.new ≡ drawsOutput n z seed limit out.old }
+    ensures { out.new ≡ draws_output n z seed limit out.old }
 {
     let mut state = seed;
     for i in 0..z {
@@ -109,7 +109,7 @@ fn enough_for(w: u64) -> u64
 // Whether a raw number is thrown away.
 fn is_thrown(raw: u64, w: u64, enough: u64) -> bool
     requires { (0 < w) × Enough w enough }
-    ensures { result ≡ thrownAway (2 ^ 64) w raw }
+    ensures { result ≡ thrown_away (2 ^ 64) w raw }
 {
     if enough <= raw {
         return false;

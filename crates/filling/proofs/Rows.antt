@@ -13,12 +13,12 @@ use Rattle.lists.proofs.Tests.{case}
 use Rattle.automaton.specs.Automaton.{Automaton}
 use Rattle.automaton.specs.Pruning.{passes}
 use Rattle.automaton.specs.Counting.{N, most, cell}
-use Rattle.rig.specs.Record.{recordAutomaton}
+use Rattle.rig.specs.Record.{record_automaton}
 use Rattle.promises.specs.Answer.{Answer, served, refused}
-use Rattle.promises.specs.Rig.{rigAutomaton}
-use Rattle.promises.specs.Calls.{countRows, countFrom, filled, fills, cellsAfter, Freed, CellsFreed, outputAfter, sizedFor, total, counted, totalRows, count, countCells}
+use Rattle.promises.specs.Rig.{rig_automaton}
+use Rattle.promises.specs.Calls.{count_rows, count_from, filled, fills, cells_after, Freed, CellsFreed, output_after, sized_for, total, counted, total_rows, count, count_cells}
 use Rattle.promises.proofs.Buffers.{filled_at}
-use Rattle.checks.specs.Loading.{checkedOr, Ready, Loads}
+use Rattle.checks.specs.Loading.{checked_or, Ready, Loads}
 use Rattle.checks.specs.declared.Checked.{Checked}
 use Rattle.checks.specs.declared.Checked.TheVariants.{Passed, Refused}
 use Rattle.checks.specs.declared.Loaded.{Loaded}
@@ -43,58 +43,58 @@ fills-told A p x h s k cells left table q lt e t r n = record {
   rows = t;
   counted = start_cell A h x cells left p q lt e;
   passed = r;
-  cells-filled = e;
+  cells_filled = e;
   tabled = n;
 }
 
 -- 9 and 10 fill the cells, and so does what fills them by itself
-pub countRows-fills : (n : ℕ) (a : Answer) → fills a ≡ true → fills (countRows n a) ≡ true
+pub count_rows-fills : (n : ℕ) (a : Answer) → fills a ≡ true → fills (count_rows n a) ≡ true
 unfolding fills
-countRows-fills n a f = case (eqb n 0) (λ q. rw q) (λ q. rw q (case (leb most n) (λ r. rw r) (λ r. rw r f)))
+count_rows-fills n a f = case (eqb n 0) (λ q. rw q) (λ q. rw q (case (leb most n) (λ r. rw r) (λ r. rw r f)))
 
-pub total-rows-fill : (t : List ℕ) (h : ℕ) → fills (totalRows t h) ≡ true
+pub total-rows_fill : (t : List ℕ) (h : ℕ) → fills (total_rows t h) ≡ true
 unfolding counted fills
-total-rows-fill t h = countRows-fills (total t h) (served (total t h ∷ passes (rigAutomaton t) ∷ [])) refl
+total-rows_fill t h = count_rows-fills (total t h) (served (total t h ∷ passes (rig_automaton t) ∷ [])) refl
 
 -- ---- what the start's cell tells of N
 
 module _ (n c : ℕ) (k : Checked) (tells : TellsRows c k) (cell-is : c ≡ min n most) where
-  pub cell-refused : (m q : ℕ) → k ≡ Refused m q → (a : Answer) → refused m q ≡ countRows n a
-  cell-refused m q e a = sym (tells.answer n a cell-is ∙ ap (λ (j : Checked). checkedOr j a) e)
+  pub cell_refused : (m q : ℕ) → k ≡ Refused m q → (a : Answer) → refused m q ≡ count_rows n a
+  cell_refused m q e a = sym (tells.answer n a cell-is ∙ ap (λ (j : Checked). checked_or j a) e)
 
   module _ (e : k ≡ Passed) where
-    pub cell-passed : (a : Answer) → a ≡ countRows n a
-    cell-passed a = sym (tells.answer n a cell-is ∙ ap (λ (j : Checked). checkedOr j a) e)
+    pub cell_passed : (a : Answer) → a ≡ count_rows n a
+    cell_passed a = sym (tells.answer n a cell-is ∙ ap (λ (j : Checked). checked_or j a) e)
 
-    pub cell-exact : c ≡ n
-    cell-exact = omega (arith, tells.few e)
+    pub cell_exact : c ≡ n
+    cell_exact = omega (arith, tells.few e)
 
-    pub cell-few : n < most
-    cell-few = omega (arith, tells.few e, cell-exact)
+    pub cell_few : n < most
+    cell_few = omega (arith, tells.few e, cell_exact)
 
 -- ---- what filling tells
 
 module _ (A : Automaton) (p x h : ℕ) (f : Filled) (cells left table : List ℕ) (fs : FilledBy A p x h f cells left table) where
-  pub told-refused : (m q : ℕ) → f.checked ≡ Refused m q → (a : Answer) → refused m q ≡ countRows (N A h x) a
-  told-refused = cell-refused (N A h x) f.count f.checked fs.rows fs.counted
+  pub told_refused : (m q : ℕ) → f.checked ≡ Refused m q → (a : Answer) → refused m q ≡ count_rows (N A h x) a
+  told_refused = cell_refused (N A h x) f.count f.checked fs.rows fs.counted
 
   module _ (e : f.checked ≡ Passed) where
-    pub told-passed : (a : Answer) → a ≡ countRows (N A h x) a
-    told-passed = cell-passed (N A h x) f.count f.checked fs.rows fs.counted e
+    pub told_passed : (a : Answer) → a ≡ count_rows (N A h x) a
+    told_passed = cell_passed (N A h x) f.count f.checked fs.rows fs.counted e
 
     -- the count told is N
-    pub told-exact : f.count ≡ N A h x
-    told-exact = cell-exact (N A h x) f.count f.checked fs.rows fs.counted e
+    pub told_exact : f.count ≡ N A h x
+    told_exact = cell_exact (N A h x) f.count f.checked fs.rows fs.counted e
 
-    pub told-few : N A h x < most
-    told-few = cell-few (N A h x) f.count f.checked fs.rows fs.counted e
+    pub told_few : N A h x < most
+    told_few = cell_few (N A h x) f.count f.checked fs.rows fs.counted e
 
-    pub told-some : 1 ≤ N A h x
-    told-some = rw (← told-exact) (fs.rows.some e)
+    pub told_some : 1 ≤ N A h x
+    told_some = rw (← told_exact) (fs.rows.some e)
 
     -- N and the passes, told
-    pub told-count : served (f.count ∷ f.passes ∷ []) ≡ countRows (N A h x) (served (N A h x ∷ passes A ∷ []))
-    told-count = rw (told-exact, fs.passed) (told-passed (served (N A h x ∷ passes A ∷ [])))
+    pub told_count : served (f.count ∷ f.passes ∷ []) ≡ count_rows (N A h x) (served (N A h x ∷ passes A ∷ []))
+    told_count = rw (told_exact, fs.passed) (told_passed (served (N A h x ∷ passes A ∷ [])))
 
 pub cell_room : (h p x n : ℕ) → x < p → (h + 1) * p ≤ n → h * p + x < n
 cell_room h p x n lt le = omega (arith, suc-mul h p, ap (λ (i : ℕ). i * p) (add-one h))
@@ -103,70 +103,70 @@ cell_room h p x n lt le = omega (arith, suc-mul h p, ap (λ (i : ℕ). i * p) (a
 
 module _ (t : List ℕ) {rows : ℕ} (h room : ℕ) (o : Loaded) (op : Loads t rows h room o) (cells : List ℕ) (l : length cells ≡ room) where
   -- one of them applied: its refusal is the answer, and the cells are as before
-  pub early-answer : (m p : ℕ) → o.checked ≡ Refused m p → (a : Answer) → refused m p ≡ sizedFor t rows h cells a
-  early-answer m p e a = sym (op.answer cells a l ∙ ap (λ (k : Checked). checkedOr k a) e)
+  pub early_answer : (m p : ℕ) → o.checked ≡ Refused m p → (a : Answer) → refused m p ≡ sized_for t rows h cells a
+  early_answer m p e a = sym (op.answer cells a l ∙ ap (λ (k : Checked). checked_or k a) e)
 
-  pub early-cells : (m p : ℕ) → o.checked ≡ Refused m p → (a : Answer) (A : Automaton) → cells ≡ cellsAfter (sizedFor t rows h cells a) A h cells
-  unfolding cellsAfter
-  early-cells m p e a A = rw (← early-answer m p e a, op.untouched m p e)
+  pub early_cells : (m p : ℕ) → o.checked ≡ Refused m p → (a : Answer) (A : Automaton) → cells ≡ cells_after (sized_for t rows h cells a) A h cells
+  unfolding cells_after
+  early_cells m p e a A = rw (← early_answer m p e a, op.untouched m p e)
 
-  pub early-output : (m p : ℕ) → o.checked ≡ Refused m p → (a : Answer) (fresh out : List ℕ) → out ≡ outputAfter (sizedFor t rows h cells a) fresh out
-  unfolding outputAfter
-  early-output m p e a fresh out = rw (← early-answer m p e a)
+  pub early_output : (m p : ℕ) → o.checked ≡ Refused m p → (a : Answer) (fresh out : List ℕ) → out ≡ output_after (sized_for t rows h cells a) fresh out
+  unfolding output_after
+  early_output m p e a fresh out = rw (← early_answer m p e a)
 
-  pub early-freed : (m p : ℕ) → o.checked ≡ Refused m p → (a : Answer) (need : ℕ) → CellsFreed (sizedFor t rows h cells a) need cells cells
+  pub early_freed : (m p : ℕ) → o.checked ≡ Refused m p → (a : Answer) (need : ℕ) → CellsFreed (sized_for t rows h cells a) need cells cells
   unfolding CellsFreed
-  early-freed m p e a need = rw (← early-answer m p e a, op.untouched m p e)
+  early_freed m p e a need = rw (← early_answer m p e a, op.untouched m p e)
 
   module _ (e : o.checked ≡ Passed) where
-    pub passed-answer : (a : Answer) → sizedFor t rows h cells a ≡ a
-    passed-answer a = op.answer cells a l ∙ ap (λ (k : Checked). checkedOr k a) e
+    pub passed_answer : (a : Answer) → sized_for t rows h cells a ≡ a
+    passed_answer a = op.answer cells a l ∙ ap (λ (k : Checked). checked_or k a) e
 
     ready : Ready t rows h room o.rig o.states o.start
     ready = op.ready e
 
     -- rows 9 and 10 on the record's automaton are those on the text's
-    pub counted_is : (a : Answer) → countRows (N (recordAutomaton o.rig) h o.start) a ≡ counted t h a
+    pub counted_is : (a : Answer) → count_rows (N (record_automaton o.rig) h o.start) a ≡ counted t h a
     unfolding counted total
     counted_is a = rw (ready.automaton, ready.starts)
 
-    pub total-is : N (recordAutomaton o.rig) h o.start ≡ total t h
+    pub total_is : N (record_automaton o.rig) h o.start ≡ total t h
     unfolding total
-    total-is = rw (ready.automaton, ready.starts)
+    total_is = rw (ready.automaton, ready.starts)
 
     -- and so is what a call that counts tells
-    pub total-rows-are : countFrom (recordAutomaton o.rig) h o.start ≡ sizedFor t rows h cells (totalRows t h)
-    total-rows-are = rw (passed-answer (totalRows t h), ← ready.automaton, ← total-is) (counted_is _)
+    pub total_rows_are : count_from (record_automaton o.rig) h o.start ≡ sized_for t rows h cells (total_rows t h)
+    total_rows_are = rw (passed_answer (total_rows t h), ← ready.automaton, ← total_is) (counted_is _)
 
     -- what fills the cells leaves them as promised
-    pub passed-cells : (a : Answer) (after : List ℕ) → fills a ≡ true → after ≡ filled (recordAutomaton o.rig) h cells → after ≡ cellsAfter (sizedFor t rows h cells a) (rigAutomaton t) h cells
-    unfolding cellsAfter
-    passed-cells a after f q = rw (passed-answer a, f, ← ready.automaton) q
+    pub passed_cells : (a : Answer) (after : List ℕ) → fills a ≡ true → after ≡ filled (record_automaton o.rig) h cells → after ≡ cells_after (sized_for t rows h cells a) (rig_automaton t) h cells
+    unfolding cells_after
+    passed_cells a after f q = rw (passed_answer a, f, ← ready.automaton) q
 
     -- and what leaves some free; a refusal that does not touches none
-    pub passed-freed : (a : Answer) (need : ℕ) (after : List ℕ) → fills a ≡ true → Freed need cells after → CellsFreed (sizedFor t rows h cells a) need cells after
+    pub passed_freed : (a : Answer) (need : ℕ) (after : List ℕ) → fills a ≡ true → Freed need cells after → CellsFreed (sized_for t rows h cells a) need cells after
     unfolding CellsFreed
-    passed-freed a need after f w = rw (passed-answer a, f) w
+    passed_freed a need after f w = rw (passed_answer a, f) w
 
-    pub passed-untouched : (a : Answer) (need : ℕ) → fills a ≡ false → CellsFreed (sizedFor t rows h cells a) need cells cells
+    pub passed_untouched : (a : Answer) (need : ℕ) → fills a ≡ false → CellsFreed (sized_for t rows h cells a) need cells cells
     unfolding CellsFreed
-    passed-untouched a need f = rw (passed-answer a, f)
+    passed_untouched a need f = rw (passed_answer a, f)
 
 -- Count, with room for all rows up to h
 module _ (t : List ℕ) (h room : ℕ) (o : Loaded) (op : Loads t (h + 1) h room o) (cells : List ℕ) (l : length cells ≡ room) where
-  pub early-count : (m p : ℕ) → o.checked ≡ Refused m p → refused m p ≡ count t h cells
+  pub early_count : (m p : ℕ) → o.checked ≡ Refused m p → refused m p ≡ count t h cells
   unfolding count
-  early-count m p e = early-answer t h room o op cells l m p e _
+  early_count m p e = early_answer t h room o op cells l m p e _
 
-  pub early-count-cells : (m p : ℕ) → o.checked ≡ Refused m p → cells ≡ countCells t h cells
-  unfolding countCells count
-  early-count-cells m p e = early-cells t h room o op cells l m p e _ _
+  pub early_count_cells : (m p : ℕ) → o.checked ≡ Refused m p → cells ≡ count_cells t h cells
+  unfolding count_cells count
+  early_count_cells m p e = early_cells t h room o op cells l m p e _ _
 
   module _ (e : o.checked ≡ Passed) where
-    pub count-is : countFrom (recordAutomaton o.rig) h o.start ≡ count t h cells
+    pub count_is : count_from (record_automaton o.rig) h o.start ≡ count t h cells
     unfolding count
-    count-is = total-rows-are t h room o op cells l e
+    count_is = total_rows_are t h room o op cells l e
 
-    pub count-cells-are : (after : List ℕ) → after ≡ filled (recordAutomaton o.rig) h cells → after ≡ countCells t h cells
-    unfolding countCells count
-    count-cells-are after q = passed-cells t h room o op cells l e (totalRows t h) after (total-rows-fill t h) q
+    pub count_cells_are : (after : List ℕ) → after ≡ filled (record_automaton o.rig) h cells → after ≡ count_cells t h cells
+    unfolding count_cells count
+    count_cells_are after q = passed_cells t h room o op cells l e (total_rows t h) after (total-rows_fill t h) q

@@ -7,15 +7,15 @@ use Rattle.automaton.specs.Automaton.{Automaton}
 use Rattle.automaton.specs.Pruning.{passes}
 use Rattle.automaton.specs.Counting.{N, most}
 use Rattle.promises.specs.Answer.{Answer}
-use Rattle.promises.specs.Calls.{countRows, filled}
-use Rattle.checks.specs.Loading.{checkedOr}
+use Rattle.promises.specs.Calls.{count_rows, filled}
+use Rattle.checks.specs.Loading.{checked_or}
 use Rattle.checks.specs.declared.Checked.{Checked}
 use Rattle.checks.specs.declared.Checked.TheVariants.{Passed}
 use Rattle.counting.specs.Tabled.{Tabled}
 use Rattle.filling.specs.declared.Filled.{Filled}
 
 pub record TellsRows (c : ℕ) (k : Checked) : Type 0 where
-  pub answer : (n : ℕ) (a : Answer) → c ≡ min n most → countRows n a ≡ checkedOr k a
+  pub answer : (n : ℕ) (a : Answer) → c ≡ min n most → count_rows n a ≡ checked_or k a
   pub some : k ≡ Passed → 1 ≤ c
   pub few : k ≡ Passed → c < most
 
@@ -23,5 +23,5 @@ pub record FilledBy (A : Automaton) (p x h : ℕ) (f : Filled) (cells left table
   pub rows : TellsRows f.count f.checked
   pub counted : f.count ≡ min (N A h x) most
   pub passed : f.passes ≡ passes A
-  pub cells-filled : left ≡ filled A h cells
+  pub cells_filled : left ≡ filled A h cells
   pub tabled : Tabled A p table

@@ -1,7 +1,7 @@
 // A rig pruned, its table filled, its cells counted, and rows 9 and 10: what the calls on a text share once the checks before are passed.
 ghost use Rattle.std.specs.Prelude.{◌≡◌, ◌+◌, ◌*◌, ◌≤◌, length};
 ghost use Rattle.automaton.specs.Pruning.{passes};
-ghost use Rattle.rig.specs.Record.{recordAutomaton, WellFormed};
+ghost use Rattle.rig.specs.Record.{record_automaton, WellFormed};
 ghost use Rattle.promises.specs.Calls.{filled};
 ghost use Rattle.checks.specs.Loading.{Fits};
 ghost use Rattle.counting.specs.Tabled.{Tabled};
@@ -28,7 +28,7 @@ pub fn fill_cells(
     start: usize,
 ) -> Filled
     requires { Fits rig states start h (length cells.old) × (length table.old ≡ 16384) }
-    ensures { FilledBy (recordAutomaton rig) states start h result cells.old cells.new table.new }
+    ensures { FilledBy (record_automaton rig) states start h result cells.old cells.new table.new }
 {
     let passes = prune_and_fill(rig, states, h, cells, table);
     let count = cells[h * states + start];
@@ -41,10 +41,10 @@ pub fn fill_cells(
 
 // Prunes the rig, and fills the table and the cells. Gives the number of passes.
 fn prune_and_fill(rig: Rig, states: usize, h: usize, cells: &mut [u64], table: &mut [u16]) -> usize
-    requires { WellFormed rig × (states ≡ (recordAutomaton rig).states) × ((h + 1) * states ≤ length cells.old) × (length table.old ≡ 16384) }
-    ensures value { result ≡ passes (recordAutomaton rig) }
-    ensures cells_after { cells.new ≡ filled (recordAutomaton rig) h cells.old }
-    ensures tabled { Tabled (recordAutomaton rig) states table.new }
+    requires { WellFormed rig × (states ≡ (record_automaton rig).states) × ((h + 1) * states ≤ length cells.old) × (length table.old ≡ 16384) }
+    ensures value { result ≡ passes (record_automaton rig) }
+    ensures cells_after { cells.new ≡ filled (record_automaton rig) h cells.old }
+    ensures tabled { Tabled (record_automaton rig) states table.new }
 {
     let mut live = [0u8; 1024];
     let passes = pruning::prune(rig, &mut live, table);

@@ -1,11 +1,11 @@
 // Count from the front: the call that keeps two rows of cells and pushes the count of the start forward. It reads what it is lent, refuses what it
 // can't serve, and ends; it asks nothing of its caller.
 ghost use Rattle.std.specs.Prelude.{◌≡◌, ◌*◌, length};
-ghost use Rattle.rig.specs.Record.{recordAutomaton};
-ghost use Rattle.promises.specs.Calls.{countFrom, Freed};
-ghost use Rattle.promises.specs.Forward.{forwardRows, forward, ForwardKeeps};
+ghost use Rattle.rig.specs.Record.{record_automaton};
+ghost use Rattle.promises.specs.Calls.{count_from, Freed};
+ghost use Rattle.promises.specs.Forward.{forward_rows, forward, ForwardKeeps};
 ghost use Rattle.checks.specs.Loading.{FitsFor};
-ghost use Rattle.generator.specs.Outcomes.{countAnswer};
+ghost use Rattle.generator.specs.Outcomes.{count_answer};
 
 use checks::{Checked, Rows};
 use generator::Counted;
@@ -13,9 +13,9 @@ use rig::Rig;
 
 // The call, once the checks up to 8 are passed.
 fn count_cells(rig: Rig, states: usize, start: usize, h: usize, cells: &mut [u64]) -> Counted
-    requires { FitsFor rig states start forwardRows h (length cells.old) }
-    ensures result_value { countAnswer result ≡ countFrom (recordAutomaton rig) h start }
-    ensures freed { Freed (forwardRows * states) cells.old cells.new }
+    requires { FitsFor rig states start forward_rows h (length cells.old) }
+    ensures result_value { count_answer result ≡ count_from (record_automaton rig) h start }
+    ensures freed { Freed (forward_rows * states) cells.old cells.new }
 {
     let mut live = [0u8; 1024];
     let mut table = [0u16; 16384];
@@ -30,7 +30,7 @@ fn count_cells(rig: Rig, states: usize, start: usize, h: usize, cells: &mut [u64
 
 // 'A second count begins with 1 at a live start, pushes it forward event by event through live states, and adds all states after h steps.'
 pub fn count_forward(text: &[u8], h: u64, cells: &mut [u64]) -> Counted
-    ensures result_value { countAnswer result ≡ forward text.now h cells.old }
+    ensures result_value { count_answer result ≡ forward text.now h cells.old }
     ensures forward_keeps { ForwardKeeps text.now h cells.old cells.new }
 {
     let o = checks::load(text, h, Rows::Two, cells.len());

@@ -1,15 +1,15 @@
 -- The answers of the calls in the paper's numbers: 'When an answer is an enum, a definition states this paper's number and values for each of its cases'.
---   countAnswer, listAnswer, indexAnswer == what Count, Scenarios and Index answer
---   list_from, indexFrom                  == what Scenarios and Index answer from row 9 on
---   outputFrom                           == what Scenarios leaves in its output
+--   count_answer, list_answer, index_answer == what Count, Scenarios and Index answer
+--   list_from, index_from                  == what Scenarios and Index answer from row 9 on
+--   output_from                           == what Scenarios leaves in its output
 -- Assumes nothing.
 use Rattle.std.specs.Prelude.{List, [], ◌∷◌, ℕ, length}
-use Rattle.lists.specs.Lists.{concatMap}
+use Rattle.lists.specs.Lists.{concat_map}
 use Rattle.automaton.specs.Automaton.{Automaton}
 use Rattle.automaton.specs.Counting.{N}
 use Rattle.automaton.specs.Ranking.{unrank}
 use Rattle.promises.specs.Answer.{Answer, served, refused}
-use Rattle.promises.specs.Calls.{countRows, indicesRow, sequenceRow, outputAfter}
+use Rattle.promises.specs.Calls.{count_rows, indices_row, sequence_row, output_after}
 use Rattle.generator.specs.declared.Counted as counted
 use Rattle.generator.specs.declared.Listed as listed
 use Rattle.generator.specs.declared.Indexed as indexed
@@ -18,26 +18,26 @@ use Rattle.generator.specs.declared.Listed.TheVariants.{Served as ListServed, Re
 use Rattle.generator.specs.declared.Indexed.TheVariants.{Served as IndexServed, Refused as IndexRefused}
 
 -- 'Gives N and the passes.'
-abbrev pub countAnswer : counted.Counted → Answer
-countAnswer (CountServed n passes) = served (n ∷ passes ∷ [])
-countAnswer (CountRefused number place) = refused number place
+abbrev pub count_answer : counted.Counted → Answer
+count_answer (CountServed n passes) = served (n ∷ passes ∷ [])
+count_answer (CountRefused number place) = refused number place
 
-abbrev pub listAnswer : listed.Listed → Answer
-listAnswer ListServed = served []
-listAnswer (ListRefused number place) = refused number place
+abbrev pub list_answer : listed.Listed → Answer
+list_answer ListServed = served []
+list_answer (ListRefused number place) = refused number place
 
 -- 'Gives its index.'
-abbrev pub indexAnswer : indexed.Indexed → Answer
-indexAnswer (IndexServed i) = served (i ∷ [])
-indexAnswer (IndexRefused number place) = refused number place
+abbrev pub index_answer : indexed.Indexed → Answer
+index_answer (IndexServed i) = served (i ∷ [])
+index_answer (IndexRefused number place) = refused number place
 
 -- ---- once the checks before row 9 are passed, for the automaton A and its start x
 
 abbrev pub list_from : Automaton → ℕ → ℕ → List ℕ → Answer
-list_from A h x is = countRows (N A h x) (indicesRow (N A h x) is)
+list_from A h x is = count_rows (N A h x) (indices_row (N A h x) is)
 
-abbrev pub outputFrom : Automaton → ℕ → ℕ → Answer → List ℕ → List ℕ → List ℕ
-outputFrom A h x a is out = outputAfter a (concatMap (unrank A h x) is) out
+abbrev pub output_from : Automaton → ℕ → ℕ → Answer → List ℕ → List ℕ → List ℕ
+output_from A h x a is out = output_after a (concat_map (unrank A h x) is) out
 
-abbrev pub indexFrom : Automaton → ℕ → List ℕ → Answer
-indexFrom A x s = countRows (N A (length s) x) (sequenceRow A x s)
+abbrev pub index_from : Automaton → ℕ → List ℕ → Answer
+index_from A x s = count_rows (N A (length s) x) (sequence_row A x s)

@@ -1,11 +1,11 @@
 // The four calls. Each reads what it is lent, refuses what it can't serve, and ends; none asks anything of its caller.
 ghost use Rattle.std.specs.Prelude.{◌≡◌, ◌*◌, ◌≤◌, length};
-ghost use Rattle.rig.specs.Record.{recordAutomaton};
-ghost use Rattle.promises.specs.Calls.{countFrom, filled, ShuffleKeeps};
+ghost use Rattle.rig.specs.Record.{record_automaton};
+ghost use Rattle.promises.specs.Calls.{count_from, filled, ShuffleKeeps};
 ghost use Rattle.promises.specs.Calls as promised;
 ghost use Rattle.checks.specs.Loading.{Fits};
 ghost use Rattle.shuffle.specs.Outcome.{answer_of as shuffleAnswer};
-ghost use Rattle.generator.specs.Outcomes.{countAnswer, listAnswer, indexAnswer, list_from, outputFrom, indexFrom};
+ghost use Rattle.generator.specs.Outcomes.{count_answer, list_answer, index_answer, list_from, output_from, index_from};
 
 use checks::{Checked, Rows};
 use ranking::Ranked;
@@ -36,8 +36,8 @@ pub enum Indexed {
 // Count, once the checks are passed.
 fn count_cells(rig: Rig, states: usize, start: usize, h: usize, cells: &mut [u64]) -> Counted
     requires { Fits rig states start h (length cells.old) }
-    ensures result_value { countAnswer result ≡ countFrom (recordAutomaton rig) h start }
-    ensures cells_after { cells.new ≡ filled (recordAutomaton rig) h cells.old }
+    ensures result_value { count_answer result ≡ count_from (record_automaton rig) h start }
+    ensures cells_after { cells.new ≡ filled (record_automaton rig) h cells.old }
 {
     let mut table = [0u16; 16384];
     let f = filling::fill_cells(rig, states, h, cells, &mut table, start);
@@ -50,8 +50,8 @@ fn count_cells(rig: Rig, states: usize, start: usize, h: usize, cells: &mut [u64
 
 // 'Count: text, h, cells. Gives N and the passes.'
 pub fn count(text: &[u8], h: u64, cells: &mut [u64]) -> Counted
-    ensures result_value { countAnswer result ≡ promised.count text.now h cells.old }
-    ensures cells_after { cells.new ≡ promised.countCells text.now h cells.old }
+    ensures result_value { count_answer result ≡ promised.count text.now h cells.old }
+    ensures cells_after { cells.new ≡ promised.count_cells text.now h cells.old }
 {
     let o = checks::load(text, h, Rows::All, cells.len());
     let checked = o.checked;
@@ -73,9 +73,9 @@ fn list_cells(
     out: &mut [u8],
 ) -> Listed
     requires { Fits rig states start h (length cells.old) × (length list.now * h ≤ length out.old) }
-    ensures result_value { listAnswer result ≡ list_from (recordAutomaton rig) h start list.now }
-    ensures cells_after { cells.new ≡ filled (recordAutomaton rig) h cells.old }
-    ensures out_after { out.new ≡ outputFrom (recordAutomaton rig) h start (listAnswer result) list.now out.old }
+    ensures result_value { list_answer result ≡ list_from (record_automaton rig) h start list.now }
+    ensures cells_after { cells.new ≡ filled (record_automaton rig) h cells.old }
+    ensures out_after { out.new ≡ output_from (record_automaton rig) h start (list_answer result) list.now out.old }
 {
     let mut table = [0u16; 16384];
     let f = filling::fill_cells(rig, states, h, cells, &mut table, start);
@@ -94,8 +94,8 @@ fn list_cells(
 
 // 'Scenarios: text, h, a list of indices, cells, output bytes.'
 pub fn scenarios(text: &[u8], h: u64, list: &[u64], cells: &mut [u64], out: &mut [u8]) -> Listed
-    ensures result_value { listAnswer result ≡ promised.scenarios text.now h list.now cells.old out.old }
-    ensures cells_after { cells.new ≡ promised.scenariosCells text.now h list.now cells.old out.old }
+    ensures result_value { list_answer result ≡ promised.scenarios text.now h list.now cells.old out.old }
+    ensures cells_after { cells.new ≡ promised.scenarios_cells text.now h list.now cells.old out.old }
     ensures out_after { out.new ≡ promised.written text.now h list.now cells.old out.old }
 {
     let o = checks::load(text, h, Rows::All, cells.len());
@@ -115,8 +115,8 @@ pub fn scenarios(text: &[u8], h: u64, list: &[u64], cells: &mut [u64], out: &mut
 // Index, once the checks up to 13 are passed.
 fn index_cells(rig: Rig, states: usize, start: usize, sequence: &[u8], cells: &mut [u64]) -> Indexed
     requires { Fits rig states start (length sequence.now) (length cells.old) }
-    ensures result_value { indexAnswer result ≡ indexFrom (recordAutomaton rig) start sequence.now }
-    ensures cells_after { cells.new ≡ filled (recordAutomaton rig) (length sequence.now) cells.old }
+    ensures result_value { index_answer result ≡ index_from (record_automaton rig) start sequence.now }
+    ensures cells_after { cells.new ≡ filled (record_automaton rig) (length sequence.now) cells.old }
 {
     let h = sequence.len();
     let mut table = [0u16; 16384];
@@ -136,8 +136,8 @@ fn index_cells(rig: Rig, states: usize, start: usize, sequence: &[u8], cells: &m
 
 // 'Index: text, a sequence of event bytes (its length is h), cells. Gives its index.'
 pub fn index(text: &[u8], sequence: &[u8], cells: &mut [u64]) -> Indexed
-    ensures result_value { indexAnswer result ≡ promised.index text.now sequence.now cells.old }
-    ensures cells_after { cells.new ≡ promised.indexCells text.now sequence.now cells.old }
+    ensures result_value { index_answer result ≡ promised.index text.now sequence.now cells.old }
+    ensures cells_after { cells.new ≡ promised.index_cells text.now sequence.now cells.old }
 {
     let h = sequence.len();
     let o = checks::load(text, h as u64, Rows::All, cells.len());

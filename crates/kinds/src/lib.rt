@@ -1,11 +1,11 @@
 // The kinds of monitor: what a line that begins one says, each function up to `mark` by the kind; then the tables of any kind, and the moves on one event.
 ghost use Rattle.std.specs.Prelude.{◌≡◌, false, ◌&&◌, [], ℕ, suc, ◌+◌, ◌%◌, ◌≤◌, ◌<◌, pos, neg_ℤ, length, set, leb, ltb, eqb};
 ghost use Rattle.lists.specs.Lists.{pick, overwrite};
-ghost use Rattle.promises.specs.Text.{bal, statesOf, start_of};
+ghost use Rattle.promises.specs.Text.{bal, states_of, start_of};
 ghost use Rattle.promises.specs.Reading as promised;
-ghost use Rattle.promises.specs.Rig.{gapNext, replyNext, balNext, next_of, markedOf};
-ghost use Rattle.rig.specs.Record.{stopIndex};
-ghost use Rattle.kinds.specs.Kinds.{asKind, InRange, monStates, bandOf, daySteps, row_at, entry_of, withRows, kindMoves, kindStops, withStep, hourOf, withHours};
+ghost use Rattle.promises.specs.Rig.{gap_next, reply_next, bal_next, next_of, marked_of};
+ghost use Rattle.rig.specs.Record.{stop_index};
+ghost use Rattle.kinds.specs.Kinds.{as_kind, InRange, mon_states, band_of, day_steps, row_at, entry_of, with_rows, kind_moves, kind_stops, with_step, hour_of, with_hours};
 
 use decoding::Kind;
 
@@ -48,7 +48,7 @@ pub fn outside_signed(lo: i64, hi: i64, x: i64) -> bool
 
 // Whether a number of the line is out of its range.
 pub fn out_of_range(k: Kind, events: usize) -> bool
-    ensures { result ≡ promised.outOfRange events (asKind k) }
+    ensures { result ≡ promised.is_out_of_range events (as_kind k) }
 {
     match k {
         Kind::Mon(s, a) => {
@@ -90,7 +90,7 @@ pub fn out_of_range(k: Kind, events: usize) -> bool
 
 // Whether its a equals its b.
 pub fn equal(k: Kind) -> bool
-    ensures { result ≡ promised.equal (asKind k) }
+    ensures { result ≡ promised.equal (as_kind k) }
 {
     match k {
         Kind::Mon(_, _) => false,
@@ -104,15 +104,15 @@ pub fn equal(k: Kind) -> bool
 // How many states a `bal` has: 'It has hi−lo+1 states'.
 fn band_states(lo: i64, hi: i64) -> usize
     requires { InRange (bal lo hi) }
-    ensures { result ≡ statesOf (bal lo hi) }
+    ensures { result ≡ states_of (bal lo hi) }
 {
     (hi - lo) as usize + 1
 }
 
 // How many states the monitor has.
 pub fn states(k: Kind) -> usize
-    requires { InRange (asKind k) }
-    ensures { result ≡ statesOf (asKind k) }
+    requires { InRange (as_kind k) }
+    ensures { result ≡ states_of (as_kind k) }
 {
     match k {
         Kind::Mon(s, _) => s,
@@ -125,8 +125,8 @@ pub fn states(k: Kind) -> usize
 
 // The state that it starts in.
 pub fn start(k: Kind) -> usize
-    requires { InRange (asKind k) }
-    ensures { result ≡ start_of (asKind k) }
+    requires { InRange (as_kind k) }
+    ensures { result ≡ start_of (as_kind k) }
 {
     match k {
         Kind::Mon(_, a) => a,
@@ -139,7 +139,7 @@ pub fn start(k: Kind) -> usize
 
 // Whether it is a `mon`.
 fn is_mon(k: Kind) -> bool
-    ensures { result ≡ promised.isMon (asKind k) }
+    ensures { result ≡ promised.is_mon (as_kind k) }
 {
     match k {
         Kind::Mon(_, _) => true,
@@ -152,7 +152,7 @@ fn is_mon(k: Kind) -> bool
 
 // How many states a `go` or `stop` line can name: those of a `mon`.
 pub fn mon_states(k: Kind) -> usize
-    ensures { result ≡ monStates k }
+    ensures { result ≡ mon_states k }
 {
     match k {
         Kind::Mon(s, _) => s,
@@ -165,7 +165,7 @@ pub fn mon_states(k: Kind) -> usize
 
 // The band in which an `amp` line moves: that of a `bal`.
 pub fn band_of(k: Kind) -> Band
-    ensures { result ≡ bandOf k }
+    ensures { result ≡ band_of k }
 {
     match k {
         Kind::Mon(_, _) => Band { lo: 1, hi: 0 },
@@ -178,7 +178,7 @@ pub fn band_of(k: Kind) -> Band
 
 // How many steps the hours of an `open` line can be of: those of a `day`.
 pub fn day_steps(k: Kind) -> usize
-    ensures { result ≡ daySteps k }
+    ensures { result ≡ day_steps k }
 {
     match k {
         Kind::Mon(_, _) => 0,
@@ -212,7 +212,7 @@ fn same_row(t: usize) -> Row
 // The row of a `gap` in state s: 'The state of `gap` is the number of coming steps that bar e'.
 fn gap_row(e: usize, n: usize, s: usize) -> Row
     requires { 1 ≤ n }
-    ensures { (u : ℕ) → row_at result u ≡ gapNext e n s u }
+    ensures { (u : ℕ) → row_at result u ≡ gap_next e n s u }
 {
     if s == 0 {
         return event_row(e, n - 1, 0);
@@ -223,7 +223,7 @@ fn gap_row(e: usize, n: usize, s: usize) -> Row
 // The row of a `reply` in state s: '0 with nothing due, 1 just after a, and one more each step'.
 fn reply_row(a: usize, b: usize, lo: usize, hi: usize, s: usize) -> Row
     requires { (hi ≤ 31) × (s ≤ 31) }
-    ensures { (u : ℕ) → row_at result u ≡ replyNext a b lo hi s u }
+    ensures { (u : ℕ) → row_at result u ≡ reply_next a b lo hi s u }
 {
     if s == 0 {
         return event_row(a, 1, 0);
@@ -245,7 +245,7 @@ fn reply_row(a: usize, b: usize, lo: usize, hi: usize, s: usize) -> Row
 // Where a `bal` moves from s by a step d: 'state j is the difference lo+j', 'admitted if the running difference stays from lo to hi'.
 fn bal_next(lo: i64, hi: i64, d: i64, s: usize) -> usize
     requires { InRange (bal lo hi) × (promised.outsideℤ (neg_ℤ (pos 15)) (pos 15) d ≡ false) × (s ≤ 31) }
-    ensures { result ≡ balNext lo hi d s }
+    ensures { result ≡ bal_next lo hi d s }
 {
     let difference = lo + s as i64 + d;
     if outside_signed(lo, hi, difference) {
@@ -268,8 +268,8 @@ fn day_next(t: usize, s: usize) -> usize
 
 // Its row in state s, without further lines; a number that is no state where it does not admit the event.
 fn row_in(k: Kind, s: usize) -> Row
-    requires { InRange (asKind k) × (s < statesOf (asKind k)) }
-    ensures { (u : ℕ) → row_at result u ≡ next_of (asKind k) [] s u }
+    requires { InRange (as_kind k) × (s < states_of (as_kind k)) }
+    ensures { (u : ℕ) → row_at result u ≡ next_of (as_kind k) [] s u }
 {
     match k {
         Kind::Mon(n, _) => same_row(n),
@@ -282,7 +282,7 @@ fn row_in(k: Kind, s: usize) -> Row
 
 // 1 where its state s is marked without further lines, else 0.
 fn mark(k: Kind, s: usize) -> u8
-    ensures { result ≡ pick (markedOf (asKind k) [] s) 1 0 }
+    ensures { result ≡ pick (marked_of (as_kind k) [] s) 1 0 }
 {
     match k {
         Kind::Mon(_, _) => 0,
@@ -329,8 +329,8 @@ fn fill_row(moves: &mut [u8], at: usize, r: Row, n: usize)
 // The moves of monitor m from each of its states.
 fn fill_moves(moves: &mut [u8], m: usize, k: Kind)
     requires moves_len { (length moves.old ≡ 2048) × (m < 4) }
-    requires in_range { InRange (asKind k) }
-    ensures { moves.new ≡ withRows moves.old m (asKind k) (statesOf (asKind k)) }
+    requires in_range { InRange (as_kind k) }
+    ensures { moves.new ≡ with_rows moves.old m (as_kind k) (states_of (as_kind k)) }
 {
     let n = states(k);
     for s in 0..n {
@@ -342,8 +342,8 @@ fn fill_moves(moves: &mut [u8], m: usize, k: Kind)
 // The marks of the states of monitor m.
 fn fill_marks(stops: &mut [u8], m: usize, k: Kind)
     requires stops_len { (length stops.old ≡ 128) × (m < 4) }
-    requires in_range { InRange (asKind k) }
-    ensures { stops.new ≡ overwrite stops.old (stopIndex m) (λ s. pick (markedOf (asKind k) [] s) 1 0) (statesOf (asKind k)) }
+    requires in_range { InRange (as_kind k) }
+    ensures { stops.new ≡ overwrite stops.old (stop_index m) (λ s. pick (marked_of (as_kind k) [] s) 1 0) (states_of (as_kind k)) }
 {
     for s in 0..states(k) {
         stops[m * 32 + s] = mark(k, s);
@@ -353,9 +353,9 @@ fn fill_marks(stops: &mut [u8], m: usize, k: Kind)
 // Writes what the line says into the tables of monitor m: all moves and marks of its kind. A `mon` line leaves them as they are.
 pub fn fill_tables(moves: &mut [u8], stops: &mut [u8], m: usize, k: Kind)
     requires moves_len { (length moves.old ≡ 2048) × (length stops.old ≡ 128) × (m < 4) }
-    requires in_range { InRange (asKind k) }
-    ensures moves_after { moves.new ≡ kindMoves moves.old m (asKind k) }
-    ensures stops_after { stops.new ≡ kindStops stops.old m (asKind k) }
+    requires in_range { InRange (as_kind k) }
+    ensures moves_after { moves.new ≡ kind_moves moves.old m (as_kind k) }
+    ensures stops_after { stops.new ≡ kind_stops stops.old m (as_kind k) }
 {
     if is_mon(k) {
         return;
@@ -370,7 +370,7 @@ pub fn fill_tables(moves: &mut [u8], stops: &mut [u8], m: usize, k: Kind)
 pub fn fill_step(moves: &mut [u8], m: usize, lo: i64, hi: i64, e: usize, d: i64)
     requires moves_len { (length moves.old ≡ 2048) × (m < 4) × (e < 16) }
     requires in_range { InRange (bal lo hi) × (promised.outsideℤ (neg_ℤ (pos 15)) (pos 15) d ≡ false) }
-    ensures { moves.new ≡ withStep moves.old m (bal lo hi) e d }
+    ensures { moves.new ≡ with_step moves.old m (bal lo hi) e d }
 {
     let n = band_states(lo, hi);
     for j in 0..n {
@@ -393,7 +393,7 @@ fn in_hours(a: usize, b: usize, s: usize) -> bool
 // is the first of its event.
 fn hour(t: usize, a: usize, b: usize, first: bool, s: usize, before: u8) -> u8
     requires { (s < t) × (t ≤ 32) }
-    ensures { result ≡ hourOf t a b first s before }
+    ensures { result ≡ hour_of t a b first s before }
 {
     if in_hours(a, b, s) {
         return day_next(t, s) as u8;
@@ -404,7 +404,7 @@ fn hour(t: usize, a: usize, b: usize, first: bool, s: usize, before: u8) -> u8
 // The moves of monitor m, a `day` of t steps, on event e with one `open` line more: 'Several lines add up', and the first closes the steps not in its hours.
 pub fn fill_hours(moves: &mut [u8], m: usize, t: usize, e: usize, a: usize, b: usize, first: bool)
     requires { (length moves.old ≡ 2048) × (m < 4) × (e < 16) × (t ≤ 32) }
-    ensures { moves.new ≡ withHours moves.old m t e a b first }
+    ensures { moves.new ≡ with_hours moves.old m t e a b first }
 {
     for s in 0..t {
         let at = (m * 32 + s) * 16 + e;

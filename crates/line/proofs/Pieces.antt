@@ -7,24 +7,24 @@ use native.Mathlib.Omega.{arith}
 use native.Mathlib.Nat.{add-zero}
 use lib.ListN.{length, get_or, set, take, drop, length-append, take-append-drop}
 use lib.Seq.{take-append_seam, drop-append-add, drop-drop, set_split, append_snoc, take-suc, length-take-le}
-use Rattle.lists.specs.Lists.{concatMap}
-use Rattle.lists.proofs.Fronts.{front-put, front-from}
+use Rattle.lists.specs.Lists.{concat_map}
+use Rattle.lists.proofs.Fronts.{front_put, front_from}
 use Rattle.lists.specs.Decimal.{decimal}
-use Rattle.lists.proofs.Members.{length-concatMap}
+use Rattle.lists.proofs.Members.{length-concat_map}
 use Rattle.lists.proofs.Sums.{sum-take}
 use Rattle.lists.proofs.Decimal.{decimal-short}
-use Rattle.line.specs.Line.{fieldBytes, lineFrom, placed, numbersOf}
+use Rattle.line.specs.Line.{field_bytes, line_from, placed, numbers_of}
 
 -- a piece placed where the front ends
-pub front-placed : (s t d out : List ℕ) (at : ℕ) → at ≡ length s → out ≡ s ++ drop (length s) d → placed t at out ≡ (s ++ t) ++ drop (length (s ++ t)) d
-front-placed s t d out at a e = rw (a, e, take-append_seam, drop-append-add, drop-drop, length-append)
+pub front_placed : (s t d out : List ℕ) (at : ℕ) → at ≡ length s → out ≡ s ++ drop (length s) d → placed t at out ≡ (s ++ t) ++ drop (length (s ++ t)) d
+front_placed s t d out at a e = rw (a, e, take-append_seam, drop-append-add, drop-drop, length-append)
 
 -- byte 9 stored, and the digits written to the part after it
 pub field-placed : (n at : ℕ) (out last : List ℕ) → at < length out
     → last ≡ decimal n ++ drop (length (decimal n)) (take (length (set out at 9) - (at + 1)) (drop (at + 1) (set out at 9)))
-    → take (at + 1) (set out at 9) ++ (last ++ drop (length (set out at 9) - (at + 1)) (drop (at + 1) (set out at 9))) ≡ placed (fieldBytes n) at out
+    → take (at + 1) (set out at 9) ++ (last ++ drop (length (set out at 9) - (at + 1)) (drop (at + 1) (set out at 9))) ≡ placed (field_bytes n) at out
 field-placed n at out last h back =
-    front-from s out (decimal n) (set out at 9) last (at + 1) (sym k) e back
+    front_from s out (decimal n) (set out at 9) last (at + 1) (sym k) e back
     ∙ ap₂ (λ (l : List ℕ) (m : ℕ). l ++ drop m out) (append_snoc (take at out) 9 (decimal n)) more
   where
     s : List ℕ
@@ -33,22 +33,22 @@ field-placed n at out last h back =
     k : length s ≡ at + 1
     k = length-append (take at out) (9 ∷ []) ∙ rw (length-take-le at out (omega arith))
 
-    more : length (s ++ decimal n) ≡ at + length (fieldBytes n)
+    more : length (s ++ decimal n) ≡ at + length (field_bytes n)
     more = omega (arith, length-append s (decimal n), k)
 
     e : set out at 9 ≡ s ++ drop (length s) out
     e = set_split out at 9 h ∙ rw (k, add-one) (sym (append_snoc (take at out) 9 (drop (suc at) out)))
 
-pub concatMap-take : (f : ℕ → List ℕ) (l : List ℕ) (k : ℕ) → k < length l → concatMap f (take (suc k) l) ≡ concatMap f (take k l) ++ f (get_or l k 0)
-concatMap-take f [] k h = absurd (omega arith)
-concatMap-take f (x ∷ l) zero h = append-nil (f x)
-concatMap-take f (x ∷ l) (suc k) h = rw (concatMap-take f l k (omega arith)) (sym (append_assoc (f x) (concatMap f (take k l)) (f (get_or l k 0))))
+pub concat_map-take : (f : ℕ → List ℕ) (l : List ℕ) (k : ℕ) → k < length l → concat_map f (take (suc k) l) ≡ concat_map f (take k l) ++ f (get_or l k 0)
+concat_map-take f [] k h = absurd (omega arith)
+concat_map-take f (x ∷ l) zero h = append-nil (f x)
+concat_map-take f (x ∷ l) (suc k) h = rw (concat_map-take f l k (omega arith)) (sym (append_assoc (f x) (concat_map f (take k l)) (f (get_or l k 0))))
 
 -- one byte more of a word
 pub word_more : (word d out : List ℕ) (k : ℕ) → k < length word → k < length d → out ≡ take k word ++ drop k d → set out k (get_or word k 0) ≡ take (k + 1) word ++ drop (k + 1) d
 word_more word d out k h l q =
     let e : length (take k word) ≡ k = length-take-le k word (omega arith) in
-    rw (q, add-one, take-suc word k 0 h) (simp (length-append, e, add-one) at (front-put (take k word) d (get_or word k 0) (rw e l)))
+    rw (q, add-one, take-suc word k 0 h) (simp (length-append, e, add-one) at (front_put (take k word) d (get_or word k 0) (rw e l)))
 
 -- no piece, and a piece after a piece
 pub placed-none : (at : ℕ) (d : List ℕ) → d ≡ placed [] at d
@@ -59,33 +59,33 @@ placed-more s t d at h =
     let front = take at d ++ s in
     let q : length front ≡ at + length s = length-append (take at d) s ∙ rw (length-take-le at d h) in
     let r : length (front ++ t) ≡ at + length (s ++ t) = omega (arith, q, length-append front t, length-append s t) in
-    front-placed front t d (placed s at d) (at + length s) (sym q) (rw q)
+    front_placed front t d (placed s at d) (at + length s) (sym q) (rw q)
     ∙ ap₂ (λ (l : List ℕ) (m : ℕ). l ++ drop m d) (append_assoc (take at d) s t) r
 
-pub fields_within : (events : List ℕ) (k : ℕ) → length (concatMap fieldBytes (take k events)) ≤ length (concatMap fieldBytes events)
-fields_within events k = rw (length-concatMap fieldBytes (take k events), length-concatMap fieldBytes events) (sum-take (λ e. length (fieldBytes e)) k events)
+pub fields_within : (events : List ℕ) (k : ℕ) → length (concat_map field_bytes (take k events)) ≤ length (concat_map field_bytes events)
+fields_within events k = rw (length-concat_map field_bytes (take k events), length-concat_map field_bytes events) (sum-take (λ e. length (field_bytes e)) k events)
 
 -- an event is a byte, and has three digits at most
-pub fields-short : (events : List ℕ) → ((k : ℕ) → get_or events k 0 < 256) → length (concatMap fieldBytes events) ≤ 4 * length events
+pub fields-short : (events : List ℕ) → ((k : ℕ) → get_or events k 0 < 256) → length (concat_map field_bytes events) ≤ 4 * length events
 fields-short [] small = omega arith
 fields-short (e ∷ events) small =
-    omega (arith, length-append (fieldBytes e) (concatMap fieldBytes events), decimal-short 3 e (omega (arith, small 0)) (omega arith), fields-short events (λ k. small (suc k)))
+    omega (arith, length-append (field_bytes e) (concat_map field_bytes events), decimal-short 3 e (omega (arith, small 0)) (omega arith), fields-short events (λ k. small (suc k)))
 
 module _ (events : List ℕ) (k : ℕ) (lt : k < length events) where
-  pub length_fields : length (concatMap fieldBytes (take (k + 1) events)) ≡ length (concatMap fieldBytes (take k events)) + length (fieldBytes (get_or events k 0))
-  length_fields = rw (add-one k, concatMap-take fieldBytes events k lt, length-append)
+  pub length_fields : length (concat_map field_bytes (take (k + 1) events)) ≡ length (concat_map field_bytes (take k events)) + length (field_bytes (get_or events k 0))
+  length_fields = rw (add-one k, concat_map-take field_bytes events k lt, length-append)
 
   -- one event more
-  pub fields-more : (d out : List ℕ) (at end : ℕ) → at ≤ length d → end ≡ at + length (concatMap fieldBytes (take k events)) → out ≡ placed (concatMap fieldBytes (take k events)) at d
-      → placed (fieldBytes (get_or events k 0)) end out ≡ placed (concatMap fieldBytes (take (k + 1) events)) at d
-  fields-more d out at end h e q = rw (e, q, add-one k, concatMap-take fieldBytes events k lt) (placed-more (concatMap fieldBytes (take k events)) (fieldBytes (get_or events k 0)) d at h)
+  pub fields_more : (d out : List ℕ) (at end : ℕ) → at ≤ length d → end ≡ at + length (concat_map field_bytes (take k events)) → out ≡ placed (concat_map field_bytes (take k events)) at d
+      → placed (field_bytes (get_or events k 0)) end out ≡ placed (concat_map field_bytes (take (k + 1) events)) at d
+  fields_more d out at end h e q = rw (e, q, add-one k, concat_map-take field_bytes events k lt) (placed-more (concat_map field_bytes (take k events)) (field_bytes (get_or events k 0)) d at h)
 
 -- ---- whole lines
 
 -- the line end after the last piece
 ended : (s d out : List ℕ) (end : ℕ) → length s < length d → end ≡ length s → out ≡ s ++ drop (length s) d
     → (end + 1 ≡ length (s ++ 10 ∷ [])) × (set out end 10 ≡ (s ++ 10 ∷ []) ++ drop (length (s ++ 10 ∷ [])) d)
-ended s d out end h e q = (omega (arith, length-append s (10 ∷ [])), rw (e, q) (front-put s d 10 h))
+ended s d out end h e q = (omega (arith, length-append s (10 ∷ [])), rw (e, q) (front_put s d 10 h))
 
 -- after pieces that stand at `at`
 pub ended-placed : (s d out : List ℕ) (at end : ℕ) → at + length s < length d → end ≡ at + length s → out ≡ placed s at d
@@ -100,38 +100,38 @@ ended-placed s d out at end h e q =
 -- the rest of a line after its first field
 pub rest-written : (first ns d out out' : List ℕ) (from end : ℕ)
     → from ≡ length first → out ≡ first ++ drop (length first) d
-    → end ≡ from + length (lineFrom [] ns) → out' ≡ placed (lineFrom [] ns) from out
-    → (end ≡ length (lineFrom first ns)) × (out' ≡ lineFrom first ns ++ drop (length (lineFrom first ns)) d)
+    → end ≡ from + length (line_from [] ns) → out' ≡ placed (line_from [] ns) from out
+    → (end ≡ length (line_from first ns)) × (out' ≡ line_from first ns ++ drop (length (line_from first ns)) d)
 rest-written first ns d out out' from end f q e q' =
-    let rest = concatMap fieldBytes ns ++ 10 ∷ [] in
-    let same : first ++ rest ≡ lineFrom first ns = sym (append_assoc first (concatMap fieldBytes ns) (10 ∷ [])) in (
+    let rest = concat_map field_bytes ns ++ 10 ∷ [] in
+    let same : first ++ rest ≡ line_from first ns = sym (append_assoc first (concat_map field_bytes ns) (10 ∷ [])) in (
       rw (← same, length-append first rest) (omega arith),
-      q' ∙ front-placed first rest d out from f q ∙ ap (λ l. l ++ drop (length l) d) same,
+      q' ∙ front_placed first rest d out from f q ∙ ap (λ l. l ++ drop (length l) d) same,
     )
 
-pub number-long : (word : List ℕ) (n : ℕ) → length (lineFrom word (n ∷ [])) ≡ length word + length (fieldBytes n) + 1
+pub number-long : (word : List ℕ) (n : ℕ) → length (line_from word (n ∷ [])) ≡ length word + length (field_bytes n) + 1
 number-long word n = rw (append-nil, length-append, length-append) (omega arith)
 
 pub number-written : (word d out out' : List ℕ) (n from end : ℕ)
     → end < length d
     → from ≡ length word → out ≡ word ++ drop (length word) d
-    → end ≡ from + length (fieldBytes n) → out' ≡ placed (fieldBytes n) from out
-    → (end + 1 ≡ length (lineFrom word (n ∷ []))) × (set out' end 10 ≡ lineFrom word (n ∷ []) ++ drop (length (lineFrom word (n ∷ []))) d)
+    → end ≡ from + length (field_bytes n) → out' ≡ placed (field_bytes n) from out
+    → (end + 1 ≡ length (line_from word (n ∷ []))) × (set out' end 10 ≡ line_from word (n ∷ []) ++ drop (length (line_from word (n ∷ []))) d)
 number-written word d out out' n from end h f q e q' =
-    let l = length-append word (fieldBytes n) in
-    rw append-nil (ended (word ++ fieldBytes n) d out' end (omega (arith, l)) (omega (arith, l)) (q' ∙ front-placed word (fieldBytes n) d out from f q))
+    let l = length-append word (field_bytes n) in
+    rw append-nil (ended (word ++ field_bytes n) d out' end (omega (arith, l)) (omega (arith, l)) (q' ∙ front_placed word (field_bytes n) d out from f q))
 
 pub numbers-written : (word d out out' out'' : List ℕ) (a b from next end : ℕ)
     → end < length d
     → from ≡ length word → out ≡ word ++ drop (length word) d
-    → next ≡ from + length (fieldBytes a) → out' ≡ placed (fieldBytes a) from out
-    → end ≡ next + length (fieldBytes b) → out'' ≡ placed (fieldBytes b) next out'
-    → (end + 1 ≡ length (numbersOf word a b)) × (set out'' end 10 ≡ numbersOf word a b ++ drop (length (numbersOf word a b)) d)
-unfolding numbersOf
+    → next ≡ from + length (field_bytes a) → out' ≡ placed (field_bytes a) from out
+    → end ≡ next + length (field_bytes b) → out'' ≡ placed (field_bytes b) next out'
+    → (end + 1 ≡ length (numbers_of word a b)) × (set out'' end 10 ≡ numbers_of word a b ++ drop (length (numbers_of word a b)) d)
+unfolding numbers_of
 numbers-written word d out out' out'' a b from next end h f q n q' e q'' =
-    let l = length-append word (fieldBytes a) in
-    let m = length-append (word ++ fieldBytes a) (fieldBytes b) in
-    let two : out' ≡ (word ++ fieldBytes a) ++ drop (length (word ++ fieldBytes a)) d = q' ∙ front-placed word (fieldBytes a) d out from f q in
-    rw (append-nil, ← append_assoc word (fieldBytes a) (fieldBytes b))
-    (ended (word ++ fieldBytes a ++ fieldBytes b) d out'' end (omega (arith, l, m)) (omega (arith, l, m))
-    (q'' ∙ front-placed (word ++ fieldBytes a) (fieldBytes b) d out' next (omega (arith, l)) two))
+    let l = length-append word (field_bytes a) in
+    let m = length-append (word ++ field_bytes a) (field_bytes b) in
+    let two : out' ≡ (word ++ field_bytes a) ++ drop (length (word ++ field_bytes a)) d = q' ∙ front_placed word (field_bytes a) d out from f q in
+    rw (append-nil, ← append_assoc word (field_bytes a) (field_bytes b))
+    (ended (word ++ field_bytes a ++ field_bytes b) d out'' end (omega (arith, l, m)) (omega (arith, l, m))
+    (q'' ∙ front_placed (word ++ field_bytes a) (field_bytes b) d out' next (omega (arith, l)) two))

@@ -1,14 +1,14 @@
 // The lines that the program prints and those of a sheet, each written at the front of a lent part; and how long they are.
 ghost use Rattle.std.specs.Prelude.{◌≡◌, [], ◌∷◌, ◌++◌, ◌+◌, ◌*◌, ◌<◌, ◌≤◌, ◌^◌, length, drop};
-ghost use Rattle.lists.specs.Lists.{concatMap};
+ghost use Rattle.lists.specs.Lists.{concat_map};
 ghost use Rattle.lists.specs.Decimal.{decimal};
-ghost use Rattle.line.specs.Line.{fieldBytes, lineFrom, placed, line_of, numbersOf};
+ghost use Rattle.line.specs.Line.{field_bytes, line_from, placed, line_of, numbers_of};
 
 // Writes byte 9 and the digits of n from `at` on, and gives where they end.
 fn write_field(n: u64, at: usize, out: &mut [u8]) -> usize
-    requires { at + length (fieldBytes n) ≤ length out.old }
-    ensures value { result ≡ at + length (fieldBytes n) }
-    ensures out_after { out.new ≡ placed (fieldBytes n) at out.old }
+    requires { at + length (field_bytes n) ≤ length out.old }
+    ensures value { result ≡ at + length (field_bytes n) }
+    ensures out_after { out.new ≡ placed (field_bytes n) at out.old }
 {
     out[at] = 9;
     let from = at + 1;
@@ -17,9 +17,9 @@ fn write_field(n: u64, at: usize, out: &mut [u8]) -> usize
 
 // Writes byte 9 and the digits of each event from `at` on, one event after the other, and gives where they end.
 fn write_fields(events: &[u8], at: usize, out: &mut [u8]) -> usize
-    requires { at + length (concatMap fieldBytes events.now) ≤ length out.old }
-    ensures value { result ≡ at + length (concatMap fieldBytes events.now) }
-    ensures out_after { out.new ≡ placed (concatMap fieldBytes events.now) at out.old }
+    requires { at + length (concat_map field_bytes events.now) ≤ length out.old }
+    ensures value { result ≡ at + length (concat_map field_bytes events.now) }
+    ensures out_after { out.new ≡ placed (concat_map field_bytes events.now) at out.old }
 {
     let mut end = at;
     for k in 0..events.len() {
@@ -30,9 +30,9 @@ fn write_fields(events: &[u8], at: usize, out: &mut [u8]) -> usize
 
 // Writes the fields of the events from `at` on and ends the line, whose first field stands there already. Gives where the line ends.
 fn write_rest(events: &[u8], at: usize, out: &mut [u8]) -> usize
-    requires { at + length (lineFrom [] events.now) ≤ length out.old }
-    ensures value { result ≡ at + length (lineFrom [] events.now) }
-    ensures out_after { out.new ≡ placed (lineFrom [] events.now) at out.old }
+    requires { at + length (line_from [] events.now) ≤ length out.old }
+    ensures value { result ≡ at + length (line_from [] events.now) }
+    ensures out_after { out.new ≡ placed (line_from [] events.now) at out.old }
 {
     let end = write_fields(events, at, out);
     out[end] = 10;
@@ -63,9 +63,9 @@ pub fn write_line(index: u64, events: &[u8], out: &mut [u8]) -> usize
 
 // Writes the line of a word and events at the front of `out` and gives its length; the rest of `out` keeps its contents.
 pub fn write_events(word: &[u8], events: &[u8], out: &mut [u8]) -> usize
-    requires { length (lineFrom word.now events.now) ≤ length out.old }
-    ensures value { result ≡ length (lineFrom word.now events.now) }
-    ensures out_after { out.new ≡ lineFrom word.now events.now ++ drop (length (lineFrom word.now events.now)) out.old }
+    requires { length (line_from word.now events.now) ≤ length out.old }
+    ensures value { result ≡ length (line_from word.now events.now) }
+    ensures out_after { out.new ≡ line_from word.now events.now ++ drop (length (line_from word.now events.now)) out.old }
 {
     let from = write_word(word, out);
     write_rest(events, from, out)
@@ -73,9 +73,9 @@ pub fn write_events(word: &[u8], events: &[u8], out: &mut [u8]) -> usize
 
 // Writes the line of a word and a number at the front of `out` and gives its length; the rest of `out` keeps its contents.
 pub fn write_number(word: &[u8], n: u64, out: &mut [u8]) -> usize
-    requires { length (lineFrom word.now (n ∷ [])) ≤ length out.old }
-    ensures value { result ≡ length (lineFrom word.now (n ∷ [])) }
-    ensures out_after { out.new ≡ lineFrom word.now (n ∷ []) ++ drop (length (lineFrom word.now (n ∷ []))) out.old }
+    requires { length (line_from word.now (n ∷ [])) ≤ length out.old }
+    ensures value { result ≡ length (line_from word.now (n ∷ [])) }
+    ensures out_after { out.new ≡ line_from word.now (n ∷ []) ++ drop (length (line_from word.now (n ∷ []))) out.old }
 {
     let from = write_word(word, out);
     let after = write_field(n, from, out);
@@ -86,8 +86,8 @@ pub fn write_number(word: &[u8], n: u64, out: &mut [u8]) -> usize
 // Writes the line of a word and two numbers at the front of `out` and gives its length; the rest of `out` keeps its contents.
 pub fn write_numbers(word: &[u8], a: u64, b: u64, out: &mut [u8]) -> usize
     requires { length word.now + 43 ≤ length out.old }
-    ensures value { result ≡ length (numbersOf word.now a b) }
-    ensures out_after { out.new ≡ numbersOf word.now a b ++ drop (length (numbersOf word.now a b)) out.old }
+    ensures value { result ≡ length (numbers_of word.now a b) }
+    ensures out_after { out.new ≡ numbers_of word.now a b ++ drop (length (numbers_of word.now a b)) out.old }
 {
     let from = write_word(word, out);
     let after_a = write_field(a, from, out);
@@ -98,7 +98,7 @@ pub fn write_numbers(word: &[u8], a: u64, b: u64, out: &mut [u8]) -> usize
 
 // How many bytes the field of n has.
 pub fn field_length(n: u64) -> usize
-    ensures { result ≡ length (fieldBytes n) }
+    ensures { result ≡ length (field_bytes n) }
 {
     1 + decimal::count_digits(n)
 }
@@ -106,7 +106,7 @@ pub fn field_length(n: u64) -> usize
 // How many bytes the fields of the events have.
 pub fn fields_length(events: &[u8]) -> usize
     requires { 4 * length events.now < 2 ^ 64 }
-    ensures { result ≡ length (concatMap fieldBytes events.now) }
+    ensures { result ≡ length (concat_map field_bytes events.now) }
 {
     let mut bytes = 0;
     for k in 0..events.len() {

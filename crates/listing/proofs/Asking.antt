@@ -17,68 +17,68 @@ use Rattle.decoding.specs.Forms.{value_of}
 use Rattle.decoding.specs.declared.Decimal.{Decimal}
 use Rattle.decoding.specs.declared.Decimal.TheVariants.{Value, Wrong}
 use Rattle.decoding.proofs.Parts.{same_length}
-use Rattle.listing.specs.Listing.{firstLine, askedIn, asked}
-use Rattle.listing.specs.Printing.{askedAs}
+use Rattle.listing.specs.Listing.{first_line, asked_in, asked}
+use Rattle.listing.specs.Printing.{asked_as}
 use Rattle.listing.specs.declared.Asked.TheVariants.{Horizon, Bad}
 
 abbrev pub word : List ℕ
 word = bytes "ask\t"
 
-pub asks-short : (l : List ℕ) → length l < 4 → same (take 4 l) word ≡ false
-asks-short l h = same_length (take 4 l) word (λ q. let z : length (take 4 l) ≡ 4 = q in omega (arith, length-take 4 l))
+pub asks_short : (l : List ℕ) → length l < 4 → same (take 4 l) word ≡ false
+asks_short l h = same_length (take 4 l) word (λ q. let z : length (take 4 l) ≡ 4 = q in omega (arith, length-take 4 l))
 
-asks-bytes : (l : List ℕ) → 4 ≤ length l → same (take 4 l) word ≡ (eqb (get_or l 0 0) 97 && (eqb (get_or l 1 0) 115 && (eqb (get_or l 2 0) 107 && (eqb (get_or l 3 0) 9 && true))))
+asks_bytes : (l : List ℕ) → 4 ≤ length l → same (take 4 l) word ≡ (eqb (get_or l 0 0) 97 && (eqb (get_or l 1 0) 115 && (eqb (get_or l 2 0) 107 && (eqb (get_or l 3 0) 9 && true))))
 unfolding same
-asks-bytes [] h = absurd (omega arith)
-asks-bytes (a ∷ []) h = absurd (omega arith)
-asks-bytes (a ∷ (b ∷ [])) h = absurd (omega arith)
-asks-bytes (a ∷ (b ∷ (c ∷ []))) h = absurd (omega arith)
-asks-bytes (a ∷ (b ∷ (c ∷ (d ∷ l)))) h = refl
+asks_bytes [] h = absurd (omega arith)
+asks_bytes (a ∷ []) h = absurd (omega arith)
+asks_bytes (a ∷ (b ∷ [])) h = absurd (omega arith)
+asks_bytes (a ∷ (b ∷ (c ∷ []))) h = absurd (omega arith)
+asks_bytes (a ∷ (b ∷ (c ∷ (d ∷ l)))) h = refl
 
-and-true : (b : Bool) → b ≡ (b && true)
-and-true true = refl
-and-true false = refl
+and_true : (b : Bool) → b ≡ (b && true)
+and_true true = refl
+and_true false = refl
 
 -- the first byte that isn't the word's decides, and the fourth, where the first three are
 module _ (l : List ℕ) (h : 4 ≤ length l) where
-  pub asks-first : ¬ (get_or l 0 0 ≡ 97) → false ≡ same (take 4 l) word
-  asks-first a = sym (asks-bytes l h ∙ rw (ne_eqb _ _ a))
+  pub asks_first : ¬ (get_or l 0 0 ≡ 97) → false ≡ same (take 4 l) word
+  asks_first a = sym (asks_bytes l h ∙ rw (ne_eqb _ _ a))
 
-  pub asks-second : get_or l 0 0 ≡ 97 → ¬ (get_or l 1 0 ≡ 115) → false ≡ same (take 4 l) word
-  asks-second a b = sym (asks-bytes l h ∙ rw (eq-eqb _ _ a, ne_eqb _ _ b))
+  pub asks_second : get_or l 0 0 ≡ 97 → ¬ (get_or l 1 0 ≡ 115) → false ≡ same (take 4 l) word
+  asks_second a b = sym (asks_bytes l h ∙ rw (eq-eqb _ _ a, ne_eqb _ _ b))
 
-  pub asks-third : get_or l 0 0 ≡ 97 → get_or l 1 0 ≡ 115 → ¬ (get_or l 2 0 ≡ 107) → false ≡ same (take 4 l) word
-  asks-third a b c = sym (asks-bytes l h ∙ rw (eq-eqb _ _ a, eq-eqb _ _ b, ne_eqb _ _ c))
+  pub asks_third : get_or l 0 0 ≡ 97 → get_or l 1 0 ≡ 115 → ¬ (get_or l 2 0 ≡ 107) → false ≡ same (take 4 l) word
+  asks_third a b c = sym (asks_bytes l h ∙ rw (eq-eqb _ _ a, eq-eqb _ _ b, ne_eqb _ _ c))
 
-  pub asks-last : get_or l 0 0 ≡ 97 → get_or l 1 0 ≡ 115 → get_or l 2 0 ≡ 107 → eqb (get_or l 3 0) 9 ≡ same (take 4 l) word
-  asks-last a b c = rw (asks-bytes l h, eq-eqb _ _ a, eq-eqb _ _ b, eq-eqb _ _ c) (and-true (eqb (get_or l 3 0) 9))
+  pub asks_last : get_or l 0 0 ≡ 97 → get_or l 1 0 ≡ 115 → get_or l 2 0 ≡ 107 → eqb (get_or l 3 0) 9 ≡ same (take 4 l) word
+  asks_last a b c = rw (asks_bytes l h, eq-eqb _ _ a, eq-eqb _ _ b, eq-eqb _ _ c) (and_true (eqb (get_or l 3 0) 9))
 
-pub asks-long : (l : List ℕ) → same (take 4 l) word ≡ true → 4 ≤ length l
-asks-long l q = go (split 4 (length l))
+pub asks_long : (l : List ℕ) → same (take 4 l) word ≡ true → 4 ≤ length l
+asks_long l q = go (split 4 (length l))
   where
     go : (4 ≤ length l) ⊎ (length l < 4) → 4 ≤ length l
     go (inl h) = h
-    go (inr h) = contra q (asks-short l h)
+    go (inr h) = contra q (asks_short l h)
 
 -- ---- the horizon
 
-pub asked-number : (l : List ℕ) → same (take 4 l) word ≡ true → number (take (length l - 4) (drop 4 l)) ≡ askedIn l
-unfolding askedIn
+pub asked-number : (l : List ℕ) → same (take 4 l) word ≡ true → number (take (length l - 4) (drop 4 l)) ≡ asked_in l
+unfolding asked_in
 asked-number l q = rw (q, take_all (length l - 4) (drop 4 l) (omega (arith, length-drop 4 l)))
 
-pub asked-nothing : (l : List ℕ) → same (take 4 l) word ≡ false → none ≡ askedIn l
-unfolding askedIn
+pub asked-nothing : (l : List ℕ) → same (take 4 l) word ≡ false → none ≡ asked_in l
+unfolding asked_in
 asked-nothing l q = rw q
 
 module _ (input : List ℕ) (end : ℕ) (e : end ≡ index_of input 10) where
-  pub ask-good : end < length input → (d : Decimal) (h : ℕ) → value_of d ≡ askedIn (take end input) → d ≡ Value h → Horizon h (end + 1) ≡ askedAs (asked input) (index_of input 10 + 1)
-  unfolding asked firstLine
-  ask-good lt d h v q = rw (← e, lt-ltb end (length input) lt, ← v, q)
+  pub ask_good : end < length input → (d : Decimal) (h : ℕ) → value_of d ≡ asked_in (take end input) → d ≡ Value h → Horizon h (end + 1) ≡ asked_as (asked input) (index_of input 10 + 1)
+  unfolding asked first_line
+  ask_good lt d h v q = rw (← e, lt-ltb end (length input) lt, ← v, q)
 
-  pub ask-bad : end < length input → (d : Decimal) → value_of d ≡ askedIn (take end input) → d ≡ Wrong → Bad ≡ askedAs (asked input) (index_of input 10 + 1)
-  unfolding asked firstLine
-  ask-bad lt d v q = rw (← e, lt-ltb end (length input) lt, ← v, q)
+  pub ask_bad : end < length input → (d : Decimal) → value_of d ≡ asked_in (take end input) → d ≡ Wrong → Bad ≡ asked_as (asked input) (index_of input 10 + 1)
+  unfolding asked first_line
+  ask_bad lt d v q = rw (← e, lt-ltb end (length input) lt, ← v, q)
 
-  pub ask-unended : length input ≤ end → Bad ≡ askedAs (asked input) (index_of input 10 + 1)
+  pub ask_unended : length input ≤ end → Bad ≡ asked_as (asked input) (index_of input 10 + 1)
   unfolding asked
-  ask-unended le = rw (← e, le-ltb end (length input) le)
+  ask_unended le = rw (← e, le-ltb end (length input) le)

@@ -7,21 +7,21 @@ use native.Mathlib.Omega.{arith}
 use lib.ListN.{length, take, length-take}
 use lib.Seq.{take_at}
 use Rattle.lists.proofs.Tests.{split}
-use Rattle.promises.specs.Rig.{rigAutomaton, start}
-use Rattle.listing.specs.Listing.{text, answer, headLine, horizon, scenarioLine}
+use Rattle.promises.specs.Rig.{rig_automaton, start}
+use Rattle.listing.specs.Listing.{text, answer, head_line, horizon, scenario_line}
 use Rattle.listing.specs.Printing.{line_at, Leads, Begins, StandsAt}
 use Rattle.listing.specs.declared.Cursor.{Cursor}
-use Rattle.listing.proofs.Whole.{later-line, lines_end}
+use Rattle.listing.proofs.Whole.{later_line, lines_end}
 
 module _ (input : List ℕ) (c : Cursor) (cells table : List ℕ) where
-  pub stands-first : (line left : List ℕ) → length cells ≡ 8192 → Begins (answer input) (rigAutomaton (text input)) (start (text input)) (horizon input) c line left cells table
+  pub stands_first : (line left : List ℕ) → length cells ≡ 8192 → Begins (answer input) (rig_automaton (text input)) (start (text input)) (horizon input) c line left cells table
       → StandsAt input 0 c cells table left
   unfolding line_at
-  stands-first line left long b = record {
+  stands_first line left long b = record {
     limits = rw long b.limits;
     told = b.first.told;
-    written = ap (take c.length) b.first.written ∙ take_at (headLine (answer input)) _ c.length (sym b.first.told);
-    comes-next = omega (arith, b.none_yet);
+    written = ap (take c.length) b.first.written ∙ take_at (head_line (answer input)) _ c.length (sym b.first.told);
+    comes_next = omega (arith, b.none_yet);
     follows = b.follows;
     idle = b.idle;
     serves = b.serves;
@@ -29,47 +29,47 @@ module _ (input : List ℕ) (c : Cursor) (cells table : List ℕ) where
 
   module _ (k : ℕ) (line : List ℕ) (s : StandsAt input k c cells table line) where
     -- the line is within what it is written to
-    pub line-within : c.length ≤ length line
-    line-within = omega (arith, s.told, sym (length-take c.length line) ∙ ap length s.written)
+    pub line_within_lem : c.length ≤ length line
+    line_within_lem = omega (arith, s.told, sym (length-take c.length line) ∙ ap length s.written)
 
-    pub stands-next : (n : ℕ) (left : List ℕ) → c.index < c.lines → Leads (scenarioLine (text input) c.horizon c.index) n line left
+    pub stands_next : (n : ℕ) (left : List ℕ) → c.index < c.lines → Leads (scenario_line (text input) c.horizon c.index) n line left
         → StandsAt input (suc k) (record { length = n; index = c.index + 1; lines = c.lines; horizon = c.horizon; states = c.states; start = c.start }) cells table left
-    stands-next n left lt w = record {
-      limits = record { short = s.limits.short; start-below = s.limits.start-below; few-states = s.limits.few-states; enough = s.limits.enough; few-lines = s.limits.few-lines };
-      told = w.told ∙ ap length line-is;
-      written = ap (take n) w.written ∙ take_at (scenarioLine (text input) c.horizon c.index) _ n (sym w.told) ∙ line-is;
-      comes-next = omega (arith, s.comes-next);
+    stands_next n left lt w = record {
+      limits = record { short = s.limits.short; start_below = s.limits.start_below; few_states = s.limits.few_states; enough = s.limits.enough; few_lines = s.limits.few_lines };
+      told = w.told ∙ ap length line_is;
+      written = ap (take n) w.written ∙ take_at (scenario_line (text input) c.horizon c.index) _ n (sym w.told) ∙ line_is;
+      comes_next = omega (arith, s.comes_next);
       follows = s.follows;
       idle = s.idle;
       serves = λ some. let z = s.serves some in (z.0, record { starts = z.1.starts; exact = z.1.exact; below = z.1.below });
     }
       where
         at : c.index ≡ k
-        at = omega (arith, s.comes-next)
+        at = omega (arith, s.comes_next)
 
-        line-is : scenarioLine (text input) c.horizon c.index ≡ line_at input (suc k)
-        line-is = rw ((s.serves (omega arith)).0, at) (sym (later-line input k (omega (arith, s.comes-next, s.follows))))
+        line_is : scenario_line (text input) c.horizon c.index ≡ line_at input (suc k)
+        line_is = rw ((s.serves (omega arith)).0, at) (sym (later_line input k (omega (arith, s.comes_next, s.follows))))
 
-    pub stands-ended : c.lines ≤ c.index → StandsAt input (suc k) (record { length = 0; index = c.index; lines = c.lines; horizon = c.horizon; states = c.states; start = c.start }) cells table line
-    stands-ended le = record {
-      limits = record { short = s.limits.short; start-below = s.limits.start-below; few-states = s.limits.few-states; enough = s.limits.enough; few-lines = s.limits.few-lines };
+    pub stands_ended : c.lines ≤ c.index → StandsAt input (suc k) (record { length = 0; index = c.index; lines = c.lines; horizon = c.horizon; states = c.states; start = c.start }) cells table line
+    stands_ended le = record {
+      limits = record { short = s.limits.short; start_below = s.limits.start_below; few_states = s.limits.few_states; enough = s.limits.enough; few_lines = s.limits.few_lines };
       told = rw none_left;
       written = rw none_left;
-      comes-next = omega (arith, s.comes-next);
+      comes_next = omega (arith, s.comes_next);
       follows = s.follows;
       idle = s.idle;
       serves = λ some. let z = s.serves some in (z.0, record { starts = z.1.starts; exact = z.1.exact; below = z.1.below });
     }
       where
         none_left : line_at input (suc k) ≡ []
-        none_left = lines_end input (suc k) (omega (arith, s.comes-next, s.follows))
+        none_left = lines_end input (suc k) (omega (arith, s.comes_next, s.follows))
 
     -- a step brings the end nearer
     pub nearer : (r : Cursor) (left : List ℕ) → 0 < c.length → StandsAt input (suc k) r cells table left → 2 * (r.lines - r.index) + min r.length 1 < 2 * (c.lines - c.index) + min c.length 1
     nearer r left some t = ⊎_elim ended going (split c.lines k)
       where
         ended : c.lines ≤ k → 2 * (r.lines - r.index) + min r.length 1 < 2 * (c.lines - c.index) + min c.length 1
-        ended le = omega (arith, s.comes-next, t.comes-next, s.follows, t.follows, t.told, ap length (lines_end input (suc k) (omega (arith, s.follows))))
+        ended le = omega (arith, s.comes_next, t.comes_next, s.follows, t.follows, t.told, ap length (lines_end input (suc k) (omega (arith, s.follows))))
 
         going : k < c.lines → 2 * (r.lines - r.index) + min r.length 1 < 2 * (c.lines - c.index) + min c.length 1
-        going lt = omega (arith, s.comes-next, t.comes-next, s.follows, t.follows)
+        going lt = omega (arith, s.comes_next, t.comes_next, s.follows, t.follows)

@@ -1,7 +1,7 @@
 -- The listing is its lines, one after the other; and the first 65,546 bytes of an input decide it.
 --   lines-listing      == the lines, one after the other, are the whole listing
 --   lines_end          == no line comes after them
---   listing-cut        == what stands after the first 65,546 bytes or more changes nothing
+--   listing_cut        == what stands after the first 65,546 bytes or more changes nothing
 -- Assumes nothing.
 use mathlib.Core.Path.{◌≡◌, refl, sym, ap, ap₂, ◌∙◌}
 use mathlib.Core.Logic.{◌⊎◌, inl, inr}
@@ -13,48 +13,48 @@ use lib.ListN.{length, take, drop, length-drop}
 use lib.Seq.{take_all, take-take, length-take-le}
 use lib.Dec.{eqb}
 use borrow.Author.Tests.{lt-ltb, le-ltb}
-use Rattle.lists.specs.Lists.{index_of, concatMap, range}
+use Rattle.lists.specs.Lists.{index_of, concat_map, range}
 use Rattle.lists.proofs.Tests.{case, split}
-use Rattle.lists.proofs.Blocks.{concatMap-snoc}
+use Rattle.lists.proofs.Blocks.{concat_map_snoc}
 use Rattle.promises.specs.Answer.{refused}
 use Rattle.promises.specs.Text.{same}
 use Rattle.promises.specs.Reading.{reading}
-use Rattle.promises.specs.Calls.{sizedFor, count}
+use Rattle.promises.specs.Calls.{sized_for, count}
 use Rattle.decoding.proofs.Numbers.{number-long}
-use Rattle.listing.specs.Listing.{firstLine, askedIn, asked, text, owned, answer, headLine, follow, horizon, scenarioLine, listing}
+use Rattle.listing.specs.Listing.{first_line, asked_in, asked, text, owned, answer, head_line, follow, horizon, scenario_line, listing}
 use Rattle.listing.specs.Printing.{line_at}
 use Rattle.listing.proofs.Asking.{word}
 use Rattle.listing.proofs.Beginning.{asked-unended, given}
 
 -- ---- line by line
 
-range-one : (f : ℕ → List ℕ) (n : ℕ) → concatMap f (range (suc n)) ≡ concatMap f (range n) ++ f n
+range-one : (f : ℕ → List ℕ) (n : ℕ) → concat_map f (range (suc n)) ≡ concat_map f (range n) ++ f n
 unfolding range
-range-one f n = concatMap-snoc f (range n) n
+range-one f n = concat_map_snoc f (range n) n
 
-first-line : (input : List ℕ) → concatMap (line_at input) (range 1) ≡ headLine (answer input) ++ concatMap (scenarioLine (text input) (horizon input)) (range 0)
+first_line_lem : (input : List ℕ) → concat_map (line_at input) (range 1) ≡ head_line (answer input) ++ concat_map (scenario_line (text input) (horizon input)) (range 0)
 unfolding range line_at
-first-line input = refl
+first_line_lem input = refl
 
-pub later-line : (input : List ℕ) (k : ℕ) → k < follow (answer input) → line_at input (suc k) ≡ scenarioLine (text input) (horizon input) k
+pub later_line : (input : List ℕ) (k : ℕ) → k < follow (answer input) → line_at input (suc k) ≡ scenario_line (text input) (horizon input) k
 unfolding line_at
-later-line input k lt = rw (lt-ltb k (follow (answer input)) lt)
+later_line input k lt = rw (lt-ltb k (follow (answer input)) lt)
 
 -- the lines, one after the other, are the listing
-pub lines-listing : (input : List ℕ) → concatMap (line_at input) (range (suc (follow (answer input)))) ≡ listing input
+pub lines-listing : (input : List ℕ) → concat_map (line_at input) (range (suc (follow (answer input)))) ≡ listing input
 unfolding listing
 lines-listing input = from (follow (answer input)) (omega arith)
   where
     line : ℕ → List ℕ
-    line = scenarioLine (text input) (horizon input)
+    line = scenario_line (text input) (horizon input)
 
-    from : (n : ℕ) → n ≤ follow (answer input) → concatMap (line_at input) (range (suc n)) ≡ headLine (answer input) ++ concatMap line (range n)
-    from zero le = first-line input
+    from : (n : ℕ) → n ≤ follow (answer input) → concat_map (line_at input) (range (suc n)) ≡ head_line (answer input) ++ concat_map line (range n)
+    from zero le = first_line_lem input
     from (suc n) le =
         range-one (line_at input) (suc n)
-        ∙ ap₂ (λ (a b : List ℕ). a ++ b) (from n (omega arith)) (later-line input n (omega arith))
-        ∙ append_assoc (headLine (answer input)) (concatMap line (range n)) (line n)
-        ∙ ap (λ (l : List ℕ). headLine (answer input) ++ l) (sym (range-one line n))
+        ∙ ap₂ (λ (a b : List ℕ). a ++ b) (from n (omega arith)) (later_line input n (omega arith))
+        ∙ append_assoc (head_line (answer input)) (concat_map line (range n)) (line n)
+        ∙ ap (λ (l : List ℕ). head_line (answer input) ++ l) (sym (range-one line n))
 
 -- and no line comes after them
 pub lines_end : (input : List ℕ) (k : ℕ) → follow (answer input) < k → line_at input k ≡ []
@@ -64,31 +64,31 @@ lines_end input (suc k) lt = rw (le-ltb k (follow (answer input)) (omega arith))
 
 -- ---- a front of the input
 
-indexOf-front : (l : List ℕ) (b n : ℕ) → index_of l b < n → index_of (take n l) b ≡ index_of l b
+index_of_front : (l : List ℕ) (b n : ℕ) → index_of l b < n → index_of (take n l) b ≡ index_of l b
 unfolding index_of
-indexOf-front [] b zero h = refl
-indexOf-front [] b (suc n) h = refl
-indexOf-front (x ∷ l) b zero h = absurd (omega arith)
-indexOf-front (x ∷ l) b (suc n) h = case (eqb x b) (λ p. rw p) (λ p. let z = rw p at h in rw (p, indexOf-front l b n (omega arith)))
+index_of_front [] b zero h = refl
+index_of_front [] b (suc n) h = refl
+index_of_front (x ∷ l) b zero h = absurd (omega arith)
+index_of_front (x ∷ l) b (suc n) h = case (eqb x b) (λ p. rw p) (λ p. let z = rw p at h in rw (p, index_of_front l b n (omega arith)))
 
-indexOf-past : (l : List ℕ) (b n : ℕ) → n ≤ index_of l b → length (take n l) ≤ index_of (take n l) b
+index_of-past : (l : List ℕ) (b n : ℕ) → n ≤ index_of l b → length (take n l) ≤ index_of (take n l) b
 unfolding index_of
-indexOf-past [] b zero h = omega arith
-indexOf-past [] b (suc n) h = omega arith
-indexOf-past (x ∷ l) b zero h = omega arith
-indexOf-past (x ∷ l) b (suc n) h = case (eqb x b) (λ p. let z = rw p at h in absurd (omega arith)) (λ p. let z = rw p at h in rw p (omega (arith, indexOf-past l b n (omega arith))))
+index_of-past [] b zero h = omega arith
+index_of-past [] b (suc n) h = omega arith
+index_of-past (x ∷ l) b zero h = omega arith
+index_of-past (x ∷ l) b (suc n) h = case (eqb x b) (λ p. let z = rw p at h in absurd (omega arith)) (λ p. let z = rw p at h in rw p (omega (arith, index_of-past l b n (omega arith))))
 
 -- the longest `ask` line has nine bytes
-asked-long : (l : List ℕ) → 9 < length l → askedIn l ≡ none
-unfolding askedIn
+asked-long : (l : List ℕ) → 9 < length l → asked_in l ≡ none
+unfolding asked_in
 asked-long l h = case (same (take 4 l) word) (λ p. rw p (number-long (drop 4 l) (omega (arith, length-drop 4 l)))) (λ p. rw p)
 
-asked-ended : (input : List ℕ) → index_of input 10 < length input → asked input ≡ askedIn (take (index_of input 10) input)
-unfolding asked firstLine
+asked-ended : (input : List ℕ) → index_of input 10 < length input → asked input ≡ asked_in (take (index_of input 10) input)
+unfolding asked first_line
 asked-ended input lt = rw (lt-ltb (index_of input 10) (length input) lt)
 
-asked-far : (input : List ℕ) → 9 < index_of input 10 → asked input ≡ none
-asked-far input far = go (split (length input) (index_of input 10))
+asked_far : (input : List ℕ) → 9 < index_of input 10 → asked input ≡ none
+asked_far input far = go (split (length input) (index_of input 10))
   where
     go : (length input ≤ index_of input 10) ⊎ (index_of input 10 < length input) → asked input ≡ none
     go (inl le) = asked-unended input le
@@ -96,7 +96,7 @@ asked-far input far = go (split (length input) (index_of input 10))
 
 -- a text over 65,535 bytes
 count_long : (t : List ℕ) (h : ℕ) → 65535 < length t → count t h owned ≡ refused 1 0
-unfolding count sizedFor reading
+unfolding count sized_for reading
 count_long t h long = rw (lt-ltb 65535 (length t) long)
 
 answer-none : (k : List ℕ) → asked k ≡ none → answer k ≡ refused 2 0
@@ -122,37 +122,37 @@ module _ (input : List ℕ) (n : ℕ) (long : 65546 ≤ n) (past : n ≤ length 
   near : index_of input 10 < n → listing (take n input) ≡ listing input
   near lt = go (asked input) refl
     where
-      indexOf-is : index_of (take n input) 10 ≡ index_of input 10
-      indexOf-is = indexOf-front input 10 n lt
+      index_of_is : index_of (take n input) 10 ≡ index_of input 10
+      index_of_is = index_of_front input 10 n lt
 
-      same-ask : asked (take n input) ≡ asked input
-      same-ask =
-          asked-ended (take n input) (omega (arith, indexOf-is, length_front))
-          ∙ ap askedIn (ap (λ (p : ℕ). take p (take n input)) indexOf-is ∙ take-take (index_of input 10) n input (omega arith))
+      same_ask : asked (take n input) ≡ asked input
+      same_ask =
+          asked-ended (take n input) (omega (arith, index_of_is, length_front))
+          ∙ ap asked_in (ap (λ (p : ℕ). take p (take n input)) index_of_is ∙ take-take (index_of input 10) n input (omega arith))
           ∙ sym (asked-ended input (omega arith))
 
       go : (o : Option ℕ) → asked input ≡ o → listing (take n input) ≡ listing input
-      go none q = bad (take n input) input (same-ask ∙ q) q
+      go none q = bad (take n input) input (same_ask ∙ q) q
       go (some h) q =
           let le : index_of input 10 ≤ 9 = within (split 10 (index_of input 10)) in
           listing-refused (take n input) input 1 0
-          (answer-long (take n input) h (omega (arith, indexOf-is)) (omega (arith, length_front)) (same-ask ∙ q))
+          (answer-long (take n input) h (omega (arith, index_of_is)) (omega (arith, length_front)) (same_ask ∙ q))
           (answer-long input h le (omega arith) q)
         where
           within : (10 ≤ index_of input 10) ⊎ (index_of input 10 < 10) → index_of input 10 ≤ 9
-          within (inl far) = let z : ◌≡◌ {A = ℕ} 0 1 = ap given (sym (asked-far input (omega arith)) ∙ q) in absurd (omega arith)
+          within (inl far) = let z : ◌≡◌ {A = ℕ} 0 1 = ap given (sym (asked_far input (omega arith)) ∙ q) in absurd (omega arith)
           within (inr lt) = omega arith
 
-  pub cut-long : listing (take n input) ≡ listing input
-  cut-long = go (split n (index_of input 10))
+  pub cut_long : listing (take n input) ≡ listing input
+  cut_long = go (split n (index_of input 10))
     where
       go : (n ≤ index_of input 10) ⊎ (index_of input 10 < n) → listing (take n input) ≡ listing input
-      go (inl le) = bad (take n input) input (asked-unended (take n input) (indexOf-past input 10 n le)) (asked-far input (omega arith))
+      go (inl le) = bad (take n input) input (asked-unended (take n input) (index_of-past input 10 n le)) (asked_far input (omega arith))
       go (inr lt) = near lt
 
-pub listing-cut : (input : List ℕ) (n : ℕ) → 65546 ≤ n → listing (take n input) ≡ listing input
-listing-cut input n long = go (split n (length input))
+pub listing_cut : (input : List ℕ) (n : ℕ) → 65546 ≤ n → listing (take n input) ≡ listing input
+listing_cut input n long = go (split n (length input))
   where
     go : (n ≤ length input) ⊎ (length input < n) → listing (take n input) ≡ listing input
-    go (inl le) = cut-long input n long le
+    go (inl le) = cut_long input n long le
     go (inr lt) = ap listing (take_all n input (omega arith))

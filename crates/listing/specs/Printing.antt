@@ -1,5 +1,5 @@
 -- The listing as a cursor writes it, line by line.
---   askedAs o at            == the horizon o, with the place where the rig text begins, as `ask` tells it
+--   asked_as o at            == the horizon o, with the place where the rig text begins, as `ask` tells it
 --   line_at i k              == line k of the listing for the input i, from 0; empty once the listing has ended
 --   OwnedBuffers c t l      == the cells, the table and the line have the lengths that the program owns
 --   WithinLimits c room     == the cells of c's horizon and joint states are among `room` cells, and within the limits of paper 01
@@ -20,33 +20,33 @@ use Rattle.automaton.specs.Automaton.{Automaton}
 use Rattle.automaton.specs.Counting.{N}
 use Rattle.automaton.specs.Ranking.{unrank}
 use Rattle.promises.specs.Answer.{Answer, refused}
-use Rattle.promises.specs.Rig.{rigAutomaton, start}
-use Rattle.promises.specs.Calls.{countFrom, count}
+use Rattle.promises.specs.Rig.{rig_automaton, start}
+use Rattle.promises.specs.Calls.{count_from, count}
 use Rattle.ranking.specs.Ranks.{Exact}
-use Rattle.listing.specs.Listing.{text, answer, headLine, follow, horizon, scenarioLine}
+use Rattle.listing.specs.Listing.{text, answer, head_line, follow, horizon, scenario_line}
 use Rattle.listing.specs.declared.Asked.{Asked}
 use Rattle.listing.specs.declared.Asked.TheVariants.{Horizon, Bad}
 use Rattle.listing.specs.declared.Cursor.{Cursor}
 
-abbrev pub askedAs : Option ℕ → ℕ → Asked
-askedAs none at = Bad
-askedAs (some h) at = Horizon h at
+abbrev pub asked_as : Option ℕ → ℕ → Asked
+asked_as none at = Bad
+asked_as (some h) at = Horizon h at
 
 unfoldable pub line_at : List ℕ → ℕ → List ℕ
-line_at input zero = headLine (answer input)
-line_at input (suc k) = pick (ltb k (follow (answer input))) (scenarioLine (text input) (horizon input) k) []
+line_at input zero = head_line (answer input)
+line_at input (suc k) = pick (ltb k (follow (answer input))) (scenario_line (text input) (horizon input) k) []
 
 pub record OwnedBuffers (cells table line : List ℕ) : Type 0 where
-  pub cells-long : length cells ≡ 8192
-  pub table-long : length table ≡ 16384
-  pub line-long : 64 ≤ length line
+  pub cells_long : length cells ≡ 8192
+  pub table_long : length table ≡ 16384
+  pub line_long : 64 ≤ length line
 
 pub record WithinLimits (c : Cursor) (room : ℕ) : Type 0 where
   pub short : c.horizon ≤ 1000
-  pub start-below : c.start < c.states
-  pub few-states : c.states ≤ 1024
+  pub start_below : c.start < c.states
+  pub few_states : c.states ≤ 1024
   pub enough : c.horizon * c.states ≤ room
-  pub few-lines : c.lines ≤ 1000
+  pub few_lines : c.lines ≤ 1000
 
 pub record Leads (s : List ℕ) (n : ℕ) (line left : List ℕ) : Type 0 where
   pub told : n ≡ length s
@@ -62,11 +62,11 @@ abbrev pub EventsBy : List ℕ → List ℕ → ℕ → ℕ → ℕ → ℕ → 
 EventsBy table cells states x h i events left = (A : Automaton) → Exact A states 0 h x table cells → i < N A h x → left ≡ unrank A h x i ++ drop h events
 
 abbrev pub Serves : List ℕ → Cursor → List ℕ → List ℕ → Type 0
-Serves t c cells table = Lists (rigAutomaton t) (start t) c cells table
+Serves t c cells table = Lists (rig_automaton t) (start t) c cells table
 
 pub record Begins (a : Answer) (A : Automaton) (x h : ℕ) (c : Cursor) (line left cells table : List ℕ) : Type 0 where
   pub limits : WithinLimits c 8192
-  pub first : Leads (headLine a) c.length line left
+  pub first : Leads (head_line a) c.length line left
   pub none_yet : c.index ≡ 0
   pub follows : c.lines ≡ follow a
   -- beside a refusal horizon, states and start are fixed too
@@ -79,20 +79,20 @@ BeginsRefused number place c line left = (A : Automaton) (x h : ℕ) (cells tabl
 
 -- what Count answers from row 9 on, from the start x
 abbrev pub BeginsCounted : Automaton → ℕ → ℕ → Cursor → List ℕ → List ℕ → List ℕ → List ℕ → Type 0
-BeginsCounted A x h c line left cells table = Begins (countFrom A h x) A x h c line left cells table
+BeginsCounted A x h c line left cells table = Begins (count_from A h x) A x h c line left cells table
 
 -- the line of the index that comes next, wherever the lines are served
 abbrev pub LeadsNext : Cursor → List ℕ → List ℕ → ℕ → List ℕ → List ℕ → Type 0
-LeadsNext c cells table n line left = (t : List ℕ) → Serves t c cells table → c.index < c.lines → Leads (scenarioLine t c.horizon c.index) n line left
+LeadsNext c cells table n line left = (t : List ℕ) → Serves t c cells table → c.index < c.lines → Leads (scenario_line t c.horizon c.index) n line left
 
 abbrev pub BeginsText : List ℕ → ℕ → List ℕ → Cursor → List ℕ → List ℕ → List ℕ → List ℕ → Type 0
-BeginsText t h old c line left cells table = Begins (count t h old) (rigAutomaton t) (start t) h c line left cells table
+BeginsText t h old c line left cells table = Begins (count t h old) (rig_automaton t) (start t) h c line left cells table
 
 pub record StandsAt (input : List ℕ) (k : ℕ) (c : Cursor) (cells table line : List ℕ) : Type 0 where
   pub limits : WithinLimits c (length cells)
   pub told : c.length ≡ length (line_at input k)
   pub written : take c.length line ≡ line_at input k
-  pub comes-next : c.index ≡ min k c.lines
+  pub comes_next : c.index ≡ min k c.lines
   pub follows : c.lines ≡ follow (answer input)
   pub idle : c.lines ≡ 0 → (c.horizon ≡ 0) × (c.states ≡ 1) × (c.start ≡ 0)
   pub serves : 0 < c.lines → (c.horizon ≡ horizon input) × Serves (text input) c cells table

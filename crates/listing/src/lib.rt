@@ -1,14 +1,14 @@
 // The output of the program `scenarios`, line by line: a cursor that writes the first line with the cells filled once, then the line of each index.
 ghost use Rattle.std.specs.Prelude.{◌≡◌, ◌+◌, ◌*◌, ◌<◌, ◌≤◌, min, length, take};
 ghost use Rattle.lists.specs.Lists.{index_of};
-ghost use Rattle.rig.specs.Record.{recordAutomaton};
+ghost use Rattle.rig.specs.Record.{record_automaton};
 ghost use Rattle.promises.specs.Text.{bytes, same};
 ghost use Rattle.promises.specs.Calls.{filled};
 ghost use Rattle.promises.specs.Calls as promised;
 ghost use Rattle.decoding.specs.Forms.{value_of};
 ghost use Rattle.checks.specs.Loading.{Fits};
-ghost use Rattle.listing.specs.Listing.{askedIn, asked, cellsLeft};
-ghost use Rattle.listing.specs.Printing.{askedAs, OwnedBuffers, WithinLimits, EventsBy, BeginsRefused, BeginsCounted, BeginsText, LeadsNext, StandsAt, Stands, Moves};
+ghost use Rattle.listing.specs.Listing.{asked_in, asked, cells_left};
+ghost use Rattle.listing.specs.Printing.{asked_as, OwnedBuffers, WithinLimits, EventsBy, BeginsRefused, BeginsCounted, BeginsText, LeadsNext, StandsAt, Stands, Moves};
 
 use checks::{Checked, Rows};
 use decoding::Decimal;
@@ -54,7 +54,7 @@ fn asks(line: &[u8]) -> bool
 
 // The horizon of an `ask` line.
 fn asked_in(line: &[u8]) -> Decimal
-    ensures { value_of result ≡ askedIn line.now }
+    ensures { value_of result ≡ asked_in line.now }
 {
     if asks(line) {
         return decoding::number(&line[4..]);
@@ -64,7 +64,7 @@ fn asked_in(line: &[u8]) -> Decimal
 
 // What the input asks for.
 fn ask(input: &[u8]) -> Asked
-    ensures { result ≡ askedAs (asked input.now) (index_of input.now 10 + 1) }
+    ensures { result ≡ asked_as (asked input.now) (index_of input.now 10 + 1) }
 {
     let end = decoding::until(input, b'\n');
     if end < input.len() {
@@ -110,8 +110,8 @@ fn begin_counted(
 ) -> Cursor
     requires fits { Fits rig states start h (length cells.old) }
     requires owned_buffers { OwnedBuffers cells.old table.old line.old }
-    ensures begins_counted { BeginsCounted (recordAutomaton rig) start h result line.old line.new cells.new table.new }
-    ensures cells_after { cells.new ≡ filled (recordAutomaton rig) h cells.old }
+    ensures begins_counted { BeginsCounted (record_automaton rig) start h result line.old line.new cells.new table.new }
+    ensures cells_after { cells.new ≡ filled (record_automaton rig) h cells.old }
 {
     let f = filling::fill_cells(rig, states, h, cells, table, start);
     let checked = f.checked;
@@ -138,7 +138,7 @@ fn begin_text(
 ) -> Cursor
     requires { OwnedBuffers cells.old table.old line.old }
     ensures begins_text { BeginsText text.now h cells.old result line.old line.new cells.new table.new }
-    ensures cells_after { cells.new ≡ promised.countCells text.now h cells.old }
+    ensures cells_after { cells.new ≡ promised.count_cells text.now h cells.old }
 {
     let o = checks::load(text, h as u64, Rows::All, cells.len());
     let checked = o.checked;
@@ -153,7 +153,7 @@ fn begin_text(
 pub fn begin(input: &[u8], cells: &mut [u64], table: &mut [u16], line: &mut [u8]) -> Cursor
     requires { OwnedBuffers cells.old table.old line.old }
     ensures stands_at { StandsAt input.now 0 result cells.new table.new line.new }
-    ensures cells_after { cells.new ≡ cellsLeft input.now cells.old }
+    ensures cells_after { cells.new ≡ cells_left input.now cells.old }
 {
     match ask(input) {
         Asked::Bad => refuse(2, 0, line),

@@ -1,7 +1,7 @@
 -- Decimal digits: a number below ten is one digit, any other the digits of its tenth part and one more.
 --   value-decimal     == read back they give the number
 --   decimal_digit     == each is a digit
---   decimal-lead      == the first is a zero only of 0
+--   decimal_lead      == the first is a zero only of 0
 --   decimal-value     == digits that do not begin with a zero are those of their value: there is no other way to write it
 --   decimal-short     == a number below 10 ^ k has at most k of them
 --   decimal-long      == a number from 10 ^ k on has more than k of them
@@ -22,7 +22,7 @@ use lib.ListN.{length, get_or, length-append, get_or-append}
 use lib.Seq.{append_snoc}
 use borrow.Author.Tests.{lt-ltb, le-ltb}
 use Rattle.lists.proofs.Tests.{split}
-use Rattle.lists.specs.Decimal.{digits, decimal, value, valueFrom, Digit}
+use Rattle.lists.specs.Decimal.{digits, decimal, value, value_from, Digit}
 
 pub tenth : (n : ℕ) → 10 ≤ n → n / 10 < n
 tenth n h = omega arith
@@ -48,8 +48,8 @@ decimal-more n h =
     rw (le-ltb n 10 h, enough n (suc (n / 10)) (n / 10) t (omega arith))
 
 -- what holds of the numbers below ten, and of any other if of its tenth part, holds of all
-by-tenths : (P : ℕ → Type 0) → ((n : ℕ) → n < 10 → P n) → ((n : ℕ) → 10 ≤ n → P (n / 10) → P n) → (n : ℕ) → P n
-by-tenths P one more n = go (suc n) n (omega arith)
+by_tenths : (P : ℕ → Type 0) → ((n : ℕ) → n < 10 → P n) → ((n : ℕ) → 10 ≤ n → P (n / 10) → P n) → (n : ℕ) → P n
+by_tenths P one more n = go (suc n) n (omega arith)
   where
     go : (f n : ℕ) → n < f → P n
     go zero n h = absurd (omega arith)
@@ -60,21 +60,21 @@ length_more n h = rw (decimal-more n h, length-append) (add-one (length (decimal
 
 -- ---- reading back
 
-valueFrom-append : (m : ℕ) (s t : List ℕ) → valueFrom m (s ++ t) ≡ valueFrom (valueFrom m s) t
-unfolding valueFrom
-valueFrom-append m [] t = refl
-valueFrom-append m (b ∷ s) t = valueFrom-append _ s t
+value_from-append : (m : ℕ) (s t : List ℕ) → value_from m (s ++ t) ≡ value_from (value_from m s) t
+unfolding value_from
+value_from-append m [] t = refl
+value_from-append m (b ∷ s) t = value_from-append _ s t
 
 pub value-decimal : (n : ℕ) → value (decimal n) ≡ n
-unfolding value valueFrom
-value-decimal = by-tenths (λ n. value (decimal n) ≡ n)
+unfolding value value_from
+value-decimal = by_tenths (λ n. value (decimal n) ≡ n)
     (λ n h. rw (decimal-one n h) (omega arith))
-    (λ n h ih. rw (decimal-more n h, valueFrom-append, ih) (omega arith))
+    (λ n h ih. rw (decimal-more n h, value_from-append, ih) (omega arith))
 
 -- ---- the digits
 
 pub decimal_digit : (n b : ℕ) → In b (decimal n) → Digit b
-decimal_digit n b = by-tenths (λ n. In b (decimal n) → Digit b) one more n
+decimal_digit n b = by_tenths (λ n. In b (decimal n) → Digit b) one more n
   where
     one : (n : ℕ) → n < 10 → In b (decimal n) → Digit b
     one n h i = let q : b ≡ 48 + n = in_one (rw (decimal-one n h) at i) in (omega arith, omega arith)
@@ -88,8 +88,8 @@ decimal_digit n b = by-tenths (λ n. In b (decimal n) → Digit b) one more n
 pub decimal-some : (n : ℕ) → 1 ≤ length (decimal n)
 decimal-some n = ⊎_elim (λ h. omega (arith, length_more n h)) (λ h. rw (decimal-one n h) (omega arith)) (split 10 n)
 
-pub decimal-lead : (n : ℕ) → get_or (decimal n) 0 48 ≡ 48 → n ≡ 0
-decimal-lead = by-tenths (λ n. get_or (decimal n) 0 48 ≡ 48 → n ≡ 0) one more
+pub decimal_lead : (n : ℕ) → get_or (decimal n) 0 48 ≡ 48 → n ≡ 0
+decimal_lead = by_tenths (λ n. get_or (decimal n) 0 48 ≡ 48 → n ≡ 0) one more
   where
     one : (n : ℕ) → n < 10 → get_or (decimal n) 0 48 ≡ 48 → n ≡ 0
     one n h q = let z : 48 + n ≡ 48 = rw (decimal-one n h) at q in omega arith
@@ -103,8 +103,8 @@ decimal-lead = by-tenths (λ n. get_or (decimal n) 0 48 ≡ 48 → n ≡ 0) one 
 -- ---- the only way to write it
 
 -- digits after those of a number other than 0
-follow : (m : ℕ) (bs : List ℕ) → 0 < m → ((b : ℕ) → In b bs → Digit b) → decimal (valueFrom m bs) ≡ decimal m ++ bs
-unfolding valueFrom
+follow : (m : ℕ) (bs : List ℕ) → 0 < m → ((b : ℕ) → In b bs → Digit b) → decimal (value_from m bs) ≡ decimal m ++ bs
+unfolding value_from
 follow m [] p w = sym (append-nil (decimal m))
 follow m (b ∷ bs) p w =
     let (low, high) = w b (here refl) in
@@ -120,7 +120,7 @@ follow m (b ∷ bs) p w =
 
 -- digits that do not begin with a zero are those of their value
 pub decimal-value : (b : ℕ) (bs : List ℕ) → b ≢ 48 → ((x : ℕ) → In x (b ∷ bs) → Digit x) → decimal (value (b ∷ bs)) ≡ b ∷ bs
-unfolding value valueFrom
+unfolding value value_from
 decimal-value b bs z w =
     let (low, high) = w b (here refl) in
     let one : decimal (10 * 0 + (b - 48)) ≡ b ∷ [] = first low high in
@@ -144,14 +144,14 @@ decimal-short (suc k) n h l = ⊎_elim (more k h (decimal-short k (n / 10))) (λ
         let t : n / 10 < 10 ^ suc k = (div-lt_iff_lt-mul {k = 10} {x = n} {y = 10 ^ suc k} (omega arith)).1 (rw pow-suc at b) in
         rw (length_more n s) (omega (arith, ih t (omega arith)))
 
-pow-some : (k : ℕ) → 1 ≤ 10 ^ k
-pow-some zero = omega arith
-pow-some (suc k) = rw pow-suc (omega (arith, pow-some k))
+pow_some : (k : ℕ) → 1 ≤ 10 ^ k
+pow_some zero = omega arith
+pow_some (suc k) = rw pow-suc (omega (arith, pow_some k))
 
 pub decimal-long : (k n : ℕ) → 10 ^ k ≤ n → k < length (decimal n)
 decimal-long zero n h = omega (arith, decimal-some n)
 decimal-long (suc k) n h =
     let b : 10 ^ k * 10 ≤ n = rw pow-suc at h in
-    let least : 1 ≤ 10 ^ k = pow-some k in
+    let least : 1 ≤ 10 ^ k = pow_some k in
     let t : 10 ^ k ≤ n / 10 = omega arith in
     omega (arith, length_more n (omega arith), decimal-long k (n / 10) t)

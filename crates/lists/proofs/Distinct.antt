@@ -12,8 +12,8 @@ use Prim.Native.Nat.{ℕ, suc, ◌≤◌, ◌<◌}
 use native.Mathlib.Omega.{arith}
 use lib.ListN.{length, get_or, length-append}
 use Rattle.lists.specs.Lists.{Pairwise, none, more}
-use Rattle.lists.proofs.Tests.{ℕ-trichotomy}
-use Rattle.lists.proofs.Ordered.{pairwise-at}
+use Rattle.lists.proofs.Tests.{ℕ_trichotomy}
+use Rattle.lists.proofs.Ordered.{pairwise_at}
 
 pub in_split : {A : Type 0} {a : A} {l : List A} → In a l → (xs : List A) × (ys : List A) × (l ≡ xs ++ (a ∷ ys))
 in_split (here {xs = l} q) = ([], l, ap (λ x. x ∷ l) (sym q))
@@ -44,12 +44,12 @@ pub same_length : {A : Type 0} (l m : List A) → Pairwise ◌≢◌ l → Pairw
 same_length l m d e sub sup = omega (arith, distinct-length l m d sub, distinct-length m l e sup)
 
 pub distinct-once : {A : Type 0} (d : A) (l : List A) → Pairwise ◌≢◌ l → (i j : ℕ) → i < length l → j < length l → get_or l i d ≡ get_or l j d → i ≡ j
-distinct-once d l p i j a b q = go (ℕ-trichotomy i j)
+distinct-once d l p i j a b q = go (ℕ_trichotomy i j)
   where
     go : (i < j) ⊎ ((i ≡ j) ⊎ (j < i)) → i ≡ j
-    go (inl h) = absurd (pairwise-at d i j p h b q)
+    go (inl h) = absurd (pairwise_at d i j p h b q)
     go (inr (inl h)) = h
-    go (inr (inr h)) = absurd (pairwise-at d j i p h a (sym q))
+    go (inr (inr h)) = absurd (pairwise_at d j i p h a (sym q))
 
 pub once-distinct : {A : Type 0} (d : A) (l : List A) → ((i j : ℕ) → i < length l → j < length l → get_or l i d ≡ get_or l j d → i ≡ j) → Pairwise ◌≢◌ l
 once-distinct d [] once = none

@@ -17,10 +17,10 @@ or-none (some u) = refl
 
 module _ {A B : Type 0} (f : A → Option B) where
   -- in one element more it is looked for where it was not found before
-  pub first-snoc : (l : List A) (x : A) → first_of f (l ++ (x ∷ [])) ≡ or_else (first_of f l) (f x)
+  pub first_snoc : (l : List A) (x : A) → first_of f (l ++ (x ∷ [])) ≡ or_else (first_of f l) (f x)
   unfolding first_of or_else
-  first-snoc [] x = or-none (f x)
-  first-snoc (y ∷ l) x = step (f y) (first-snoc l x)
+  first_snoc [] x = or-none (f x)
+  first_snoc (y ∷ l) x = step (f y) (first_snoc l x)
     where
       step : (o : Option B) → first_of f (l ++ (x ∷ [])) ≡ or_else (first_of f l) (f x) → or_else o (first_of f (l ++ (x ∷ []))) ≡ or_else (or_else o (first_of f l)) (f x)
       step none ih = ih
@@ -38,19 +38,19 @@ module _ {A B : Type 0} (f : A → Option B) where
 
   -- where f finds b in the element g b only
   module _ (g : B → A) (is : (x : A) (b : B) → (f x ≡ some b) ↔ (x ≡ g b)) where
-    pub first-in : (l : List A) (b : B) → first_of f l ≡ some b → In (g b) l
+    pub first_in : (l : List A) (b : B) → first_of f l ≡ some b → In (g b) l
     unfolding first_of or_else
-    first-in [] b q = absurd (none-ne-some b q)
-    first-in (x ∷ l) b q = step (f x) refl (first-in l b)
+    first_in [] b q = absurd (none-ne-some b q)
+    first_in (x ∷ l) b q = step (f x) refl (first_in l b)
       where
         step : (o : Option B) → f x ≡ o → (first_of f l ≡ some b → In (g b) l) → In (g b) (x ∷ l)
         step none t ih = there (ih (rw t at q))
         step (some c) t ih = here (sym ((is x b).0 (t ∙ (rw t at q))))
 
-    pub in-first : (l : List A) (b : B) → In (g b) l → (c : B) × (first_of f l ≡ some c)
+    pub in_first : (l : List A) (b : B) → In (g b) l → (c : B) × (first_of f l ≡ some c)
     unfolding first_of or_else
-    in-first (x ∷ l) b (here r) = (b, rw ((is x b).1 (sym r)))
-    in-first (x ∷ l) b (there i) = step (f x) (in-first l b i)
+    in_first (x ∷ l) b (here r) = (b, rw ((is x b).1 (sym r)))
+    in_first (x ∷ l) b (there i) = step (f x) (in_first l b i)
       where
         step : (o : Option B) → (c : B) × (first_of f l ≡ some c) → (c : B) × (or_else o (first_of f l) ≡ some c)
         step none ih = ih
@@ -60,5 +60,5 @@ module _ {A B : Type 0} (f : A → Option B) where
     tells_first l = step (first_of f l) refl
       where
         step : (o : Option B) → first_of f l ≡ o → Tells (is_some o) ((b : B) × In (g b) l)
-        step none q = record { yes = λ t. contra t refl; no = λ t (b, i). let (c, r) = in-first l b i in none-ne-some c (sym q ∙ r) }
-        step (some b) q = record { yes = λ t. (b, first-in l b q); no = λ t h. contra refl t }
+        step none q = record { yes = λ t. contra t refl; no = λ t (b, i). let (c, r) = in_first l b i in none-ne-some c (sym q ∙ r) }
+        step (some b) q = record { yes = λ t. (b, first_in l b q); no = λ t h. contra refl t }

@@ -16,14 +16,14 @@ module _ (l m : List ℕ) (o n d : ℕ) (room : o + n ≤ length l) (long : leng
   behind : (k : ℕ) → get_or spliced (o + k) d ≡ get_or (m ++ drop n (drop o l)) k d
   behind k = ap (λ (j : ℕ). get_or spliced (j + k) d) (sym front) ∙ get_or-append-add (take o l) (m ++ drop n (drop o l)) k d
 
-  pub splice-before : (i : ℕ) → i < o → get_or spliced i d ≡ get_or l i d
-  splice-before i lt = get_or-append (take o l) (m ++ drop n (drop o l)) d i (omega (arith, front)) ∙ get_or-take o l i d lt
+  pub splice_before : (i : ℕ) → i < o → get_or spliced i d ≡ get_or l i d
+  splice_before i lt = get_or-append (take o l) (m ++ drop n (drop o l)) d i (omega (arith, front)) ∙ get_or-take o l i d lt
 
-  pub splice-in : (k : ℕ) → k < n → get_or spliced (o + k) d ≡ get_or m k d
-  splice-in k lt = behind k ∙ get_or-append m (drop n (drop o l)) d k (omega arith)
+  pub splice_in : (k : ℕ) → k < n → get_or spliced (o + k) d ≡ get_or m k d
+  splice_in k lt = behind k ∙ get_or-append m (drop n (drop o l)) d k (omega arith)
 
-  pub splice-past : (i : ℕ) → o + n ≤ i → get_or spliced i d ≡ get_or l i d
-  splice-past i le =
+  pub splice_past : (i : ℕ) → o + n ≤ i → get_or spliced i d ≡ get_or l i d
+  splice_past i le =
       let k = i - o - n in
       let q : i ≡ o + (n + k) = omega arith in
       ap (λ (j : ℕ). get_or spliced j d) q ∙ behind (n + k)

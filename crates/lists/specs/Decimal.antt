@@ -1,7 +1,7 @@
 -- A number as its decimal digits, highest first, each a byte: 48 for `0` to 57 for `9`.
 --   digits fuel n     == the digits of n, where dividing by ten ends within `fuel` steps
 --   decimal n         == the digits of n, no leading zero except 0 itself
---   valueFrom n ds    == the number that the digits ds are after those of n
+--   value_from n ds    == the number that the digits ds are after those of n
 --   value ds          == the number that the digits ds are
 --   Digit b           == b is the byte of a digit
 -- Assumes nothing.
@@ -18,12 +18,12 @@ unfoldable pub decimal : ℕ → List ℕ
 decimal n = digits (suc n) n
 
 -- each digit more is ten times as much, and the digit
-unfoldable pub valueFrom : ℕ → List ℕ → ℕ
-valueFrom n [] = n
-valueFrom n (b ∷ bs) = valueFrom (10 * n + (b - 48)) bs
+unfoldable pub value_from : ℕ → List ℕ → ℕ
+value_from n [] = n
+value_from n (b ∷ bs) = value_from (10 * n + (b - 48)) bs
 
 unfoldable pub value : List ℕ → ℕ
-value ds = valueFrom 0 ds
+value ds = value_from 0 ds
 
 abbrev pub Digit : ℕ → Type 0
 Digit b = (48 ≤ b) × (b ≤ 57)

@@ -6,7 +6,7 @@
 --   any f l         == some element of l passes the test f
 --   filter f l      == the elements of l that pass the test f, in their order
 --   sum c l         == the sum of c over l
---   concatMap f l   == the lists f x for the x of l, one after the other
+--   concat_map f l   == the lists f x for the x of l, one after the other
 --   count f n       == how many of the numbers below n pass the test f
 --   tabulate f n    == f 0, f 1, … f (n−1)
 --   stack f n       == the lists f 0, f 1, … f (n−1), one after the other
@@ -48,9 +48,9 @@ abbrev pub sum : (ℕ → ℕ) → List ℕ → ℕ
 sum c [] = 0
 sum c (x ∷ l) = c x + sum c l
 
-abbrev pub concatMap : {A : Type 0} → (ℕ → List A) → List ℕ → List A
-concatMap f [] = []
-concatMap f (x ∷ l) = f x ++ concatMap f l
+abbrev pub concat_map : {A : Type 0} → (ℕ → List A) → List ℕ → List A
+concat_map f [] = []
+concat_map f (x ∷ l) = f x ++ concat_map f l
 
 abbrev pub count : (ℕ → Bool) → ℕ → ℕ
 count f zero = 0

@@ -16,22 +16,22 @@ use lib.Dec.{eqb}
 use borrow.Author.Tests.{eqb-true, eqb-false, eq-eqb, ne_eqb}
 use Rattle.lists.specs.Lists.{pick, sum, tabulate, stack}
 use Rattle.lists.proofs.Tests.{case, split}
-use Rattle.lists.proofs.Sums.{sum-snoc}
-use Rattle.promises.specs.Sheets.{Command, load, run, save, shared, slotFor, depthFor, tail, leg, legs, part, previous, sheet, events, Bench, step, arrivals, savesNext, Allowed, Proper, loads, Shares, Deepest}
+use Rattle.lists.proofs.Sums.{sum_snoc}
+use Rattle.promises.specs.Sheets.{Command, load, run, save, shared, slot_for, depth_for, tail, leg, legs, part, previous, sheet, events, Bench, step, arrivals, saves_next, Allowed, Proper, loads, Shares, Deepest}
 
 -- ---- the start that two scenarios share
 
-pub shared-left : (a b : List ℕ) → shared a b ≤ length a
+pub shared_left : (a b : List ℕ) → shared a b ≤ length a
 unfolding shared
-shared-left [] b = omega arith
-shared-left (x ∷ a) [] = omega arith
-shared-left (x ∷ a) (y ∷ b) = case (eqb x y) (λ p. rw p (omega (arith, shared-left a b))) (λ p. rw p (omega arith))
+shared_left [] b = omega arith
+shared_left (x ∷ a) [] = omega arith
+shared_left (x ∷ a) (y ∷ b) = case (eqb x y) (λ p. rw p (omega (arith, shared_left a b))) (λ p. rw p (omega arith))
 
-pub shared-right : (a b : List ℕ) → shared a b ≤ length b
+pub shared_right : (a b : List ℕ) → shared a b ≤ length b
 unfolding shared
-shared-right [] b = omega arith
-shared-right (x ∷ a) [] = omega arith
-shared-right (x ∷ a) (y ∷ b) = case (eqb x y) (λ p. rw p (omega (arith, shared-right a b))) (λ p. rw p (omega arith))
+shared_right [] b = omega arith
+shared_right (x ∷ a) [] = omega arith
+shared_right (x ∷ a) (y ∷ b) = case (eqb x y) (λ p. rw p (omega (arith, shared_right a b))) (λ p. rw p (omega arith))
 
 -- they begin alike up to there
 shared-take : (n : ℕ) (a b : List ℕ) → n ≤ shared a b → take n a ≡ take n b
@@ -58,10 +58,10 @@ play : Bench → List Command → Bench
 play b [] = b
 play b (c ∷ cs) = play (step b c) cs
 
-play-append : (b : Bench) (cs ds : List Command) → play b (cs ++ ds) ≡ play (play b cs) ds
+play_append : (b : Bench) (cs ds : List Command) → play b (cs ++ ds) ≡ play (play b cs) ds
 unfolding play
-play-append b [] ds = refl
-play-append b (c ∷ cs) ds = play-append (step b c) cs ds
+play_append b [] ds = refl
+play_append b (c ∷ cs) ds = play_append (step b c) cs ds
 
 arrivals-load : (b : Bench) (cs : List Command) (j : ℕ) (ds : List Command) → arrivals b (cs ++ load j ∷ ds) ≡ arrivals b cs ++ arrivals (step (play b cs) (load j)) ds
 unfolding play arrivals
@@ -70,12 +70,12 @@ arrivals-load b (load i ∷ cs) j ds = ap (λ l. b.current ∷ l) (arrivals-load
 arrivals-load b (run es ∷ cs) j ds = arrivals-load (step b (run es)) cs j ds
 arrivals-load b (save i ∷ cs) j ds = arrivals-load (step b (save i)) cs j ds
 
-saves-append : (cs ds : List Command) → savesNext ds ≡ none → savesNext (cs ++ ds) ≡ savesNext cs
-unfolding savesNext
-saves-append [] ds q = q
-saves-append (load j ∷ cs) ds q = refl
-saves-append (run es ∷ cs) ds q = refl
-saves-append (save j ∷ cs) ds q = refl
+saves_append : (cs ds : List Command) → saves_next ds ≡ none → saves_next (cs ++ ds) ≡ saves_next cs
+unfolding saves_next
+saves_append [] ds q = q
+saves_append (load j ∷ cs) ds q = refl
+saves_append (run es ∷ cs) ds q = refl
+saves_append (save j ∷ cs) ds q = refl
 
 loads-append : (cs ds : List Command) → loads (cs ++ ds) ≡ loads cs ++ loads ds
 unfolding loads
@@ -95,28 +95,28 @@ Kept : ℕ → List ℕ → Bench → Type 0
 Kept g s b = (i : ℕ) → i * g ≤ length s → b.slot i ≡ take (i * g) s
 
 module _ (g : ℕ) where
-  allowed-append : (h : ℕ) (b : Bench) (c : Command) (cs ds : List Command) → savesNext ds ≡ none → Allowed g h b c cs → Allowed g h b c (cs ++ ds)
+  allowed_append : (h : ℕ) (b : Bench) (c : Command) (cs ds : List Command) → saves_next ds ≡ none → Allowed g h b c cs → Allowed g h b c (cs ++ ds)
   unfolding Allowed
-  allowed-append h b (load j) cs ds q p = (p.0, saves-append cs ds q ∙ p.1)
-  allowed-append h b (run es) cs ds q p = (p.0, p.1, saves-append cs ds q ∙ p.2)
-  allowed-append h b (save j) cs ds q p = (p.0, saves-append cs ds q ∙ p.1)
+  allowed_append h b (load j) cs ds q p = (p.0, saves_append cs ds q ∙ p.1)
+  allowed_append h b (run es) cs ds q p = (p.0, p.1, saves_append cs ds q ∙ p.2)
+  allowed_append h b (save j) cs ds q p = (p.0, saves_append cs ds q ∙ p.1)
 
-  proper-append : (h : ℕ) (b : Bench) (cs ds : List Command) → savesNext ds ≡ none → Proper g h b cs → Proper g h (play b cs) ds → Proper g h b (cs ++ ds)
+  proper_append : (h : ℕ) (b : Bench) (cs ds : List Command) → saves_next ds ≡ none → Proper g h b cs → Proper g h (play b cs) ds → Proper g h b (cs ++ ds)
   unfolding Proper play
-  proper-append h b [] ds n p q = q
-  proper-append h b (c ∷ cs) ds n p q = (allowed-append h b c cs ds n p.0, proper-append h (step b c) cs ds n p.1 q)
+  proper_append h b [] ds n p q = q
+  proper_append h b (c ∷ cs) ds n p q = (allowed_append h b c cs ds n p.0, proper_append h (step b c) cs ds n p.1 q)
 
   -- ---- the legs of a scenario
 
   -- a leg up to the next depth, and one that ends before it
   module _ (f j e : ℕ) (r : List ℕ) where
-    legs-more : g ≤ length (e ∷ r) → legs (suc f) g j (e ∷ r) ≡ run (take g (e ∷ r)) ∷ save (suc j) ∷ legs f g (suc j) (drop g (e ∷ r))
+    legs_more : g ≤ length (e ∷ r) → legs (suc f) g j (e ∷ r) ≡ run (take g (e ∷ r)) ∷ save (suc j) ∷ legs f g (suc j) (drop g (e ∷ r))
     unfolding legs leg
-    legs-more h = rw (eq-eqb (length (take g (e ∷ r))) g (length-take-le g (e ∷ r) h))
+    legs_more h = rw (eq-eqb (length (take g (e ∷ r))) g (length-take-le g (e ∷ r) h))
 
-    legs-last : length (e ∷ r) < g → legs (suc f) g j (e ∷ r) ≡ run (take g (e ∷ r)) ∷ []
+    legs_last : length (e ∷ r) < g → legs (suc f) g j (e ∷ r) ≡ run (take g (e ∷ r)) ∷ []
     unfolding legs leg
-    legs-last h =
+    legs_last h =
         rw (ne_eqb (length (take g (e ∷ r))) g (λ q. omega (arith, length-take g (e ∷ r))), drop_of_length-le (e ∷ r) {i = g} (omega arith))
         (ap (λ l. run (take g (e ∷ r)) ∷ l) (none_left f))
       where
@@ -124,34 +124,34 @@ module _ (g : ℕ) where
         none_left zero = refl
         none_left (suc f) = refl
 
-  legs-unsaved : (f j : ℕ) (rest : List ℕ) → savesNext (legs f g j rest) ≡ none
-  unfolding legs leg savesNext
-  legs-unsaved zero j rest = refl
-  legs-unsaved (suc f) j [] = refl
-  legs-unsaved (suc f) j (e ∷ r) = refl
+  legs_unsaved : (f j : ℕ) (rest : List ℕ) → saves_next (legs f g j rest) ≡ none
+  unfolding legs leg saves_next
+  legs_unsaved zero j rest = refl
+  legs_unsaved (suc f) j [] = refl
+  legs_unsaved (suc f) j (e ∷ r) = refl
 
-  loads-legs : (f j : ℕ) (rest : List ℕ) → loads (legs f g j rest) ≡ []
+  loads_legs : (f j : ℕ) (rest : List ℕ) → loads (legs f g j rest) ≡ []
   unfolding legs leg loads
-  loads-legs zero j rest = refl
-  loads-legs (suc f) j [] = refl
-  loads-legs (suc f) j (e ∷ r) = case (eqb (length (take g (e ∷ r))) g) (λ t. rw t (loads-legs f (suc j) (drop g (e ∷ r)))) (λ t. rw t (loads-legs f (suc j) (drop g (e ∷ r))))
+  loads_legs zero j rest = refl
+  loads_legs (suc f) j [] = refl
+  loads_legs (suc f) j (e ∷ r) = case (eqb (length (take g (e ∷ r))) g) (λ t. rw t (loads_legs f (suc j) (drop g (e ∷ r)))) (λ t. rw t (loads_legs f (suc j) (drop g (e ∷ r))))
 
   module _ (ss : ℕ → List ℕ) where
-    pub loads-sheet : (m : ℕ) → loads (sheet g ss m) ≡ tabulate (λ k. slotFor g (previous ss k) (ss k)) m
+    pub loads_sheet : (m : ℕ) → loads (sheet g ss m) ≡ tabulate (λ k. slot_for g (previous ss k) (ss k)) m
     unfolding sheet stack tabulate part loads
-    loads-sheet zero = refl
-    loads-sheet (suc m) =
+    loads_sheet zero = refl
+    loads_sheet (suc m) =
         loads-append (sheet g ss m) (part g (previous ss m) (ss m))
-        ∙ ap₂ (λ l r. l ++ slotFor g (previous ss m) (ss m) ∷ r) (loads-sheet m) (loads-legs (length (tail g (previous ss m) (ss m))) (slotFor g (previous ss m) (ss m)) (tail g (previous ss m) (ss m)))
+        ∙ ap₂ (λ l r. l ++ slot_for g (previous ss m) (ss m) ∷ r) (loads_sheet m) (loads_legs (length (tail g (previous ss m) (ss m))) (slot_for g (previous ss m) (ss m)) (tail g (previous ss m) (ss m)))
 
-    pub sheet-unsaved : (m : ℕ) → savesNext (sheet g ss m) ≡ none
+    pub sheet_unsaved : (m : ℕ) → saves_next (sheet g ss m) ≡ none
     unfolding sheet stack
-    sheet-unsaved zero = unfold savesNext in refl
-    sheet-unsaved (suc m) = saves-append (sheet g ss m) (part g (previous ss m) (ss m)) (unfold part savesNext in refl) ∙ sheet-unsaved m
+    sheet_unsaved zero = unfold saves_next in refl
+    sheet_unsaved (suc m) = saves_append (sheet g ss m) (part g (previous ss m) (ss m)) (unfold part saves_next in refl) ∙ sheet_unsaved m
 
     -- 'the deepest such depth within the start it shares with the one before (slot 0 for the first)'
-    pub first_slot : slotFor g (previous ss 0) (ss 0) ≡ 0
-    unfolding slotFor previous shared
+    pub first_slot : slot_for g (previous ss 0) (ss 0) ≡ 0
+    unfolding slot_for previous shared
     first_slot = zero-div g
 
   module _ (pos : 0 < g) where
@@ -182,9 +182,9 @@ module _ (g : ℕ) where
         left : suc (length r) ≡ length s - j * g
         left = ap length q ∙ length-drop (j * g) s
 
-        run-allowed : (cs : List Command) → (g ≤ length (e ∷ r) → savesNext cs ≡ some (suc j)) → (length (e ∷ r) < g → savesNext cs ≡ none) → Allowed g (length s) b (run (take g (e ∷ r))) cs
+        run_allowed : (cs : List Command) → (g ≤ length (e ∷ r) → saves_next cs ≡ some (suc j)) → (length (e ∷ r) < g → saves_next cs ≡ none) → Allowed g (length s) b (run (take g (e ∷ r))) cs
         unfolding Allowed
-        run-allowed cs more last = rw (here, long, mul-div_cancel j pos) (omega arith, omega (arith, left), save-next (split g (suc (length r))))
+        run_allowed cs more last = rw (here, long, mul-div_cancel j pos) (omega arith, omega (arith, left), save_next (split g (suc (length r))))
           where
             here : length b.current ≡ j * g
             here = ap length c ∙ length-take-le (j * g) s le
@@ -192,23 +192,23 @@ module _ (g : ℕ) where
             long : length (take g (e ∷ r)) ≡ min g (suc (length r))
             long = length-take g (e ∷ r)
 
-            save-next : (g ≤ suc (length r)) ⊎ (suc (length r) < g)
-                → savesNext cs ≡ pick (eqb ((j * g + min g (suc (length r))) % g) 0) (some ((j * g + min g (suc (length r))) / g)) none
-            save-next (inl h) =
+            save_next : (g ≤ suc (length r)) ⊎ (suc (length r) < g)
+                → saves_next cs ≡ pick (eqb ((j * g + min g (suc (length r))) % g) 0) (some ((j * g + min g (suc (length r))) / g)) none
+            save_next (inl h) =
                 let whole : j * g + min g (suc (length r)) ≡ suc j * g = omega (arith, suc-mul j g) in
                 rw (whole, eq-eqb (suc j * g % g) 0 (mul-mod_left (suc j) g), mul-div_cancel (suc j) pos) (more h)
-            save-next (inr h) =
+            save_next (inr h) =
                 let short : min g (suc (length r)) ≡ suc (length r) = omega arith in
                 let some_left : (j * g + suc (length r)) % g ≡ suc (length r) = mul-add-mod_self_right j g (suc (length r)) ∙ mod-eq_of_lt h in
                 rw (short, ne_eqb ((j * g + suc (length r)) % g) 0 (λ z. omega (arith, some_left))) (last h)
 
         module _ (k : (i : ℕ) → i ≤ j → b.slot i ≡ take (i * g) s) where
           last_done : length (e ∷ r) < g → Done b (run (take g (e ∷ r)) ∷ [])
-          unfolding play step Proper Kept arrivals savesNext
+          unfolding play step Proper Kept arrivals saves_next
           last_done h = record {
             arrived = ran j (e ∷ r) b q c ∙ take_all (suc j * g) s (omega (arith, left, suc-mul j g));
             kept = λ i m. k i (le_of_suc-le-suc (lt_of_mul-lt-mul_right g (omega (arith, left, suc-mul j g))));
-            proper = (run-allowed [] (λ l. absurd (omega arith)) (λ l. refl), tt);
+            proper = (run_allowed [] (λ l. absurd (omega arith)) (λ l. refl), tt);
             alone = refl;
           }
 
@@ -234,75 +234,75 @@ module _ (g : ℕ) where
                 below : i ≢ suc j → i ≤ j
                 below n = omega arith
 
-            more-done : (f : ℕ) → Done next (legs f g (suc j) (drop g (e ∷ r))) → Done b (run (take g (e ∷ r)) ∷ save (suc j) ∷ legs f g (suc j) (drop g (e ∷ r)))
-            unfolding next play step Proper Allowed arrivals savesNext
-            more-done f d = record {
+            more_done : (f : ℕ) → Done next (legs f g (suc j) (drop g (e ∷ r))) → Done b (run (take g (e ∷ r)) ∷ save (suc j) ∷ legs f g (suc j) (drop g (e ∷ r)))
+            unfolding next play step Proper Allowed arrivals saves_next
+            more_done f d = record {
               arrived = d.arrived;
               kept = d.kept;
               proper = (
-                run-allowed (save (suc j) ∷ legs f g (suc j) (drop g (e ∷ r))) (λ l. refl) (λ l. absurd (omega arith)),
-                ((ap length (ran j (e ∷ r) b q c) ∙ length-take-le (suc j * g) s within, legs-unsaved f (suc j) (drop g (e ∷ r))), d.proper),
+                run_allowed (save (suc j) ∷ legs f g (suc j) (drop g (e ∷ r))) (λ l. refl) (λ l. absurd (omega arith)),
+                ((ap length (ran j (e ∷ r) b q c) ∙ length-take-le (suc j * g) s within, legs_unsaved f (suc j) (drop g (e ∷ r))), d.proper),
               );
               alone = d.alone;
             }
 
-      legs-done : (f j : ℕ) (rest : List ℕ) (b : Bench) → rest ≡ drop (j * g) s → length rest ≤ f → j * g ≤ length s → b.current ≡ take (j * g) s
+      legs_done : (f j : ℕ) (rest : List ℕ) (b : Bench) → rest ≡ drop (j * g) s → length rest ≤ f → j * g ≤ length s → b.current ≡ take (j * g) s
           → ((i : ℕ) → i ≤ j → b.slot i ≡ take (i * g) s) → Done b (legs f g j rest)
       unfolding legs
-      legs-done zero j [] b q few le c k = finished j b q le c k
-      legs-done zero j (e ∷ r) b q few le c k = absurd (omega arith)
-      legs-done (suc f) j [] b q few le c k = finished j b q le c k
-      legs-done (suc f) j (e ∷ r) b q few le c k =
+      legs_done zero j [] b q few le c k = finished j b q le c k
+      legs_done zero j (e ∷ r) b q few le c k = absurd (omega arith)
+      legs_done (suc f) j [] b q few le c k = finished j b q le c k
+      legs_done (suc f) j (e ∷ r) b q few le c k =
           ⊎_elim
-          (λ h. rw (legs-more f j e r h)
-          (more-done j e r b q le c k h f (legs-done f (suc j) (drop g (e ∷ r)) (next j e r b q le c k) (rw (q, suc-mul) (drop-drop g (j * g) s)) (rw length-drop (omega arith)) (within j e r b q le c k h) (stands j e r b q le c k h) (slots j e r b q le c k h))))
-          (λ h. rw (legs-last f j e r h) (last_done j e r b q le c k h))
+          (λ h. rw (legs_more f j e r h)
+          (more_done j e r b q le c k h f (legs_done f (suc j) (drop g (e ∷ r)) (next j e r b q le c k) (rw (q, suc-mul) (drop-drop g (j * g) s)) (rw length-drop (omega arith)) (within j e r b q le c k h) (stands j e r b q le c k h) (slots j e r b q le c k h))))
+          (λ h. rw (legs_last f j e r h) (last_done j e r b q le c k h))
           (split g (length (e ∷ r)))
 
       -- the load, and the legs after it
       module _ (prev : List ℕ) where
-        loaded-within : depthFor g prev s ≤ shared prev s
-        unfolding depthFor slotFor
-        loaded-within = div-mul-le_self (shared prev s) g
+        loaded_within : depth_for g prev s ≤ shared prev s
+        unfolding depth_for slot_for
+        loaded_within = div-mul-le_self (shared prev s) g
 
-        pub loaded-short : depthFor g prev s ≤ length s
-        loaded-short = omega (arith, loaded-within, shared-right prev s)
+        pub loaded_short : depth_for g prev s ≤ length s
+        loaded_short = omega (arith, loaded_within, shared_right prev s)
 
-        loaded-long : (b : Bench) → Kept g prev b → length (b.slot (slotFor g prev s)) ≡ slotFor g prev s * g
-        unfolding Kept depthFor
-        loaded-long b k =
-            let le : slotFor g prev s * g ≤ length prev = omega (arith, loaded-within, shared-left prev s) in
-            ap length (k (slotFor g prev s) le) ∙ length-take-le (slotFor g prev s * g) prev le
+        loaded_long : (b : Bench) → Kept g prev b → length (b.slot (slot_for g prev s)) ≡ slot_for g prev s * g
+        unfolding Kept depth_for
+        loaded_long b k =
+            let le : slot_for g prev s * g ≤ length prev = omega (arith, loaded_within, shared_left prev s) in
+            ap length (k (slot_for g prev s) le) ∙ length-take-le (slot_for g prev s * g) prev le
 
-        legs-after : (b : Bench) → Kept g prev b → Done (step b (load (slotFor g prev s))) (legs (length (tail g prev s)) g (slotFor g prev s) (tail g prev s))
-        unfolding tail depthFor step Kept
-        legs-after b k = legs-done (length (drop (j * g) s)) j (drop (j * g) s) (step b (load j)) refl (omega arith) loaded-short (slots-loaded j (omega arith)) slots-loaded
+        legs_after : (b : Bench) → Kept g prev b → Done (step b (load (slot_for g prev s))) (legs (length (tail g prev s)) g (slot_for g prev s) (tail g prev s))
+        unfolding tail depth_for step Kept
+        legs_after b k = legs_done (length (drop (j * g) s)) j (drop (j * g) s) (step b (load j)) refl (omega arith) loaded_short (slots_loaded j (omega arith)) slots_loaded
           where
             j : ℕ
-            j = slotFor g prev s
+            j = slot_for g prev s
 
-            slots-loaded : (i : ℕ) → i ≤ j → b.slot i ≡ take (i * g) s
-            slots-loaded i m =
+            slots_loaded : (i : ℕ) → i ≤ j → b.slot i ≡ take (i * g) s
+            slots_loaded i m =
                 let up : i * g ≤ j * g = mul-le-mul_right g m in
-                k i (omega (arith, loaded-within, shared-left prev s)) ∙ shared-take (i * g) prev s (omega (arith, loaded-within))
+                k i (omega (arith, loaded_within, shared_left prev s)) ∙ shared-take (i * g) prev s (omega (arith, loaded_within))
 
     -- ---- the whole sheet
 
-    events-legs : (f j : ℕ) (rest : List ℕ) → length rest ≤ f → events (legs f g j rest) ≡ length rest
+    events_legs : (f j : ℕ) (rest : List ℕ) → length rest ≤ f → events (legs f g j rest) ≡ length rest
     unfolding legs leg events
-    events-legs zero j [] few = refl
-    events-legs zero j (e ∷ r) few = absurd (omega arith)
-    events-legs (suc f) j [] few = refl
-    events-legs (suc f) j (e ∷ r) few =
-        let rest = events-legs f (suc j) (drop g (e ∷ r)) (rw length-drop (omega arith)) in
+    events_legs zero j [] few = refl
+    events_legs zero j (e ∷ r) few = absurd (omega arith)
+    events_legs (suc f) j [] few = refl
+    events_legs (suc f) j (e ∷ r) few =
+        let rest = events_legs f (suc j) (drop g (e ∷ r)) (rw length-drop (omega arith)) in
         case (eqb (length (take g (e ∷ r))) g)
         (λ t. rw t (omega (arith, rest, length-drop g (e ∷ r), length-take g (e ∷ r))))
         (λ t. rw t (omega (arith, rest, length-drop g (e ∷ r), length-take g (e ∷ r))))
 
     -- 'h less the loaded depth'
-    pub events-part : (prev s : List ℕ) → events (part g prev s) ≡ length (tail g prev s)
+    pub events_part : (prev s : List ℕ) → events (part g prev s) ≡ length (tail g prev s)
     unfolding part events
-    events-part prev s = events-legs (length (tail g prev s)) (slotFor g prev s) (tail g prev s) (omega arith)
+    events_part prev s = events_legs (length (tail g prev s)) (slot_for g prev s) (tail g prev s) (omega arith)
 
     -- slot 0 holds the start, and of the others nothing is asked
     begun : (b : Bench) → b.slot 0 ≡ [] → Kept g [] b
@@ -312,16 +312,16 @@ module _ (g : ℕ) where
 
     module _ (ss : ℕ → List ℕ) (h : ℕ) where
       -- 'the total equals the sum of h less the loaded depth over all scenarios'
-      pub events-sheet : (m : ℕ) → ((k : ℕ) → k < m → length (ss k) ≡ h) → events (sheet g ss m) ≡ sum (λ j. h - j * g) (tabulate (λ k. slotFor g (previous ss k) (ss k)) m)
+      pub events_sheet : (m : ℕ) → ((k : ℕ) → k < m → length (ss k) ≡ h) → events (sheet g ss m) ≡ sum (λ j. h - j * g) (tabulate (λ k. slot_for g (previous ss k) (ss k)) m)
       unfolding sheet stack tabulate events
-      events-sheet zero long = refl
-      events-sheet (suc m) long =
+      events_sheet zero long = refl
+      events_sheet (suc m) long =
           events-append (sheet g ss m) (part g (previous ss m) (ss m))
-          ∙ ap₂ ◌+◌ (events-sheet m (λ k l. long k (omega arith))) (events-part (previous ss m) (ss m) ∙ one)
-          ∙ sym (sum-snoc (λ j. h - j * g) (tabulate (λ k. slotFor g (previous ss k) (ss k)) m) (slotFor g (previous ss m) (ss m)))
+          ∙ ap₂ ◌+◌ (events_sheet m (λ k l. long k (omega arith))) (events_part (previous ss m) (ss m) ∙ one)
+          ∙ sym (sum_snoc (λ j. h - j * g) (tabulate (λ k. slot_for g (previous ss k) (ss k)) m) (slot_for g (previous ss m) (ss m)))
         where
-          one : length (tail g (previous ss m) (ss m)) ≡ h - slotFor g (previous ss m) (ss m) * g
-          one = unfold tail depthFor in (length-drop (slotFor g (previous ss m) (ss m) * g) (ss m) ∙ ap (λ n. n - slotFor g (previous ss m) (ss m) * g) (long m (omega arith)))
+          one : length (tail g (previous ss m) (ss m)) ≡ h - slot_for g (previous ss m) (ss m) * g
+          one = unfold tail depth_for in (length-drop (slot_for g (previous ss m) (ss m) * g) (ss m) ∙ ap (λ n. n - slot_for g (previous ss m) (ss m) * g) (long m (omega arith)))
 
       module _ (b : Bench) (z : b.slot 0 ≡ []) where
         record Driven (m : ℕ) : Type 0 where
@@ -330,34 +330,34 @@ module _ (g : ℕ) where
           proper : Proper g h b (sheet g ss m)
 
         -- one scenario more
-        driven-more : (m : ℕ) → length (ss m) ≡ h → Driven m → Driven (suc m)
-        unfolding sheet stack tabulate previous part play arrivals Proper Allowed savesNext
-        driven-more m long d =
-            let done = legs-after (ss m) (previous ss m) (play b (sheet g ss m)) d.kept in
-            let j = slotFor g (previous ss m) (ss m) in
+        driven_more : (m : ℕ) → length (ss m) ≡ h → Driven m → Driven (suc m)
+        unfolding sheet stack tabulate previous part play arrivals Proper Allowed saves_next
+        driven_more m long d =
+            let done = legs_after (ss m) (previous ss m) (play b (sheet g ss m)) d.kept in
+            let j = slot_for g (previous ss m) (ss m) in
             let rest = legs (length (tail g (previous ss m) (ss m))) g j (tail g (previous ss m) (ss m)) in
             record {
               arrived = arrivals-load b (sheet g ss m) j rest ∙ ap₂ ◌++◌ d.arrived (done.alone ∙ ap (λ s. s ∷ []) done.arrived);
-              kept = rw (play-append b (sheet g ss m) (load j ∷ rest)) done.kept;
-              proper = proper-append h b (sheet g ss m) (load j ∷ rest) refl d.proper ((loaded-long (ss m) (previous ss m) (play b (sheet g ss m)) d.kept, legs-unsaved (length (tail g (previous ss m) (ss m))) j (tail g (previous ss m) (ss m))), rw long at done.proper);
+              kept = rw (play_append b (sheet g ss m) (load j ∷ rest)) done.kept;
+              proper = proper_append h b (sheet g ss m) (load j ∷ rest) refl d.proper ((loaded_long (ss m) (previous ss m) (play b (sheet g ss m)) d.kept, legs_unsaved (length (tail g (previous ss m) (ss m))) j (tail g (previous ss m) (ss m))), rw long at done.proper);
             }
 
         driven : (m : ℕ) → ((k : ℕ) → k < m → length (ss k) ≡ h) → Driven m
         unfolding sheet stack tabulate previous
         driven zero long = record { arrived = unfold arrivals in refl; kept = unfold play in (begun b z); proper = unfold Proper in tt }
-        driven (suc m) long = driven-more m (long m (omega arith)) (driven m (λ k l. long k (omega arith)))
+        driven (suc m) long = driven_more m (long m (omega arith)) (driven m (λ k l. long k (omega arith)))
 
         module _ (m : ℕ) (long : (k : ℕ) → k < m → length (ss k) ≡ h) where
-          pub sheet-arrives : arrivals b (sheet g ss m) ≡ b.current ∷ tabulate ss m
-          sheet-arrives = (driven m long).arrived
+          pub sheet_arrives : arrivals b (sheet g ss m) ≡ b.current ∷ tabulate ss m
+          sheet_arrives = (driven m long).arrived
 
-          pub sheet-proper : Proper g h b (sheet g ss m)
-          sheet-proper = (driven m long).proper
+          pub sheet_proper : Proper g h b (sheet g ss m)
+          sheet_proper = (driven m long).proper
 
-    pub slot-deepest : (prev s : List ℕ) → Deepest g prev s (slotFor g prev s)
-    unfolding Deepest Shares slotFor
-    slot-deepest prev s =
+    pub slot_deepest : (prev s : List ℕ) → Deepest g prev s (slot_for g prev s)
+    unfolding Deepest Shares slot_for
+    slot_deepest prev s =
         let le = div-mul-le_self (shared prev s) g in (
-          (omega (arith, le, shared-left prev s), omega (arith, le, shared-right prev s), shared-take (shared prev s / g * g) prev s le),
+          (omega (arith, le, shared_left prev s), omega (arith, le, shared_right prev s), shared-take (shared prev s / g * g) prev s le),
           λ i (a, b, q). (le-div_iff_mul-le pos).1 (shared-most (i * g) prev s a b q),
         )

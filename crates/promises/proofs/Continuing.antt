@@ -7,7 +7,7 @@ use Prim.Native.Nat.{ℕ, suc}
 use lib.ListN.{length}
 use Rattle.promises.specs.Text.{Kind, Part, Line, continues, Monitor, monitors, latest, OfLatest, continuing, cases, Case2, Case5, Case3, Case16, Case17, Case18, Case4, Case6, Sound, LineFault, Fault}
 use Rattle.promises.specs.Sentences.{Continues}
-use Rattle.promises.proofs.Reading.{bad-line}
+use Rattle.promises.proofs.Reading.{bad_line}
 
 module _ (front : List Line) (p : Part) (right : Kind → Type 0) (out : Monitor → Type 0) (clash : ℕ → Type 0) (again : Monitor → Type 0)
     (are : cases front (continues p) ≡ continuing front right out clash again) where
@@ -50,13 +50,13 @@ module _ (front : List Line) (p : Part) (right : Kind → Type 0) (out : Monitor
     new n h = n (rw last at (subst (λ c. c.again) are h))
 
     -- no case holds
-    pub sound-line : (out m → ⊥) → ((n : ℕ) → clash n → ⊥) → (again m → ⊥) → Sound front (continues p)
+    pub sound_line : (out m → ⊥) → ((n : ℕ) → clash n → ⊥) → (again m → ⊥) → Sound front (continues p)
     unfolding Case16 Case17 Case18 Case6 continuing
-    sound-line o c a = record {
+    sound_line o c a = record {
       formed = formed;
       placed = placed;
       ranged = ranged o;
-      named-once = λ h. c 16 (numbered 16 h);
+      named_once = λ h. c 16 (numbered 16 h);
       unequal = λ h. c 17 (numbered 17 h);
       nonempty = λ h. c 18 (numbered 18 h);
       new = new a;
@@ -65,11 +65,11 @@ module _ (front : List Line) (p : Part) (right : Kind → Type 0) (out : Monitor
 
   module _ (t : List ℕ) (z : Continues t front p) where
     bad : (n : ℕ) → LineFault front (continues p) n → Fault t n (suc (length front))
-    bad n f = bad-line t front (continues p) z.back n z.short z.lines_are z.sound f
+    bad n f = bad_line t front (continues p) z.back n z.short z.lines_are z.sound f
 
-    pub wrong-kind : ((m : Monitor) → latest (monitors front) ≡ some m → right m.kind → ⊥) → Fault t 5 (suc (length front))
+    pub wrong_kind : ((m : Monitor) → latest (monitors front) ≡ some m → right m.kind → ⊥) → Fault t 5 (suc (length front))
     unfolding LineFault
-    wrong-kind isn't = bad 5 (inr (formed, inl (misplaced isn't, refl)))
+    wrong_kind isn't = bad 5 (inr (formed, inl (misplaced isn't, refl)))
 
     module _ (m : Monitor) (last : latest (monitors front) ≡ some m) (is : right m.kind) where
       pub out_of_range : out m → Fault t 3 (suc (length front))
@@ -81,6 +81,6 @@ module _ (front : List Line) (p : Part) (right : Kind → Type 0) (out : Monitor
       unfolding LineFault Case16 Case17 Case18 continuing
       clashes o c d e = bad 18 (inr (formed, inr (placed m last is, inr (ranged m last is o, inr (λ h. c (numbered 16 h), inr (λ h. d (numbered 17 h), inl (subst (λ c. c.clash 18) (sym are) e, refl)))))))
 
-      pub given-again : (out m → ⊥) → ((n : ℕ) → clash n → ⊥) → again m → Fault t 4 (suc (length front))
+      pub given_again : (out m → ⊥) → ((n : ℕ) → clash n → ⊥) → again m → Fault t 4 (suc (length front))
       unfolding LineFault Case16 Case17 Case18 continuing
-      given-again o c a = bad 4 (inr (formed, inr (placed m last is, inr (ranged m last is o, inr (λ h. c 16 (numbered 16 h), inr (λ h. c 17 (numbered 17 h), inr (λ h. c 18 (numbered 18 h), inl (repeated m last is a, refl))))))))
+      given_again o c a = bad 4 (inr (formed, inr (placed m last is, inr (ranged m last is o, inr (λ h. c 16 (numbered 16 h), inr (λ h. c 17 (numbered 17 h), inr (λ h. c 18 (numbered 18 h), inl (repeated m last is a, refl))))))))

@@ -10,43 +10,43 @@ use native.Mathlib.Nat.{add-zero, add-suc, suc-add, mod-lt, mod-eq_of_lt, mod-ad
 use native.Mathlib.Omega.{arith}
 use lib.Dec.{leb, ltb}
 use Rattle.lists.proofs.Tests.{case, contra}
-use Rattle.lists.proofs.Tells.{Tells, tells-true, tells-le, tells-lt, tells-and}
+use Rattle.lists.proofs.Tells.{Tells, tells_true, tells_le, tells_lt, tells_and}
 use Rattle.automaton.proofs.Sentences.{Steps}
-use Rattle.promises.specs.Text.{day, Part, statesOf}
+use Rattle.promises.specs.Text.{day, Part, states_of}
 use Rattle.promises.specs.Meaning.{Stands, HasHours, InHours, OnTime, Says, Admits, Ends, MayStop}
-use Rattle.promises.specs.Reading.{hasHours, inHours}
-use Rattle.promises.specs.Rig.{dayNext, admittedAt, next_of, markedOf}
+use Rattle.promises.specs.Reading.{has_hours, in_hours}
+use Rattle.promises.specs.Rig.{day_next, admitted_at, next_of, marked_of}
 use Rattle.promises.specs.Sentences.{Agrees}
-use Rattle.promises.proofs.Reading.{tells-opens}
+use Rattle.promises.proofs.Reading.{tells_opens}
 use Rattle.promises.proofs.Agreeing.{agrees}
 
 module _ (ps : List Part) where
-  pub tells-has : (e : ℕ) → Tells (hasHours ps e) (HasHours ps e)
+  pub tells_has : (e : ℕ) → Tells (has_hours ps e) (HasHours ps e)
   unfolding HasHours
-  tells-has e =
-      let t = tells-opens (λ a b. true) ps e in
+  tells_has e =
+      let t = tells_opens (λ a b. true) ps e in
       record { yes = λ q. let (a, b, i, h) = t.yes q in (a, b, i); no = λ q (a, b, i). t.no q (a, b, i, refl) }
 
-  pub tells-in : (e s : ℕ) → Tells (inHours ps e s) (InHours ps e s)
+  pub tells_in : (e s : ℕ) → Tells (in_hours ps e s) (InHours ps e s)
   unfolding InHours
-  tells-in e s =
-      let t = tells-opens (λ a b. leb a s && ltb s b) ps e in
+  tells_in e s =
+      let t = tells_opens (λ a b. leb a s && ltb s b) ps e in
       record {
-        yes = λ q. let (a, b, i, h) = t.yes q in let (l, r) = (tells-and (tells-le a s) (tells-lt s b)).yes h in (a, b, i, l, r);
-        no = λ q (a, b, i, l, r). t.no q (a, b, i, tells-true (tells-and (tells-le a s) (tells-lt s b)) (l, r));
+        yes = λ q. let (a, b, i, h) = t.yes q in let (l, r) = (tells_and (tells_le a s) (tells_lt s b)).yes h in (a, b, i, l, r);
+        no = λ q (a, b, i, l, r). t.no q (a, b, i, tells_true (tells_and (tells_le a s) (tells_lt s b)) (l, r));
       }
 
-  admitted-iff : (s e : ℕ) → (admittedAt ps e s ≡ true) ↔ (HasHours ps e → InHours ps e s)
-  admitted-iff s e =
-      case (hasHours ps e)
-      (λ q. rw q (λ p h. (tells-in e s).yes p, λ f. tells-true (tells-in e s) (f ((tells-has e).yes q))))
-      (λ q. rw q (λ p h. absurd ((tells-has e).no q h), λ f. refl))
+  admitted_iff : (s e : ℕ) → (admitted_at ps e s ≡ true) ↔ (HasHours ps e → InHours ps e s)
+  admitted_iff s e =
+      case (has_hours ps e)
+      (λ q. rw q (λ p h. (tells_in e s).yes p, λ f. tells_true (tells_in e s) (f ((tells_has e).yes q))))
+      (λ q. rw q (λ p h. absurd ((tells_has e).no q h), λ f. refl))
 
   module _ (T : ℕ) where
     -- the event in front stands in step s, and the others begin one step on
-    on-time-step : (s u : ℕ) (w : List ℕ) → s < T → OnTime T ps s (u ∷ w) ↔ ((HasHours ps u → InHours ps u s) × OnTime T ps (suc s % T) w)
+    on_time_step : (s u : ℕ) (w : List ℕ) → s < T → OnTime T ps s (u ∷ w) ↔ ((HasHours ps u → InHours ps u s) × OnTime T ps (suc s % T) w)
     unfolding OnTime Stands
-    on-time-step s u w h = (λ o. (λ n. rw now at (o 0 u refl n), λ i v t n. rw (later i) (o (suc i) v t n)), λ (f, o). from f o)
+    on_time_step s u w h = (λ o. (λ n. rw now at (o 0 u refl n), λ i v t n. rw (later i) (o (suc i) v t n)), λ (f, o). from f o)
       where
         now : (s + 0) % T ≡ s
         now = rw add-zero (mod-eq_of_lt h)
@@ -58,15 +58,15 @@ module _ (ps : List Part) where
         from f o zero v q n = rw (now, ← q) (f (rw (← q) at n))
         from f o (suc i) v t n = rw (later i) at (o i v t n)
 
-    steps : (s u : ℕ) (w : List ℕ) → s < T → OnTime T ps s (u ∷ w) ↔ ((dayNext T (admittedAt ps u s) s < T) × OnTime T ps (dayNext T (admittedAt ps u s) s) w)
-    unfolding dayNext
+    steps : (s u : ℕ) (w : List ℕ) → s < T → OnTime T ps s (u ∷ w) ↔ ((day_next T (admitted_at ps u s) s < T) × OnTime T ps (day_next T (admitted_at ps u s) s) w)
+    unfolding day_next
     steps s u w h =
-        let (to, from) = on-time-step s u w h in
-        let (ok, free) = admitted-iff s u in
-        case (admittedAt ps u s)
+        let (to, from) = on_time_step s u w h in
+        let (ok, free) = admitted_iff s u in
+        case (admitted_at ps u s)
         (λ t. rw t (λ o. (mod-lt (suc s) (omega arith), (to o).1), λ (l, o). from (ok t, o)))
         (λ t. rw t (λ o. contra (free (to o).0) t, λ (l, o). absurd (omega arith)))
 
-pub day-agrees : (es : List ℕ) (T : ℕ) (ps : List Part) → Agrees es (record { kind = day T; parts = ps })
-unfolding Steps next_of markedOf statesOf Admits Says MayStop Ends OnTime Stands
-day-agrees es T ps = agrees es (record { kind = day T; parts = ps }) (steps ps T) (λ s h i u t. absurd t) (λ s w a. (λ q. tt, λ p. refl))
+pub day_agrees : (es : List ℕ) (T : ℕ) (ps : List Part) → Agrees es (record { kind = day T; parts = ps })
+unfolding Steps next_of marked_of states_of Admits Says MayStop Ends OnTime Stands
+day_agrees es T ps = agrees es (record { kind = day T; parts = ps }) (steps ps T) (λ s h i u t. absurd t) (λ s w a. (λ q. tt, λ p. refl))

@@ -10,263 +10,263 @@ use lib.ListN.{length, length-replicate}
 use Rattle.lists.specs.Lists.{range, index_of, first_of}
 use Rattle.lists.proofs.Distinct.{in_place}
 use Rattle.automaton.specs.Automaton.{bounded}
-use Rattle.automaton.specs.Joint.{both, join, idle, joint, sizes, jointState}
-use Rattle.automaton.specs.Pruning.{keep, prunedSet, size, passesFrom, passes, live}
+use Rattle.automaton.specs.Joint.{both, join, idle, joint, sizes, joint_state}
+use Rattle.automaton.specs.Pruning.{keep, pruned_set, size, passes_from, passes, live}
 use Rattle.automaton.specs.Counting.{N}
-use Rattle.automaton.specs.Ranking.{choose, unrank, firstViolation}
-use Rattle.automaton.proofs.Counting.{scenarios-length, scenarios-sound, stays-live, stays-events}
-use Rattle.automaton.proofs.Ranking.{index-belongs, firstViolation-none}
-use Rattle.promises.specs.Text.{onto, splitOn, init, last_of, lines, unended, fields, digitsValue, number, ahead, numbers, same, field, endOr, end, one, two, three, four, oneOrTwo, anyNumber, form, decode, decoded, addPart, extended, monitorsFrom, monitors, statesOf, start_of, latest, product, eventsOf, reordered, orderFrom, order_of, Readable, Fault, Case1, signed, minus, plus, oneSigned, twoSigned, thenSigned}
+use Rattle.automaton.specs.Ranking.{choose, unrank, first_violation}
+use Rattle.automaton.proofs.Counting.{scenarios_length, scenarios_sound, stays_live, stays_events}
+use Rattle.automaton.proofs.Ranking.{index_belongs, first_violation_none}
+use Rattle.promises.specs.Text.{onto, split_on, init, last_of, lines, unended, fields, digits_value, number, ahead, numbers, same, field, end_or, end, one, two, three, four, one_or_two, any_number, form, decode, decoded, add_part, extended, monitors_from, monitors, states_of, start_of, latest, product, events_of, reordered, order_from, order_of, Readable, Fault, Case1, signed, minus, plus, one_signed, two_signed, then_signed}
 use Rattle.promises.specs.Answer.{served, refused, Served}
-use Rattle.promises.specs.Meaning.{Belongs, Earlier, Comes, stepIn, step_of}
-use Rattle.promises.specs.Reading.{leadsTo, marks, opensBy, testBeginning, ofLatest, testContinuing, tests, lineCase, readingFrom, reading}
-use Rattle.promises.specs.Rig.{gapNext, replyNext, next_of, markedOf, monitorOf, standing, linesAutomaton, linesStart, rigAutomaton, start, balNext, dayNext}
-use Rattle.promises.specs.Examples.{A, B, A-from-1, A-exchanged, most-events, most-joint-states, Words, closes, one-unmarked, both-marked, may-close, gap-alone, reply-alone, unanswerable, four-kinds, widest-kinds, gap-without-n, field-after-n, reply-without-hi, field-after-hi, gap-first, gap-1, gap-33, gap-no-event, reply-to-no-event, reply-no-event, reply-lo-0, reply-hi-32, reply-lo-over-hi, reply-equal, equal-and-too-many, equal-and-fifth, gap-too-many, go-after-gap, stop-after-reply, stop-without-state, field-after-stop, stop-before-mon, stop-S, stop-again, start-S, field-after-start, empty-start, A-ordered, ord-too-short, ord-not-below, ord-twice, ord-third, ord-first, ord-no-number, ord-alone, mon-without-S, last-line-unended, leading-zero, six-digits, empty-field, seventeen-events, five-digits, fifth-monitor, go-again-out-of-range, go-again, nothing, rig-alone, rig-later, go-before-mon, too-many-joint-states, meters, meters-table, no_difference, widest-band, bal-without-hi, field-after-band, amp-without-step, minus-zero, two-signs, plus-sign, sign-and-zero, lone-sign, negative-event, negative-n, six-signed-digits, five-signed-digits, lo-16, lo-1, hi-16, hi-below-0, step-16, step-below, step-of-no-event, given-twice, given-zero-twice, amp-first, amp-after-mon, go-after-bal, stop-after-bal, bal-too-many, depot-hours, hours-table, always-open, longest-day, day-without-T, field-after-T, open-without-b, field-after-b, negative-step, day-1, day-33, fifth-day, b-over-T, hours-of-no-event, a-is-b, a-over-b, open-first, open-after-mon, open-after-bal, go-after-day, stop-after-day, amp-after-day, day-too-many}
-use Rattle.promises.proofs.Reading.{reading-refuses, reading-serves}
-use Rattle.promises.proofs.Meaning.{text-belongs}
-use Rattle.promises.proofs.Answers.{belongs-listed}
+use Rattle.promises.specs.Meaning.{Belongs, Earlier, Comes, step_in, step_of}
+use Rattle.promises.specs.Reading.{leads_to, marks, opens_by, test_beginning, of_latest, test_continuing, tests, line_case, reading_from, reading}
+use Rattle.promises.specs.Rig.{gap_next, reply_next, next_of, marked_of, monitor_of, standing, lines_automaton, lines_start, rig_automaton, start, bal_next, day_next}
+use Rattle.promises.specs.Examples.{A, B, A_from_1, A_exchanged, most_events, most_joint_states, Words, closes, one_unmarked, both_marked, may_close, gap_alone, reply_alone, unanswerable, four_kinds, widest_kinds, gap_without_n, field_after_n, reply_without_hi, field_after_hi, gap_first, gap_1, gap_33, gap_no_event, reply_to_no_event, reply_no_event, reply_lo_0, reply_hi_32, reply_lo_over_hi, reply_equal, equal_and_too_many, equal_and_fifth, gap_too_many, go_after_gap, stop_after_reply, stop_without_state, field_after_stop, stop_before_mon, stop_S, stop_again, start_S, field_after_start, empty_start, A_ordered, ord_too_short, ord_not_below, ord_twice, ord_third, ord_first, ord_no_number, ord_alone, mon_without_S, last_line_unended, leading_zero, six_digits, empty_field, seventeen_events, five_digits, fifth_monitor, go_again_out_of_range, go_again, nothing, rig_alone, rig_later, go_before_mon, too_many_joint_states, meters, meters_table, no_difference, widest_band, bal_without_hi, field_after_band, amp_without_step, minus_zero, two_signs, plus_sign, sign_and_zero, lone_sign, negative_event, negative_n, six_signed_digits, five_signed_digits, lo_16, lo_1, hi_16, hi_below_0, step_16, step_below, step_of_no_event, given_twice, given_zero_twice, amp_first, amp_after_mon, go_after_bal, stop_after_bal, bal_too_many, depot_hours, hours_table, always_open, longest_day, day_without_T, field_after_T, open_without_b, field_after_b, negative_step, day_1, day_33, fifth_day, b_over_T, hours_of_no_event, a_is_b, a_over_b, open_first, open_after_mon, open_after_bal, go_after_day, stop_after_day, amp_after_day, day_too_many}
+use Rattle.promises.proofs.Reading.{reading_refuses, reading-serves}
+use Rattle.promises.proofs.Meaning.{text_belongs}
+use Rattle.promises.proofs.Answers.{belongs_listed}
 
 record Readings : Type 0 where
-  of-A : reading A ≡ served []
-  of-B : reading B ≡ served []
-  of-A-from-1 : reading A-from-1 ≡ served []
-  of-A-exchanged : reading A-exchanged ≡ served []
-  of-A-ordered : reading A-ordered ≡ served []
-  of-closes : reading closes ≡ served []
-  of-one-unmarked : reading one-unmarked ≡ served []
-  of-both-marked : reading both-marked ≡ served []
-  of-may-close : reading may-close ≡ served []
-  of-gap-alone : reading gap-alone ≡ served []
-  of-reply-alone : reading reply-alone ≡ served []
-  of-unanswerable : reading unanswerable ≡ served []
-  of-four-kinds : reading four-kinds ≡ served []
-  of-widest-kinds : reading widest-kinds ≡ served []
-  of-meters : reading meters ≡ served []
-  of-meters-table : reading meters-table ≡ served []
-  of-no-difference : reading no_difference ≡ served []
-  of-widest-band : reading widest-band ≡ served []
-  of-bal-without-hi : reading bal-without-hi ≡ refused 2 2
-  of-field-after-band : reading field-after-band ≡ refused 2 2
-  of-amp-without-step : reading amp-without-step ≡ refused 2 3
-  of-minus-zero : reading minus-zero ≡ refused 2 2
-  of-two-signs : reading two-signs ≡ refused 2 2
-  of-plus-sign : reading plus-sign ≡ refused 2 2
-  of-sign-and-zero : reading sign-and-zero ≡ refused 2 2
-  of-lone-sign : reading lone-sign ≡ refused 2 2
-  of-negative-event : reading negative-event ≡ refused 2 3
-  of-negative-n : reading negative-n ≡ refused 2 2
-  of-six-signed-digits : reading six-signed-digits ≡ refused 2 2
-  of-five-signed-digits : reading five-signed-digits ≡ refused 3 2
-  of-lo-16 : reading lo-16 ≡ refused 3 2
-  of-lo-1 : reading lo-1 ≡ refused 3 2
-  of-hi-16 : reading hi-16 ≡ refused 3 2
-  of-hi-below-0 : reading hi-below-0 ≡ refused 3 2
-  of-step-16 : reading step-16 ≡ refused 3 3
-  of-step-below : reading step-below ≡ refused 3 3
-  of-step-of-no-event : reading step-of-no-event ≡ refused 3 3
-  of-given-twice : reading given-twice ≡ refused 4 4
-  of-given-zero-twice : reading given-zero-twice ≡ refused 4 4
-  of-amp-first : reading amp-first ≡ refused 5 2
-  of-amp-after-mon : reading amp-after-mon ≡ refused 5 4
-  of-go-after-bal : reading go-after-bal ≡ refused 5 3
-  of-stop-after-bal : reading stop-after-bal ≡ refused 5 3
-  of-bal-too-many : reading bal-too-many ≡ refused 6 4
-  of-depot-hours : reading depot-hours ≡ served []
-  of-hours-table : reading hours-table ≡ served []
-  of-always-open : reading always-open ≡ served []
-  of-longest-day : reading longest-day ≡ served []
-  of-day-without-T : reading day-without-T ≡ refused 2 2
-  of-field-after-T : reading field-after-T ≡ refused 2 2
-  of-open-without-b : reading open-without-b ≡ refused 2 3
-  of-field-after-b : reading field-after-b ≡ refused 2 3
-  of-negative-step : reading negative-step ≡ refused 2 3
-  of-day-1 : reading day-1 ≡ refused 3 2
-  of-day-33 : reading day-33 ≡ refused 3 2
-  of-fifth-day : reading fifth-day ≡ refused 3 6
-  of-b-over-T : reading b-over-T ≡ refused 3 3
-  of-hours-of-no-event : reading hours-of-no-event ≡ refused 3 3
-  of-a-is-b : reading a-is-b ≡ refused 18 3
-  of-a-over-b : reading a-over-b ≡ refused 18 3
-  of-open-first : reading open-first ≡ refused 5 2
-  of-open-after-mon : reading open-after-mon ≡ refused 5 4
-  of-open-after-bal : reading open-after-bal ≡ refused 5 3
-  of-go-after-day : reading go-after-day ≡ refused 5 3
-  of-stop-after-day : reading stop-after-day ≡ refused 5 3
-  of-amp-after-day : reading amp-after-day ≡ refused 5 3
-  of-day-too-many : reading day-too-many ≡ refused 6 4
-  of-gap-without-n : reading gap-without-n ≡ refused 2 2
-  of-field-after-n : reading field-after-n ≡ refused 2 2
-  of-reply-without-hi : reading reply-without-hi ≡ refused 2 2
-  of-field-after-hi : reading field-after-hi ≡ refused 2 2
-  of-gap-first : reading gap-first ≡ refused 5 1
-  of-gap-1 : reading gap-1 ≡ refused 3 2
-  of-gap-33 : reading gap-33 ≡ refused 3 2
-  of-gap-no-event : reading gap-no-event ≡ refused 3 2
-  of-reply-to-no-event : reading reply-to-no-event ≡ refused 3 2
-  of-reply-no-event : reading reply-no-event ≡ refused 3 2
-  of-reply-lo-0 : reading reply-lo-0 ≡ refused 3 2
-  of-reply-hi-32 : reading reply-hi-32 ≡ refused 3 2
-  of-reply-lo-over-hi : reading reply-lo-over-hi ≡ refused 3 2
-  of-reply-equal : reading reply-equal ≡ refused 17 2
-  of-equal-and-too-many : reading equal-and-too-many ≡ refused 17 4
-  of-equal-and-fifth : reading equal-and-fifth ≡ refused 3 6
-  of-gap-too-many : reading gap-too-many ≡ refused 6 4
-  of-go-after-gap : reading go-after-gap ≡ refused 5 4
-  of-stop-after-reply : reading stop-after-reply ≡ refused 5 3
-  of-stop-without-state : reading stop-without-state ≡ refused 2 3
-  of-field-after-stop : reading field-after-stop ≡ refused 2 3
-  of-stop-before-mon : reading stop-before-mon ≡ refused 5 2
-  of-stop-S : reading stop-S ≡ refused 3 3
-  of-stop-again : reading stop-again ≡ refused 4 5
-  of-most-events : reading most-events ≡ served []
-  of-most-joint-states : reading most-joint-states ≡ served []
-  of-start-S : reading start-S ≡ refused 3 2
-  of-field-after-start : reading field-after-start ≡ refused 2 2
-  of-empty-start : reading empty-start ≡ refused 2 2
-  of-ord-too-short : reading ord-too-short ≡ refused 2 2
-  of-ord-not-below : reading ord-not-below ≡ refused 3 2
-  of-ord-twice : reading ord-twice ≡ refused 16 2
-  of-ord-third : reading ord-third ≡ refused 5 3
-  of-ord-first : reading ord-first ≡ refused 5 1
-  of-ord-no-number : reading ord-no-number ≡ refused 2 1
-  of-ord-alone : reading ord-alone ≡ refused 5 3
-  of-mon-without-S : reading mon-without-S ≡ refused 2 2
-  of-last-line-unended : reading last-line-unended ≡ refused 2 2
-  of-leading-zero : reading leading-zero ≡ refused 2 1
-  of-six-digits : reading six-digits ≡ refused 2 1
-  of-empty-field : reading empty-field ≡ refused 2 1
-  of-seventeen-events : reading seventeen-events ≡ refused 3 1
-  of-five-digits : reading five-digits ≡ refused 3 1
-  of-fifth-monitor : reading fifth-monitor ≡ refused 3 6
-  of-go-again-out-of-range : reading go-again-out-of-range ≡ refused 3 4
-  of-go-again : reading go-again ≡ refused 4 4
-  of-nothing : reading nothing ≡ refused 5 1
-  of-rig-alone : reading rig-alone ≡ refused 5 2
-  of-rig-later : reading rig-later ≡ refused 5 2
-  of-go-before-mon : reading go-before-mon ≡ refused 5 2
-  of-too-many-joint-states : reading too-many-joint-states ≡ refused 6 4
+  of_A : reading A ≡ served []
+  of_B : reading B ≡ served []
+  of_A_from_1 : reading A_from_1 ≡ served []
+  of_A_exchanged : reading A_exchanged ≡ served []
+  of_A_ordered : reading A_ordered ≡ served []
+  of_closes : reading closes ≡ served []
+  of_one_unmarked : reading one_unmarked ≡ served []
+  of_both_marked : reading both_marked ≡ served []
+  of_may_close : reading may_close ≡ served []
+  of_gap_alone : reading gap_alone ≡ served []
+  of_reply_alone : reading reply_alone ≡ served []
+  of_unanswerable : reading unanswerable ≡ served []
+  of_four_kinds : reading four_kinds ≡ served []
+  of_widest_kinds : reading widest_kinds ≡ served []
+  of_meters : reading meters ≡ served []
+  of_meters_table : reading meters_table ≡ served []
+  of_no_difference : reading no_difference ≡ served []
+  of_widest_band : reading widest_band ≡ served []
+  of_bal_without_hi : reading bal_without_hi ≡ refused 2 2
+  of_field_after_band : reading field_after_band ≡ refused 2 2
+  of_amp_without_step : reading amp_without_step ≡ refused 2 3
+  of_minus_zero : reading minus_zero ≡ refused 2 2
+  of_two_signs : reading two_signs ≡ refused 2 2
+  of_plus_sign : reading plus_sign ≡ refused 2 2
+  of_sign_and_zero : reading sign_and_zero ≡ refused 2 2
+  of_lone_sign : reading lone_sign ≡ refused 2 2
+  of_negative_event : reading negative_event ≡ refused 2 3
+  of_negative_n : reading negative_n ≡ refused 2 2
+  of_six_signed_digits : reading six_signed_digits ≡ refused 2 2
+  of_five_signed_digits : reading five_signed_digits ≡ refused 3 2
+  of_lo_16 : reading lo_16 ≡ refused 3 2
+  of_lo_1 : reading lo_1 ≡ refused 3 2
+  of_hi_16 : reading hi_16 ≡ refused 3 2
+  of_hi_below_0 : reading hi_below_0 ≡ refused 3 2
+  of_step_16 : reading step_16 ≡ refused 3 3
+  of_step_below : reading step_below ≡ refused 3 3
+  of_step_of_no_event : reading step_of_no_event ≡ refused 3 3
+  of_given_twice : reading given_twice ≡ refused 4 4
+  of_given_zero_twice : reading given_zero_twice ≡ refused 4 4
+  of_amp_first : reading amp_first ≡ refused 5 2
+  of_amp_after_mon : reading amp_after_mon ≡ refused 5 4
+  of_go_after_bal : reading go_after_bal ≡ refused 5 3
+  of_stop_after_bal : reading stop_after_bal ≡ refused 5 3
+  of_bal_too_many : reading bal_too_many ≡ refused 6 4
+  of_depot_hours : reading depot_hours ≡ served []
+  of_hours_table : reading hours_table ≡ served []
+  of_always_open : reading always_open ≡ served []
+  of_longest_day : reading longest_day ≡ served []
+  of_day_without_T : reading day_without_T ≡ refused 2 2
+  of_field_after_T : reading field_after_T ≡ refused 2 2
+  of_open_without_b : reading open_without_b ≡ refused 2 3
+  of_field_after_b : reading field_after_b ≡ refused 2 3
+  of_negative_step : reading negative_step ≡ refused 2 3
+  of_day_1 : reading day_1 ≡ refused 3 2
+  of_day_33 : reading day_33 ≡ refused 3 2
+  of_fifth_day : reading fifth_day ≡ refused 3 6
+  of_b_over_T : reading b_over_T ≡ refused 3 3
+  of_hours_of_no_event : reading hours_of_no_event ≡ refused 3 3
+  of_a_is_b : reading a_is_b ≡ refused 18 3
+  of_a_over_b : reading a_over_b ≡ refused 18 3
+  of_open_first : reading open_first ≡ refused 5 2
+  of_open_after_mon : reading open_after_mon ≡ refused 5 4
+  of_open_after_bal : reading open_after_bal ≡ refused 5 3
+  of_go_after_day : reading go_after_day ≡ refused 5 3
+  of_stop_after_day : reading stop_after_day ≡ refused 5 3
+  of_amp_after_day : reading amp_after_day ≡ refused 5 3
+  of_day_too_many : reading day_too_many ≡ refused 6 4
+  of_gap_without_n : reading gap_without_n ≡ refused 2 2
+  of_field_after_n : reading field_after_n ≡ refused 2 2
+  of_reply_without_hi : reading reply_without_hi ≡ refused 2 2
+  of_field_after_hi : reading field_after_hi ≡ refused 2 2
+  of_gap_first : reading gap_first ≡ refused 5 1
+  of_gap_1 : reading gap_1 ≡ refused 3 2
+  of_gap_33 : reading gap_33 ≡ refused 3 2
+  of_gap_no_event : reading gap_no_event ≡ refused 3 2
+  of_reply_to_no_event : reading reply_to_no_event ≡ refused 3 2
+  of_reply_no_event : reading reply_no_event ≡ refused 3 2
+  of_reply_lo_0 : reading reply_lo_0 ≡ refused 3 2
+  of_reply_hi_32 : reading reply_hi_32 ≡ refused 3 2
+  of_reply_lo_over_hi : reading reply_lo_over_hi ≡ refused 3 2
+  of_reply_equal : reading reply_equal ≡ refused 17 2
+  of_equal_and_too_many : reading equal_and_too_many ≡ refused 17 4
+  of_equal_and_fifth : reading equal_and_fifth ≡ refused 3 6
+  of_gap_too_many : reading gap_too_many ≡ refused 6 4
+  of_go_after_gap : reading go_after_gap ≡ refused 5 4
+  of_stop_after_reply : reading stop_after_reply ≡ refused 5 3
+  of_stop_without_state : reading stop_without_state ≡ refused 2 3
+  of_field_after_stop : reading field_after_stop ≡ refused 2 3
+  of_stop_before_mon : reading stop_before_mon ≡ refused 5 2
+  of_stop_S : reading stop_S ≡ refused 3 3
+  of_stop_again : reading stop_again ≡ refused 4 5
+  of_most_events : reading most_events ≡ served []
+  of_most_joint_states : reading most_joint_states ≡ served []
+  of_start_S : reading start_S ≡ refused 3 2
+  of_field_after_start : reading field_after_start ≡ refused 2 2
+  of_empty_start : reading empty_start ≡ refused 2 2
+  of_ord_too_short : reading ord_too_short ≡ refused 2 2
+  of_ord_not_below : reading ord_not_below ≡ refused 3 2
+  of_ord_twice : reading ord_twice ≡ refused 16 2
+  of_ord_third : reading ord_third ≡ refused 5 3
+  of_ord_first : reading ord_first ≡ refused 5 1
+  of_ord_no_number : reading ord_no_number ≡ refused 2 1
+  of_ord_alone : reading ord_alone ≡ refused 5 3
+  of_mon_without_S : reading mon_without_S ≡ refused 2 2
+  of_last_line_unended : reading last_line_unended ≡ refused 2 2
+  of_leading_zero : reading leading_zero ≡ refused 2 1
+  of_six_digits : reading six_digits ≡ refused 2 1
+  of_empty_field : reading empty_field ≡ refused 2 1
+  of_seventeen_events : reading seventeen_events ≡ refused 3 1
+  of_five_digits : reading five_digits ≡ refused 3 1
+  of_fifth_monitor : reading fifth_monitor ≡ refused 3 6
+  of_go_again_out_of_range : reading go_again_out_of_range ≡ refused 3 4
+  of_go_again : reading go_again ≡ refused 4 4
+  of_nothing : reading nothing ≡ refused 5 1
+  of_rig_alone : reading rig_alone ≡ refused 5 2
+  of_rig_later : reading rig_later ≡ refused 5 2
+  of_go_before_mon : reading go_before_mon ≡ refused 5 2
+  of_too_many_joint_states : reading too_many_joint_states ≡ refused 6 4
 
 readings : Readings
-unfolding reading readingFrom lineCase tests testBeginning testContinuing ofLatest first_of leadsTo stepIn marks or_else decoded lines unended splitOn onto init last_of decode fields form one two three four oneOrTwo anyNumber field endOr end number numbers ahead digitsValue signed minus plus oneSigned twoSigned thenSigned same monitors monitorsFrom extended addPart latest statesOf product eventsOf order_of orderFrom reordered
+unfolding reading reading_from line_case tests test_beginning test_continuing of_latest first_of leads_to step_in marks or_else decoded lines unended split_on onto init last_of decode fields form one two three four one_or_two any_number field end_or end number numbers ahead digits_value signed minus plus one_signed two_signed then_signed same monitors monitors_from extended add_part latest states_of product events_of order_of order_from reordered
 readings = record {
-  of-A = refl;
-  of-B = refl;
-  of-A-from-1 = refl;
-  of-A-exchanged = refl;
-  of-A-ordered = refl;
-  of-closes = refl;
-  of-one-unmarked = refl;
-  of-both-marked = refl;
-  of-may-close = refl;
-  of-gap-alone = refl;
-  of-reply-alone = refl;
-  of-unanswerable = refl;
-  of-four-kinds = refl;
-  of-widest-kinds = refl;
-  of-meters = refl;
-  of-meters-table = refl;
-  of-no-difference = refl;
-  of-widest-band = refl;
-  of-bal-without-hi = refl;
-  of-field-after-band = refl;
-  of-amp-without-step = refl;
-  of-minus-zero = refl;
-  of-two-signs = refl;
-  of-plus-sign = refl;
-  of-sign-and-zero = refl;
-  of-lone-sign = refl;
-  of-negative-event = refl;
-  of-negative-n = refl;
-  of-six-signed-digits = refl;
-  of-five-signed-digits = refl;
-  of-lo-16 = refl;
-  of-lo-1 = refl;
-  of-hi-16 = refl;
-  of-hi-below-0 = refl;
-  of-step-16 = refl;
-  of-step-below = refl;
-  of-step-of-no-event = refl;
-  of-given-twice = refl;
-  of-given-zero-twice = refl;
-  of-amp-first = refl;
-  of-amp-after-mon = refl;
-  of-go-after-bal = refl;
-  of-stop-after-bal = refl;
-  of-bal-too-many = refl;
-  of-depot-hours = refl;
-  of-hours-table = refl;
-  of-always-open = refl;
-  of-longest-day = refl;
-  of-day-without-T = refl;
-  of-field-after-T = refl;
-  of-open-without-b = refl;
-  of-field-after-b = refl;
-  of-negative-step = refl;
-  of-day-1 = refl;
-  of-day-33 = refl;
-  of-fifth-day = refl;
-  of-b-over-T = refl;
-  of-hours-of-no-event = refl;
-  of-a-is-b = refl;
-  of-a-over-b = refl;
-  of-open-first = refl;
-  of-open-after-mon = refl;
-  of-open-after-bal = refl;
-  of-go-after-day = refl;
-  of-stop-after-day = refl;
-  of-amp-after-day = refl;
-  of-day-too-many = refl;
-  of-gap-without-n = refl;
-  of-field-after-n = refl;
-  of-reply-without-hi = refl;
-  of-field-after-hi = refl;
-  of-gap-first = refl;
-  of-gap-1 = refl;
-  of-gap-33 = refl;
-  of-gap-no-event = refl;
-  of-reply-to-no-event = refl;
-  of-reply-no-event = refl;
-  of-reply-lo-0 = refl;
-  of-reply-hi-32 = refl;
-  of-reply-lo-over-hi = refl;
-  of-reply-equal = refl;
-  of-equal-and-too-many = refl;
-  of-equal-and-fifth = refl;
-  of-gap-too-many = refl;
-  of-go-after-gap = refl;
-  of-stop-after-reply = refl;
-  of-stop-without-state = refl;
-  of-field-after-stop = refl;
-  of-stop-before-mon = refl;
-  of-stop-S = refl;
-  of-stop-again = refl;
-  of-most-events = refl;
-  of-most-joint-states = refl;
-  of-start-S = refl;
-  of-field-after-start = refl;
-  of-empty-start = refl;
-  of-ord-too-short = refl;
-  of-ord-not-below = refl;
-  of-ord-twice = refl;
-  of-ord-third = refl;
-  of-ord-first = refl;
-  of-ord-no-number = refl;
-  of-ord-alone = refl;
-  of-mon-without-S = refl;
-  of-last-line-unended = refl;
-  of-leading-zero = refl;
-  of-six-digits = refl;
-  of-empty-field = refl;
-  of-seventeen-events = refl;
-  of-five-digits = refl;
-  of-fifth-monitor = refl;
-  of-go-again-out-of-range = refl;
-  of-go-again = refl;
-  of-nothing = refl;
-  of-rig-alone = refl;
-  of-rig-later = refl;
-  of-go-before-mon = refl;
-  of-too-many-joint-states = refl;
+  of_A = refl;
+  of_B = refl;
+  of_A_from_1 = refl;
+  of_A_exchanged = refl;
+  of_A_ordered = refl;
+  of_closes = refl;
+  of_one_unmarked = refl;
+  of_both_marked = refl;
+  of_may_close = refl;
+  of_gap_alone = refl;
+  of_reply_alone = refl;
+  of_unanswerable = refl;
+  of_four_kinds = refl;
+  of_widest_kinds = refl;
+  of_meters = refl;
+  of_meters_table = refl;
+  of_no_difference = refl;
+  of_widest_band = refl;
+  of_bal_without_hi = refl;
+  of_field_after_band = refl;
+  of_amp_without_step = refl;
+  of_minus_zero = refl;
+  of_two_signs = refl;
+  of_plus_sign = refl;
+  of_sign_and_zero = refl;
+  of_lone_sign = refl;
+  of_negative_event = refl;
+  of_negative_n = refl;
+  of_six_signed_digits = refl;
+  of_five_signed_digits = refl;
+  of_lo_16 = refl;
+  of_lo_1 = refl;
+  of_hi_16 = refl;
+  of_hi_below_0 = refl;
+  of_step_16 = refl;
+  of_step_below = refl;
+  of_step_of_no_event = refl;
+  of_given_twice = refl;
+  of_given_zero_twice = refl;
+  of_amp_first = refl;
+  of_amp_after_mon = refl;
+  of_go_after_bal = refl;
+  of_stop_after_bal = refl;
+  of_bal_too_many = refl;
+  of_depot_hours = refl;
+  of_hours_table = refl;
+  of_always_open = refl;
+  of_longest_day = refl;
+  of_day_without_T = refl;
+  of_field_after_T = refl;
+  of_open_without_b = refl;
+  of_field_after_b = refl;
+  of_negative_step = refl;
+  of_day_1 = refl;
+  of_day_33 = refl;
+  of_fifth_day = refl;
+  of_b_over_T = refl;
+  of_hours_of_no_event = refl;
+  of_a_is_b = refl;
+  of_a_over_b = refl;
+  of_open_first = refl;
+  of_open_after_mon = refl;
+  of_open_after_bal = refl;
+  of_go_after_day = refl;
+  of_stop_after_day = refl;
+  of_amp_after_day = refl;
+  of_day_too_many = refl;
+  of_gap_without_n = refl;
+  of_field_after_n = refl;
+  of_reply_without_hi = refl;
+  of_field_after_hi = refl;
+  of_gap_first = refl;
+  of_gap_1 = refl;
+  of_gap_33 = refl;
+  of_gap_no_event = refl;
+  of_reply_to_no_event = refl;
+  of_reply_no_event = refl;
+  of_reply_lo_0 = refl;
+  of_reply_hi_32 = refl;
+  of_reply_lo_over_hi = refl;
+  of_reply_equal = refl;
+  of_equal_and_too_many = refl;
+  of_equal_and_fifth = refl;
+  of_gap_too_many = refl;
+  of_go_after_gap = refl;
+  of_stop_after_reply = refl;
+  of_stop_without_state = refl;
+  of_field_after_stop = refl;
+  of_stop_before_mon = refl;
+  of_stop_S = refl;
+  of_stop_again = refl;
+  of_most_events = refl;
+  of_most_joint_states = refl;
+  of_start_S = refl;
+  of_field_after_start = refl;
+  of_empty_start = refl;
+  of_ord_too_short = refl;
+  of_ord_not_below = refl;
+  of_ord_twice = refl;
+  of_ord_third = refl;
+  of_ord_first = refl;
+  of_ord_no_number = refl;
+  of_ord_alone = refl;
+  of_mon_without_S = refl;
+  of_last_line_unended = refl;
+  of_leading_zero = refl;
+  of_six_digits = refl;
+  of_empty_field = refl;
+  of_seventeen_events = refl;
+  of_five_digits = refl;
+  of_fifth_monitor = refl;
+  of_go_again_out_of_range = refl;
+  of_go_again = refl;
+  of_nothing = refl;
+  of_rig_alone = refl;
+  of_rig_later = refl;
+  of_go_before_mon = refl;
+  of_too_many_joint_states = refl;
 }
 
 readable : (t : List ℕ) → reading t ≡ served [] → Readable t
@@ -274,105 +274,105 @@ unfolding Served
 readable t q = (reading-serves t).0 ([], q)
 
 -- index 4 of A at horizon 3, and where 0 1 1 leaves the live states; from state 1, index 0 at horizon 1, and where 1 leaves them
-record Scenarios-A : Type 0 where
-  four_below : 4 < N (rigAutomaton A) 3 (start A)
-  four_is : unrank (rigAutomaton A) 3 (start A) 4 ≡ 1 ∷ 0 ∷ 1 ∷ []
-  leaves_at : firstViolation (rigAutomaton A) (start A) (0 ∷ 1 ∷ 1 ∷ []) ≡ 2
-  zero-below : 0 < N (rigAutomaton A-from-1) 1 (start A-from-1)
-  zero_is : unrank (rigAutomaton A-from-1) 1 (start A-from-1) 0 ≡ 0 ∷ []
-  leaves-at-once : firstViolation (rigAutomaton A-from-1) (start A-from-1) (1 ∷ []) ≡ 0
+record Scenarios_A : Type 0 where
+  four_below : 4 < N (rig_automaton A) 3 (start A)
+  four_is : unrank (rig_automaton A) 3 (start A) 4 ≡ 1 ∷ 0 ∷ 1 ∷ []
+  leaves_at : first_violation (rig_automaton A) (start A) (0 ∷ 1 ∷ 1 ∷ []) ≡ 2
+  zero_below : 0 < N (rig_automaton A_from_1) 1 (start A_from_1)
+  zero_is : unrank (rig_automaton A_from_1) 1 (start A_from_1) 0 ≡ 0 ∷ []
+  leaves_at_once : first_violation (rig_automaton A_from_1) (start A_from_1) (1 ∷ []) ≡ 0
 
-scenarios-A : Scenarios-A
-unfolding decoded lines unended splitOn onto init last_of decode fields form one two three four oneOrTwo anyNumber field endOr end number numbers ahead digitsValue signed minus plus oneSigned twoSigned thenSigned same monitors monitorsFrom extended addPart latest statesOf product eventsOf order_of orderFrom reordered start_of first_of leadsTo stepIn marks or_else gapNext replyNext balNext step_of opensBy dayNext next_of markedOf bounded monitorOf standing linesAutomaton linesStart rigAutomaton start range both join idle joint sizes jointState keep prunedSet size passesFrom passes live N choose unrank firstViolation
-scenarios-A = record { four_below = omega arith; four_is = refl; leaves_at = refl; zero-below = omega arith; zero_is = refl; leaves-at-once = refl }
+scenarios-A : Scenarios_A
+unfolding decoded lines unended split_on onto init last_of decode fields form one two three four one_or_two any_number field end_or end number numbers ahead digits_value signed minus plus one_signed two_signed then_signed same monitors monitors_from extended add_part latest states_of product events_of order_of order_from reordered start_of first_of leads_to step_in marks or_else gap_next reply_next bal_next step_of opens_by day_next next_of marked_of bounded monitor_of standing lines_automaton lines_start rig_automaton start range both join idle joint sizes joint_state keep pruned_set size passes_from passes live N choose unrank first_violation
+scenarios-A = record { four_below = omega arith; four_is = refl; leaves_at = refl; zero_below = omega arith; zero_is = refl; leaves_at_once = refl }
 
 -- where the depot closes, and where it may: index 0 at horizon 1, and where what follows it leaves the live states; two monitors, with both states marked and with one
 record Closing : Type 0 where
-  only_below : 0 < N (rigAutomaton closes) 1 (start closes)
-  only-is : unrank (rigAutomaton closes) 1 (start closes) 0 ≡ 0 ∷ []
-  none_then : N (rigAutomaton closes) 2 (start closes) ≡ 0
-  last-below : 0 < N (rigAutomaton may-close) 1 (start may-close)
-  last-is : unrank (rigAutomaton may-close) 1 (start may-close) 0 ≡ 0 ∷ []
-  leaves-then : firstViolation (rigAutomaton may-close) (start may-close) (0 ∷ 1 ∷ []) ≡ 1
-  both_below : 0 < N (rigAutomaton both-marked) 1 (start both-marked)
-  both_is : unrank (rigAutomaton both-marked) 1 (start both-marked) 0 ≡ 0 ∷ []
-  one-leaves : firstViolation (rigAutomaton one-unmarked) (start one-unmarked) (0 ∷ []) ≡ 0
+  only_below : 0 < N (rig_automaton closes) 1 (start closes)
+  only_is : unrank (rig_automaton closes) 1 (start closes) 0 ≡ 0 ∷ []
+  none_then : N (rig_automaton closes) 2 (start closes) ≡ 0
+  last_below : 0 < N (rig_automaton may_close) 1 (start may_close)
+  last_is : unrank (rig_automaton may_close) 1 (start may_close) 0 ≡ 0 ∷ []
+  leaves_then : first_violation (rig_automaton may_close) (start may_close) (0 ∷ 1 ∷ []) ≡ 1
+  both_below : 0 < N (rig_automaton both_marked) 1 (start both_marked)
+  both_is : unrank (rig_automaton both_marked) 1 (start both_marked) 0 ≡ 0 ∷ []
+  one_leaves : first_violation (rig_automaton one_unmarked) (start one_unmarked) (0 ∷ []) ≡ 0
 
 closing : Closing
-unfolding decoded lines unended splitOn onto init last_of decode fields form one two three four oneOrTwo anyNumber field endOr end number numbers ahead digitsValue signed minus plus oneSigned twoSigned thenSigned same monitors monitorsFrom extended addPart latest statesOf product eventsOf order_of orderFrom reordered start_of first_of leadsTo stepIn marks or_else gapNext replyNext balNext step_of opensBy dayNext next_of markedOf bounded monitorOf standing linesAutomaton linesStart rigAutomaton start range both join idle joint sizes jointState keep prunedSet size passesFrom passes live N choose unrank firstViolation
-closing = record { only_below = omega arith; only-is = refl; none_then = refl; last-below = omega arith; last-is = refl; leaves-then = refl; both_below = omega arith; both_is = refl; one-leaves = refl }
+unfolding decoded lines unended split_on onto init last_of decode fields form one two three four one_or_two any_number field end_or end number numbers ahead digits_value signed minus plus one_signed two_signed then_signed same monitors monitors_from extended add_part latest states_of product events_of order_of order_from reordered start_of first_of leads_to step_in marks or_else gap_next reply_next bal_next step_of opens_by day_next next_of marked_of bounded monitor_of standing lines_automaton lines_start rig_automaton start range both join idle joint sizes joint_state keep pruned_set size passes_from passes live N choose unrank first_violation
+closing = record { only_below = omega arith; only_is = refl; none_then = refl; last_below = omega arith; last_is = refl; leaves_then = refl; both_below = omega arith; both_is = refl; one_leaves = refl }
 
 -- a difference that stays in the band, and where it leaves it
 record Balancing : Type 0 where
-  inside-below : 2 < N (rigAutomaton meters) 2 (start meters)
-  inside_is : unrank (rigAutomaton meters) 2 (start meters) 2 ≡ 1 ∷ 0 ∷ []
-  below-leaves : firstViolation (rigAutomaton meters) (start meters) (1 ∷ 1 ∷ []) ≡ 1
-  above-leaves : firstViolation (rigAutomaton meters) (start meters) (0 ∷ 0 ∷ []) ≡ 1
+  inside_below : 2 < N (rig_automaton meters) 2 (start meters)
+  inside_is : unrank (rig_automaton meters) 2 (start meters) 2 ≡ 1 ∷ 0 ∷ []
+  below_leaves : first_violation (rig_automaton meters) (start meters) (1 ∷ 1 ∷ []) ≡ 1
+  above_leaves : first_violation (rig_automaton meters) (start meters) (0 ∷ 0 ∷ []) ≡ 1
 
 balancing : Balancing
-unfolding decoded lines unended splitOn onto init last_of decode fields form one two three four oneOrTwo anyNumber field endOr end number numbers ahead digitsValue signed minus plus oneSigned twoSigned thenSigned same monitors monitorsFrom extended addPart latest statesOf product eventsOf order_of orderFrom reordered start_of first_of leadsTo stepIn marks or_else gapNext replyNext balNext step_of opensBy dayNext next_of markedOf bounded monitorOf standing linesAutomaton linesStart rigAutomaton start range both join idle joint sizes jointState keep prunedSet size passesFrom passes live N choose unrank firstViolation
-balancing = record { inside-below = omega arith; inside_is = refl; below-leaves = refl; above-leaves = refl }
+unfolding decoded lines unended split_on onto init last_of decode fields form one two three four one_or_two any_number field end_or end number numbers ahead digits_value signed minus plus one_signed two_signed then_signed same monitors monitors_from extended add_part latest states_of product events_of order_of order_from reordered start_of first_of leads_to step_in marks or_else gap_next reply_next bal_next step_of opens_by day_next next_of marked_of bounded monitor_of standing lines_automaton lines_start rig_automaton start range both join idle joint sizes joint_state keep pruned_set size passes_from passes live N choose unrank first_violation
+balancing = record { inside_below = omega arith; inside_is = refl; below_leaves = refl; above_leaves = refl }
 
 -- an event inside its hours, and outside them on the first day and on the next
 record Opening : Type 0 where
-  inside-below : 1 < N (rigAutomaton depot-hours) 4 (start depot-hours)
-  inside_is : unrank (rigAutomaton depot-hours) 4 (start depot-hours) 0 ≡ 0 ∷ 1 ∷ 0 ∷ 0 ∷ []
-  closed-leaves : firstViolation (rigAutomaton depot-hours) (start depot-hours) (1 ∷ 0 ∷ []) ≡ 1
-  next-leaves : firstViolation (rigAutomaton depot-hours) (start depot-hours) (1 ∷ 1 ∷ 1 ∷ 1 ∷ 0 ∷ []) ≡ 4
+  inside_below : 1 < N (rig_automaton depot_hours) 4 (start depot_hours)
+  inside_is : unrank (rig_automaton depot_hours) 4 (start depot_hours) 0 ≡ 0 ∷ 1 ∷ 0 ∷ 0 ∷ []
+  closed_leaves : first_violation (rig_automaton depot_hours) (start depot_hours) (1 ∷ 0 ∷ []) ≡ 1
+  next_leaves : first_violation (rig_automaton depot_hours) (start depot_hours) (1 ∷ 1 ∷ 1 ∷ 1 ∷ 0 ∷ []) ≡ 4
 
 opening : Opening
-unfolding decoded lines unended splitOn onto init last_of decode fields form one two three four oneOrTwo anyNumber field endOr end number numbers ahead digitsValue signed minus plus oneSigned twoSigned thenSigned same monitors monitorsFrom extended addPart latest statesOf product eventsOf order_of orderFrom reordered start_of first_of leadsTo stepIn marks or_else gapNext replyNext balNext step_of opensBy dayNext next_of markedOf bounded monitorOf standing linesAutomaton linesStart rigAutomaton start range both join idle joint sizes jointState keep prunedSet size passesFrom passes live N choose unrank firstViolation
-opening = record { inside-below = omega arith; inside_is = refl; closed-leaves = refl; next-leaves = refl }
+unfolding decoded lines unended split_on onto init last_of decode fields form one two three four one_or_two any_number field end_or end number numbers ahead digits_value signed minus plus one_signed two_signed then_signed same monitors monitors_from extended add_part latest states_of product events_of order_of order_from reordered start_of first_of leads_to step_in marks or_else gap_next reply_next bal_next step_of opens_by day_next next_of marked_of bounded monitor_of standing lines_automaton lines_start rig_automaton start range both join idle joint sizes joint_state keep pruned_set size passes_from passes live N choose unrank first_violation
+opening = record { inside_below = omega arith; inside_is = refl; closed_leaves = refl; next_leaves = refl }
 
 -- the reply to an event, in time, still due, before it and too late; an event that is barred; one that no reply can follow
 record Replying : Type 0 where
-  replied-below : 0 < N (rigAutomaton reply-alone) 4 (start reply-alone)
-  replied-is : unrank (rigAutomaton reply-alone) 4 (start reply-alone) 0 ≡ 0 ∷ 1 ∷ 1 ∷ 0 ∷ []
-  due_below : 3 < N (rigAutomaton reply-alone) 3 (start reply-alone)
-  due-is : unrank (rigAutomaton reply-alone) 3 (start reply-alone) 3 ≡ 0 ∷ 2 ∷ 2 ∷ []
-  again-leaves : firstViolation (rigAutomaton reply-alone) (start reply-alone) (0 ∷ 1 ∷ 0 ∷ []) ≡ 2
-  late-leaves : firstViolation (rigAutomaton reply-alone) (start reply-alone) (0 ∷ 2 ∷ 2 ∷ 2 ∷ []) ≡ 3
-  once-below : 0 < N (rigAutomaton gap-alone) 1 (start gap-alone)
-  once_is : unrank (rigAutomaton gap-alone) 1 (start gap-alone) 0 ≡ 0 ∷ []
-  twice-none : N (rigAutomaton gap-alone) 2 (start gap-alone) ≡ 0
-  unanswered-leaves : firstViolation (rigAutomaton unanswerable) (start unanswerable) (1 ∷ 0 ∷ []) ≡ 1
+  replied_below : 0 < N (rig_automaton reply_alone) 4 (start reply_alone)
+  replied_is : unrank (rig_automaton reply_alone) 4 (start reply_alone) 0 ≡ 0 ∷ 1 ∷ 1 ∷ 0 ∷ []
+  due_below : 3 < N (rig_automaton reply_alone) 3 (start reply_alone)
+  due_is : unrank (rig_automaton reply_alone) 3 (start reply_alone) 3 ≡ 0 ∷ 2 ∷ 2 ∷ []
+  again_leaves : first_violation (rig_automaton reply_alone) (start reply_alone) (0 ∷ 1 ∷ 0 ∷ []) ≡ 2
+  late_leaves : first_violation (rig_automaton reply_alone) (start reply_alone) (0 ∷ 2 ∷ 2 ∷ 2 ∷ []) ≡ 3
+  once_below : 0 < N (rig_automaton gap_alone) 1 (start gap_alone)
+  once_is : unrank (rig_automaton gap_alone) 1 (start gap_alone) 0 ≡ 0 ∷ []
+  twice_none : N (rig_automaton gap_alone) 2 (start gap_alone) ≡ 0
+  unanswered_leaves : first_violation (rig_automaton unanswerable) (start unanswerable) (1 ∷ 0 ∷ []) ≡ 1
 
 replying : Replying
-unfolding decoded lines unended splitOn onto init last_of decode fields form one two three four oneOrTwo anyNumber field endOr end number numbers ahead digitsValue signed minus plus oneSigned twoSigned thenSigned same monitors monitorsFrom extended addPart latest statesOf product eventsOf order_of orderFrom reordered start_of first_of leadsTo stepIn marks or_else gapNext replyNext balNext step_of opensBy dayNext next_of markedOf bounded monitorOf standing linesAutomaton linesStart rigAutomaton start range both join idle joint sizes jointState keep prunedSet size passesFrom passes live N choose unrank firstViolation
+unfolding decoded lines unended split_on onto init last_of decode fields form one two three four one_or_two any_number field end_or end number numbers ahead digits_value signed minus plus one_signed two_signed then_signed same monitors monitors_from extended add_part latest states_of product events_of order_of order_from reordered start_of first_of leads_to step_in marks or_else gap_next reply_next bal_next step_of opens_by day_next next_of marked_of bounded monitor_of standing lines_automaton lines_start rig_automaton start range both join idle joint sizes joint_state keep pruned_set size passes_from passes live N choose unrank first_violation
 replying = record {
-  replied-below = omega arith;
-  replied-is = refl;
+  replied_below = omega arith;
+  replied_is = refl;
   due_below = omega arith;
-  due-is = refl;
-  again-leaves = refl;
-  late-leaves = refl;
-  once-below = omega arith;
+  due_is = refl;
+  again_leaves = refl;
+  late_leaves = refl;
+  once_below = omega arith;
   once_is = refl;
-  twice-none = refl;
-  unanswered-leaves = refl;
+  twice_none = refl;
+  unanswered_leaves = refl;
 }
 
 -- where the events stand in the order of A with `ord`, and without
 record Compared : Type 0 where
-  by-ord : index_of (order_of (decoded A-ordered)) 1 < index_of (order_of (decoded A-ordered)) 0
-  lower-first : index_of (order_of (decoded A)) 0 < index_of (order_of (decoded A)) 1
+  by_ord : index_of (order_of (decoded A_ordered)) 1 < index_of (order_of (decoded A_ordered)) 0
+  lower_first_lem : index_of (order_of (decoded A)) 0 < index_of (order_of (decoded A)) 1
 
 compared : Compared
-unfolding decoded lines splitOn onto init decode fields form one two three four oneOrTwo anyNumber field endOr end number numbers ahead digitsValue signed minus plus oneSigned twoSigned thenSigned same order_of orderFrom reordered range index_of
-compared = record { by-ord = omega arith; lower-first = omega arith }
+unfolding decoded lines split_on onto init decode fields form one two three four one_or_two any_number field end_or end number numbers ahead digits_value signed minus plus one_signed two_signed then_signed same order_of order_from reordered range index_of
+compared = record { by_ord = omega arith; lower_first_lem = omega arith }
 
 module _ (t : List ℕ) (r : Readable t) where
-  index-given : (h i : ℕ) (w : List ℕ) → i < N (rigAutomaton t) h (start t) → unrank (rigAutomaton t) h (start t) i ≡ w → Belongs t h w
-  index-given h i w l q = subst (Belongs t h) q ((text-belongs t r h (unrank (rigAutomaton t) h (start t) i)).1 (index-belongs (rigAutomaton t) h (start t) i l))
+  index_given : (h i : ℕ) (w : List ℕ) → i < N (rig_automaton t) h (start t) → unrank (rig_automaton t) h (start t) i ≡ w → Belongs t h w
+  index_given h i w l q = subst (Belongs t h) q ((text_belongs t r h (unrank (rig_automaton t) h (start t) i)).1 (index_belongs (rig_automaton t) h (start t) i l))
 
-  leaves : (w : List ℕ) → firstViolation (rigAutomaton t) (start t) w < length w → Belongs t (length w) w → ⊥
+  leaves : (w : List ℕ) → first_violation (rig_automaton t) (start t) w < length w → Belongs t (length w) w → ⊥
   leaves w lt b =
-      let s = (scenarios-sound (rigAutomaton t) (length w) (start t) w ((belongs-listed t (length w) r w).0 b)).1 in
-      let q : firstViolation (rigAutomaton t) (start t) w ≡ length w = (firstViolation-none (rigAutomaton t) (start t) w (stays-live (rigAutomaton t) (start t) w s) (stays-events (rigAutomaton t) (start t) w s)).1 s in
+      let s = (scenarios_sound (rig_automaton t) (length w) (start t) w ((belongs_listed t (length w) r w).0 b)).1 in
+      let q : first_violation (rig_automaton t) (start t) w ≡ length w = (first_violation_none (rig_automaton t) (start t) w (stays_live (rig_automaton t) (start t) w s) (stays_events (rig_automaton t) (start t) w s)).1 s in
       omega arith
 
-  none_of : (h : ℕ) → N (rigAutomaton t) h (start t) ≡ 0 → (w : List ℕ) → Belongs t h w → ⊥
-  none_of h q w b = let (p, l, e) = in_place [] ((belongs-listed t h r w).0 b) in omega (arith, scenarios-length (rigAutomaton t) h (start t))
+  none_of : (h : ℕ) → N (rig_automaton t) h (start t) ≡ 0 → (w : List ℕ) → Belongs t h w → ⊥
+  none_of h q w b = let (p, l, e) = in_place [] ((belongs_listed t h r w).0 b) in omega (arith, scenarios_length (rig_automaton t) h (start t))
 
 -- the limit is met by 65,535 bytes: the other cases have a line as their place
 long-enough : (t : List ℕ) → length t ≡ 65535 → Fault t 1 0 → ⊥
@@ -385,149 +385,149 @@ long-enough t q (inr (inr (inr (c, s, u, m, n, p)))) = omega arith
 pub words : Words
 unfolding Fault Case1
 words = record {
-  readable-A = readable A readings.of-A;
-  readable-B = readable B readings.of-B;
-  readable-A-from-1 = readable A-from-1 readings.of-A-from-1;
-  readable-A-exchanged = readable A-exchanged readings.of-A-exchanged;
-  readable-A-ordered = readable A-ordered readings.of-A-ordered;
-  readable-closes = readable closes readings.of-closes;
-  readable-one-unmarked = readable one-unmarked readings.of-one-unmarked;
-  readable-both-marked = readable both-marked readings.of-both-marked;
-  readable-may-close = readable may-close readings.of-may-close;
-  readable-gap-alone = readable gap-alone readings.of-gap-alone;
-  readable-reply-alone = readable reply-alone readings.of-reply-alone;
-  readable-unanswerable = readable unanswerable readings.of-unanswerable;
-  readable-four-kinds = readable four-kinds readings.of-four-kinds;
-  readable-widest-kinds = readable widest-kinds readings.of-widest-kinds;
-  readable-meters = readable meters readings.of-meters;
-  readable-meters-table = readable meters-table readings.of-meters-table;
-  readable-no-difference = readable no_difference readings.of-no-difference;
-  readable-widest-band = readable widest-band readings.of-widest-band;
-  readable-depot-hours = readable depot-hours readings.of-depot-hours;
-  readable-hours-table = readable hours-table readings.of-hours-table;
-  readable-always-open = readable always-open readings.of-always-open;
-  readable-longest-day = readable longest-day readings.of-longest-day;
-  readable-most-events = readable most-events readings.of-most-events;
-  readable-most-joint-states = readable most-joint-states readings.of-most-joint-states;
-  belongs = index-given A (readable A readings.of-A) 3 4 _ scenarios-A.four_below scenarios-A.four_is;
-  not-belongs = leaves A (readable A readings.of-A) (0 ∷ 1 ∷ 1 ∷ []) (omega (arith, scenarios-A.leaves_at));
-  belongs-from-1 = index-given A-from-1 (readable A-from-1 readings.of-A-from-1) 1 0 _ scenarios-A.zero-below scenarios-A.zero_is;
-  not-belongs-from-1 = leaves A-from-1 (readable A-from-1 readings.of-A-from-1) (1 ∷ []) (omega (arith, scenarios-A.leaves-at-once));
-  comes-by-ord = unfold Comes Earlier in inl compared.by-ord;
-  comes-lower-first = unfold Comes Earlier in inl compared.lower-first;
-  belongs-closes = index-given closes (readable closes readings.of-closes) 1 0 _ closing.only_below closing.only-is;
-  none-closed = none_of closes (readable closes readings.of-closes) 2 closing.none_then;
-  belongs-closing = index-given may-close (readable may-close readings.of-may-close) 1 0 _ closing.last-below closing.last-is;
-  not-belongs-closed = leaves may-close (readable may-close readings.of-may-close) (0 ∷ 1 ∷ []) (omega (arith, closing.leaves-then));
-  belongs-both = index-given both-marked (readable both-marked readings.of-both-marked) 1 0 _ closing.both_below closing.both_is;
-  not-belongs-one = leaves one-unmarked (readable one-unmarked readings.of-one-unmarked) (0 ∷ []) (omega (arith, closing.one-leaves));
-  belongs-replied = index-given reply-alone (readable reply-alone readings.of-reply-alone) 4 0 _ replying.replied-below replying.replied-is;
-  not-belongs-again = leaves reply-alone (readable reply-alone readings.of-reply-alone) (0 ∷ 1 ∷ 0 ∷ []) (omega (arith, replying.again-leaves));
-  not-belongs-late = leaves reply-alone (readable reply-alone readings.of-reply-alone) (0 ∷ 2 ∷ 2 ∷ 2 ∷ []) (omega (arith, replying.late-leaves));
-  belongs-due = index-given reply-alone (readable reply-alone readings.of-reply-alone) 3 3 _ replying.due_below replying.due-is;
-  belongs-once = index-given gap-alone (readable gap-alone readings.of-gap-alone) 1 0 _ replying.once-below replying.once_is;
-  none-twice = none_of gap-alone (readable gap-alone readings.of-gap-alone) 2 replying.twice-none;
-  not-belongs-unanswered = leaves unanswerable (readable unanswerable readings.of-unanswerable) (1 ∷ 0 ∷ []) (omega (arith, replying.unanswered-leaves));
-  belongs-in-band = index-given meters (readable meters readings.of-meters) 2 2 _ balancing.inside-below balancing.inside_is;
-  not-belongs-below = leaves meters (readable meters readings.of-meters) (1 ∷ 1 ∷ []) (omega (arith, balancing.below-leaves));
-  belongs-in-hours = index-given depot-hours (readable depot-hours readings.of-depot-hours) 4 0 _ (omega (arith, opening.inside-below)) opening.inside_is;
-  not-belongs-out-of-hours = leaves depot-hours (readable depot-hours readings.of-depot-hours) (1 ∷ 0 ∷ []) (omega (arith, opening.closed-leaves));
-  not-belongs-next-day = leaves depot-hours (readable depot-hours readings.of-depot-hours) (1 ∷ 1 ∷ 1 ∷ 1 ∷ 0 ∷ []) (omega (arith, opening.next-leaves));
-  not-belongs-above = leaves meters (readable meters readings.of-meters) (0 ∷ 0 ∷ []) (omega (arith, balancing.above-leaves));
-  fault-too-long = inl (omega (arith, length-replicate {A = ℕ} 65536 10), refl, refl);
-  never-too-long = long-enough;
-  fault-mon-without-S = (reading-refuses mon-without-S 2 2).0 readings.of-mon-without-S;
-  fault-last-line-unended = (reading-refuses last-line-unended 2 2).0 readings.of-last-line-unended;
-  fault-leading-zero = (reading-refuses leading-zero 2 1).0 readings.of-leading-zero;
-  fault-six-digits = (reading-refuses six-digits 2 1).0 readings.of-six-digits;
-  fault-empty-field = (reading-refuses empty-field 2 1).0 readings.of-empty-field;
-  fault-seventeen-events = (reading-refuses seventeen-events 3 1).0 readings.of-seventeen-events;
-  fault-five-digits = (reading-refuses five-digits 3 1).0 readings.of-five-digits;
-  fault-fifth-monitor = (reading-refuses fifth-monitor 3 6).0 readings.of-fifth-monitor;
-  fault-start-S = (reading-refuses start-S 3 2).0 readings.of-start-S;
-  fault-field-after-start = (reading-refuses field-after-start 2 2).0 readings.of-field-after-start;
-  fault-empty-start = (reading-refuses empty-start 2 2).0 readings.of-empty-start;
-  fault-ord-too-short = (reading-refuses ord-too-short 2 2).0 readings.of-ord-too-short;
-  fault-ord-not-below = (reading-refuses ord-not-below 3 2).0 readings.of-ord-not-below;
-  fault-ord-twice = (reading-refuses ord-twice 16 2).0 readings.of-ord-twice;
-  fault-ord-third = (reading-refuses ord-third 5 3).0 readings.of-ord-third;
-  fault-ord-first = (reading-refuses ord-first 5 1).0 readings.of-ord-first;
-  fault-ord-no-number = (reading-refuses ord-no-number 2 1).0 readings.of-ord-no-number;
-  fault-ord-alone = (reading-refuses ord-alone 5 3).0 readings.of-ord-alone;
-  fault-go-again-out-of-range = (reading-refuses go-again-out-of-range 3 4).0 readings.of-go-again-out-of-range;
-  fault-go-again = (reading-refuses go-again 4 4).0 readings.of-go-again;
-  fault-stop-without-state = (reading-refuses stop-without-state 2 3).0 readings.of-stop-without-state;
-  fault-field-after-stop = (reading-refuses field-after-stop 2 3).0 readings.of-field-after-stop;
-  fault-stop-before-mon = (reading-refuses stop-before-mon 5 2).0 readings.of-stop-before-mon;
-  fault-stop-S = (reading-refuses stop-S 3 3).0 readings.of-stop-S;
-  fault-stop-again = (reading-refuses stop-again 4 5).0 readings.of-stop-again;
-  fault-gap-without-n = (reading-refuses gap-without-n 2 2).0 readings.of-gap-without-n;
-  fault-field-after-n = (reading-refuses field-after-n 2 2).0 readings.of-field-after-n;
-  fault-reply-without-hi = (reading-refuses reply-without-hi 2 2).0 readings.of-reply-without-hi;
-  fault-field-after-hi = (reading-refuses field-after-hi 2 2).0 readings.of-field-after-hi;
-  fault-gap-first = (reading-refuses gap-first 5 1).0 readings.of-gap-first;
-  fault-gap-1 = (reading-refuses gap-1 3 2).0 readings.of-gap-1;
-  fault-gap-33 = (reading-refuses gap-33 3 2).0 readings.of-gap-33;
-  fault-gap-no-event = (reading-refuses gap-no-event 3 2).0 readings.of-gap-no-event;
-  fault-reply-to-no-event = (reading-refuses reply-to-no-event 3 2).0 readings.of-reply-to-no-event;
-  fault-reply-no-event = (reading-refuses reply-no-event 3 2).0 readings.of-reply-no-event;
-  fault-reply-lo-0 = (reading-refuses reply-lo-0 3 2).0 readings.of-reply-lo-0;
-  fault-reply-hi-32 = (reading-refuses reply-hi-32 3 2).0 readings.of-reply-hi-32;
-  fault-reply-lo-over-hi = (reading-refuses reply-lo-over-hi 3 2).0 readings.of-reply-lo-over-hi;
-  fault-reply-equal = (reading-refuses reply-equal 17 2).0 readings.of-reply-equal;
-  fault-equal-and-too-many = (reading-refuses equal-and-too-many 17 4).0 readings.of-equal-and-too-many;
-  fault-equal-and-fifth = (reading-refuses equal-and-fifth 3 6).0 readings.of-equal-and-fifth;
-  fault-gap-too-many = (reading-refuses gap-too-many 6 4).0 readings.of-gap-too-many;
-  fault-go-after-gap = (reading-refuses go-after-gap 5 4).0 readings.of-go-after-gap;
-  fault-stop-after-reply = (reading-refuses stop-after-reply 5 3).0 readings.of-stop-after-reply;
-  fault-bal-without-hi = (reading-refuses bal-without-hi 2 2).0 readings.of-bal-without-hi;
-  fault-field-after-band = (reading-refuses field-after-band 2 2).0 readings.of-field-after-band;
-  fault-amp-without-step = (reading-refuses amp-without-step 2 3).0 readings.of-amp-without-step;
-  fault-minus-zero = (reading-refuses minus-zero 2 2).0 readings.of-minus-zero;
-  fault-two-signs = (reading-refuses two-signs 2 2).0 readings.of-two-signs;
-  fault-plus-sign = (reading-refuses plus-sign 2 2).0 readings.of-plus-sign;
-  fault-sign-and-zero = (reading-refuses sign-and-zero 2 2).0 readings.of-sign-and-zero;
-  fault-lone-sign = (reading-refuses lone-sign 2 2).0 readings.of-lone-sign;
-  fault-negative-event = (reading-refuses negative-event 2 3).0 readings.of-negative-event;
-  fault-negative-n = (reading-refuses negative-n 2 2).0 readings.of-negative-n;
-  fault-six-signed-digits = (reading-refuses six-signed-digits 2 2).0 readings.of-six-signed-digits;
-  fault-five-signed-digits = (reading-refuses five-signed-digits 3 2).0 readings.of-five-signed-digits;
-  fault-lo-16 = (reading-refuses lo-16 3 2).0 readings.of-lo-16;
-  fault-lo-1 = (reading-refuses lo-1 3 2).0 readings.of-lo-1;
-  fault-hi-16 = (reading-refuses hi-16 3 2).0 readings.of-hi-16;
-  fault-hi-below-0 = (reading-refuses hi-below-0 3 2).0 readings.of-hi-below-0;
-  fault-step-16 = (reading-refuses step-16 3 3).0 readings.of-step-16;
-  fault-step-below = (reading-refuses step-below 3 3).0 readings.of-step-below;
-  fault-step-of-no-event = (reading-refuses step-of-no-event 3 3).0 readings.of-step-of-no-event;
-  fault-given-twice = (reading-refuses given-twice 4 4).0 readings.of-given-twice;
-  fault-given-zero-twice = (reading-refuses given-zero-twice 4 4).0 readings.of-given-zero-twice;
-  fault-amp-first = (reading-refuses amp-first 5 2).0 readings.of-amp-first;
-  fault-amp-after-mon = (reading-refuses amp-after-mon 5 4).0 readings.of-amp-after-mon;
-  fault-go-after-bal = (reading-refuses go-after-bal 5 3).0 readings.of-go-after-bal;
-  fault-stop-after-bal = (reading-refuses stop-after-bal 5 3).0 readings.of-stop-after-bal;
-  fault-bal-too-many = (reading-refuses bal-too-many 6 4).0 readings.of-bal-too-many;
-  fault-day-without-T = (reading-refuses day-without-T 2 2).0 readings.of-day-without-T;
-  fault-field-after-T = (reading-refuses field-after-T 2 2).0 readings.of-field-after-T;
-  fault-open-without-b = (reading-refuses open-without-b 2 3).0 readings.of-open-without-b;
-  fault-field-after-b = (reading-refuses field-after-b 2 3).0 readings.of-field-after-b;
-  fault-negative-step = (reading-refuses negative-step 2 3).0 readings.of-negative-step;
-  fault-day-1 = (reading-refuses day-1 3 2).0 readings.of-day-1;
-  fault-day-33 = (reading-refuses day-33 3 2).0 readings.of-day-33;
-  fault-fifth-day = (reading-refuses fifth-day 3 6).0 readings.of-fifth-day;
-  fault-b-over-T = (reading-refuses b-over-T 3 3).0 readings.of-b-over-T;
-  fault-hours-of-no-event = (reading-refuses hours-of-no-event 3 3).0 readings.of-hours-of-no-event;
-  fault-a-is-b = (reading-refuses a-is-b 18 3).0 readings.of-a-is-b;
-  fault-a-over-b = (reading-refuses a-over-b 18 3).0 readings.of-a-over-b;
-  fault-open-first = (reading-refuses open-first 5 2).0 readings.of-open-first;
-  fault-open-after-mon = (reading-refuses open-after-mon 5 4).0 readings.of-open-after-mon;
-  fault-open-after-bal = (reading-refuses open-after-bal 5 3).0 readings.of-open-after-bal;
-  fault-go-after-day = (reading-refuses go-after-day 5 3).0 readings.of-go-after-day;
-  fault-stop-after-day = (reading-refuses stop-after-day 5 3).0 readings.of-stop-after-day;
-  fault-amp-after-day = (reading-refuses amp-after-day 5 3).0 readings.of-amp-after-day;
-  fault-day-too-many = (reading-refuses day-too-many 6 4).0 readings.of-day-too-many;
-  fault-nothing = (reading-refuses nothing 5 1).0 readings.of-nothing;
-  fault-rig-alone = (reading-refuses rig-alone 5 2).0 readings.of-rig-alone;
-  fault-rig-later = (reading-refuses rig-later 5 2).0 readings.of-rig-later;
-  fault-go-before-mon = (reading-refuses go-before-mon 5 2).0 readings.of-go-before-mon;
-  fault-too-many-joint-states = (reading-refuses too-many-joint-states 6 4).0 readings.of-too-many-joint-states;
+  readable_A = readable A readings.of_A;
+  readable_B = readable B readings.of_B;
+  readable_A_from_1 = readable A_from_1 readings.of_A_from_1;
+  readable_A_exchanged = readable A_exchanged readings.of_A_exchanged;
+  readable_A_ordered = readable A_ordered readings.of_A_ordered;
+  readable_closes = readable closes readings.of_closes;
+  readable_one_unmarked = readable one_unmarked readings.of_one_unmarked;
+  readable_both_marked = readable both_marked readings.of_both_marked;
+  readable_may_close = readable may_close readings.of_may_close;
+  readable_gap_alone = readable gap_alone readings.of_gap_alone;
+  readable_reply_alone = readable reply_alone readings.of_reply_alone;
+  readable_unanswerable = readable unanswerable readings.of_unanswerable;
+  readable_four_kinds = readable four_kinds readings.of_four_kinds;
+  readable_widest_kinds = readable widest_kinds readings.of_widest_kinds;
+  readable_meters = readable meters readings.of_meters;
+  readable_meters_table = readable meters_table readings.of_meters_table;
+  readable_no_difference = readable no_difference readings.of_no_difference;
+  readable_widest_band = readable widest_band readings.of_widest_band;
+  readable_depot_hours = readable depot_hours readings.of_depot_hours;
+  readable_hours_table = readable hours_table readings.of_hours_table;
+  readable_always_open = readable always_open readings.of_always_open;
+  readable_longest_day = readable longest_day readings.of_longest_day;
+  readable_most_events = readable most_events readings.of_most_events;
+  readable_most_joint_states = readable most_joint_states readings.of_most_joint_states;
+  belongs = index_given A (readable A readings.of_A) 3 4 _ scenarios-A.four_below scenarios-A.four_is;
+  not_belongs = leaves A (readable A readings.of_A) (0 ∷ 1 ∷ 1 ∷ []) (omega (arith, scenarios-A.leaves_at));
+  belongs_from_1 = index_given A_from_1 (readable A_from_1 readings.of_A_from_1) 1 0 _ scenarios-A.zero_below scenarios-A.zero_is;
+  not_belongs_from_1 = leaves A_from_1 (readable A_from_1 readings.of_A_from_1) (1 ∷ []) (omega (arith, scenarios-A.leaves_at_once));
+  comes_by_ord = unfold Comes Earlier in inl compared.by_ord;
+  comes_lower_first = unfold Comes Earlier in inl compared.lower_first_lem;
+  belongs_closes = index_given closes (readable closes readings.of_closes) 1 0 _ closing.only_below closing.only_is;
+  none_closed = none_of closes (readable closes readings.of_closes) 2 closing.none_then;
+  belongs_closing = index_given may_close (readable may_close readings.of_may_close) 1 0 _ closing.last_below closing.last_is;
+  not_belongs_closed = leaves may_close (readable may_close readings.of_may_close) (0 ∷ 1 ∷ []) (omega (arith, closing.leaves_then));
+  belongs_both = index_given both_marked (readable both_marked readings.of_both_marked) 1 0 _ closing.both_below closing.both_is;
+  not_belongs_one = leaves one_unmarked (readable one_unmarked readings.of_one_unmarked) (0 ∷ []) (omega (arith, closing.one_leaves));
+  belongs_replied = index_given reply_alone (readable reply_alone readings.of_reply_alone) 4 0 _ replying.replied_below replying.replied_is;
+  not_belongs_again = leaves reply_alone (readable reply_alone readings.of_reply_alone) (0 ∷ 1 ∷ 0 ∷ []) (omega (arith, replying.again_leaves));
+  not_belongs_late = leaves reply_alone (readable reply_alone readings.of_reply_alone) (0 ∷ 2 ∷ 2 ∷ 2 ∷ []) (omega (arith, replying.late_leaves));
+  belongs_due = index_given reply_alone (readable reply_alone readings.of_reply_alone) 3 3 _ replying.due_below replying.due_is;
+  belongs_once = index_given gap_alone (readable gap_alone readings.of_gap_alone) 1 0 _ replying.once_below replying.once_is;
+  none_twice = none_of gap_alone (readable gap_alone readings.of_gap_alone) 2 replying.twice_none;
+  not_belongs_unanswered = leaves unanswerable (readable unanswerable readings.of_unanswerable) (1 ∷ 0 ∷ []) (omega (arith, replying.unanswered_leaves));
+  belongs_in_band = index_given meters (readable meters readings.of_meters) 2 2 _ balancing.inside_below balancing.inside_is;
+  not_belongs_below = leaves meters (readable meters readings.of_meters) (1 ∷ 1 ∷ []) (omega (arith, balancing.below_leaves));
+  belongs_in_hours = index_given depot_hours (readable depot_hours readings.of_depot_hours) 4 0 _ (omega (arith, opening.inside_below)) opening.inside_is;
+  not_belongs_out_of_hours = leaves depot_hours (readable depot_hours readings.of_depot_hours) (1 ∷ 0 ∷ []) (omega (arith, opening.closed_leaves));
+  not_belongs_next_day = leaves depot_hours (readable depot_hours readings.of_depot_hours) (1 ∷ 1 ∷ 1 ∷ 1 ∷ 0 ∷ []) (omega (arith, opening.next_leaves));
+  not_belongs_above = leaves meters (readable meters readings.of_meters) (0 ∷ 0 ∷ []) (omega (arith, balancing.above_leaves));
+  fault_too_long = inl (omega (arith, length-replicate {A = ℕ} 65536 10), refl, refl);
+  never_too_long = long-enough;
+  fault_mon_without_S = (reading_refuses mon_without_S 2 2).0 readings.of_mon_without_S;
+  fault_last_line_unended = (reading_refuses last_line_unended 2 2).0 readings.of_last_line_unended;
+  fault_leading_zero = (reading_refuses leading_zero 2 1).0 readings.of_leading_zero;
+  fault_six_digits = (reading_refuses six_digits 2 1).0 readings.of_six_digits;
+  fault_empty_field = (reading_refuses empty_field 2 1).0 readings.of_empty_field;
+  fault_seventeen_events = (reading_refuses seventeen_events 3 1).0 readings.of_seventeen_events;
+  fault_five_digits = (reading_refuses five_digits 3 1).0 readings.of_five_digits;
+  fault_fifth_monitor = (reading_refuses fifth_monitor 3 6).0 readings.of_fifth_monitor;
+  fault_start_S = (reading_refuses start_S 3 2).0 readings.of_start_S;
+  fault_field_after_start = (reading_refuses field_after_start 2 2).0 readings.of_field_after_start;
+  fault_empty_start = (reading_refuses empty_start 2 2).0 readings.of_empty_start;
+  fault_ord_too_short = (reading_refuses ord_too_short 2 2).0 readings.of_ord_too_short;
+  fault_ord_not_below = (reading_refuses ord_not_below 3 2).0 readings.of_ord_not_below;
+  fault_ord_twice = (reading_refuses ord_twice 16 2).0 readings.of_ord_twice;
+  fault_ord_third = (reading_refuses ord_third 5 3).0 readings.of_ord_third;
+  fault_ord_first = (reading_refuses ord_first 5 1).0 readings.of_ord_first;
+  fault_ord_no_number = (reading_refuses ord_no_number 2 1).0 readings.of_ord_no_number;
+  fault_ord_alone = (reading_refuses ord_alone 5 3).0 readings.of_ord_alone;
+  fault_go_again_out_of_range = (reading_refuses go_again_out_of_range 3 4).0 readings.of_go_again_out_of_range;
+  fault_go_again = (reading_refuses go_again 4 4).0 readings.of_go_again;
+  fault_stop_without_state = (reading_refuses stop_without_state 2 3).0 readings.of_stop_without_state;
+  fault_field_after_stop = (reading_refuses field_after_stop 2 3).0 readings.of_field_after_stop;
+  fault_stop_before_mon = (reading_refuses stop_before_mon 5 2).0 readings.of_stop_before_mon;
+  fault_stop_S = (reading_refuses stop_S 3 3).0 readings.of_stop_S;
+  fault_stop_again = (reading_refuses stop_again 4 5).0 readings.of_stop_again;
+  fault_gap_without_n = (reading_refuses gap_without_n 2 2).0 readings.of_gap_without_n;
+  fault_field_after_n = (reading_refuses field_after_n 2 2).0 readings.of_field_after_n;
+  fault_reply_without_hi = (reading_refuses reply_without_hi 2 2).0 readings.of_reply_without_hi;
+  fault_field_after_hi = (reading_refuses field_after_hi 2 2).0 readings.of_field_after_hi;
+  fault_gap_first = (reading_refuses gap_first 5 1).0 readings.of_gap_first;
+  fault_gap_1 = (reading_refuses gap_1 3 2).0 readings.of_gap_1;
+  fault_gap_33 = (reading_refuses gap_33 3 2).0 readings.of_gap_33;
+  fault_gap_no_event = (reading_refuses gap_no_event 3 2).0 readings.of_gap_no_event;
+  fault_reply_to_no_event = (reading_refuses reply_to_no_event 3 2).0 readings.of_reply_to_no_event;
+  fault_reply_no_event = (reading_refuses reply_no_event 3 2).0 readings.of_reply_no_event;
+  fault_reply_lo_0 = (reading_refuses reply_lo_0 3 2).0 readings.of_reply_lo_0;
+  fault_reply_hi_32 = (reading_refuses reply_hi_32 3 2).0 readings.of_reply_hi_32;
+  fault_reply_lo_over_hi = (reading_refuses reply_lo_over_hi 3 2).0 readings.of_reply_lo_over_hi;
+  fault_reply_equal = (reading_refuses reply_equal 17 2).0 readings.of_reply_equal;
+  fault_equal_and_too_many = (reading_refuses equal_and_too_many 17 4).0 readings.of_equal_and_too_many;
+  fault_equal_and_fifth = (reading_refuses equal_and_fifth 3 6).0 readings.of_equal_and_fifth;
+  fault_gap_too_many = (reading_refuses gap_too_many 6 4).0 readings.of_gap_too_many;
+  fault_go_after_gap = (reading_refuses go_after_gap 5 4).0 readings.of_go_after_gap;
+  fault_stop_after_reply = (reading_refuses stop_after_reply 5 3).0 readings.of_stop_after_reply;
+  fault_bal_without_hi = (reading_refuses bal_without_hi 2 2).0 readings.of_bal_without_hi;
+  fault_field_after_band = (reading_refuses field_after_band 2 2).0 readings.of_field_after_band;
+  fault_amp_without_step = (reading_refuses amp_without_step 2 3).0 readings.of_amp_without_step;
+  fault_minus_zero = (reading_refuses minus_zero 2 2).0 readings.of_minus_zero;
+  fault_two_signs = (reading_refuses two_signs 2 2).0 readings.of_two_signs;
+  fault_plus_sign = (reading_refuses plus_sign 2 2).0 readings.of_plus_sign;
+  fault_sign_and_zero = (reading_refuses sign_and_zero 2 2).0 readings.of_sign_and_zero;
+  fault_lone_sign = (reading_refuses lone_sign 2 2).0 readings.of_lone_sign;
+  fault_negative_event = (reading_refuses negative_event 2 3).0 readings.of_negative_event;
+  fault_negative_n = (reading_refuses negative_n 2 2).0 readings.of_negative_n;
+  fault_six_signed_digits = (reading_refuses six_signed_digits 2 2).0 readings.of_six_signed_digits;
+  fault_five_signed_digits = (reading_refuses five_signed_digits 3 2).0 readings.of_five_signed_digits;
+  fault_lo_16 = (reading_refuses lo_16 3 2).0 readings.of_lo_16;
+  fault_lo_1 = (reading_refuses lo_1 3 2).0 readings.of_lo_1;
+  fault_hi_16 = (reading_refuses hi_16 3 2).0 readings.of_hi_16;
+  fault_hi_below_0 = (reading_refuses hi_below_0 3 2).0 readings.of_hi_below_0;
+  fault_step_16 = (reading_refuses step_16 3 3).0 readings.of_step_16;
+  fault_step_below = (reading_refuses step_below 3 3).0 readings.of_step_below;
+  fault_step_of_no_event = (reading_refuses step_of_no_event 3 3).0 readings.of_step_of_no_event;
+  fault_given_twice = (reading_refuses given_twice 4 4).0 readings.of_given_twice;
+  fault_given_zero_twice = (reading_refuses given_zero_twice 4 4).0 readings.of_given_zero_twice;
+  fault_amp_first = (reading_refuses amp_first 5 2).0 readings.of_amp_first;
+  fault_amp_after_mon = (reading_refuses amp_after_mon 5 4).0 readings.of_amp_after_mon;
+  fault_go_after_bal = (reading_refuses go_after_bal 5 3).0 readings.of_go_after_bal;
+  fault_stop_after_bal = (reading_refuses stop_after_bal 5 3).0 readings.of_stop_after_bal;
+  fault_bal_too_many = (reading_refuses bal_too_many 6 4).0 readings.of_bal_too_many;
+  fault_day_without_T = (reading_refuses day_without_T 2 2).0 readings.of_day_without_T;
+  fault_field_after_T = (reading_refuses field_after_T 2 2).0 readings.of_field_after_T;
+  fault_open_without_b = (reading_refuses open_without_b 2 3).0 readings.of_open_without_b;
+  fault_field_after_b = (reading_refuses field_after_b 2 3).0 readings.of_field_after_b;
+  fault_negative_step = (reading_refuses negative_step 2 3).0 readings.of_negative_step;
+  fault_day_1 = (reading_refuses day_1 3 2).0 readings.of_day_1;
+  fault_day_33 = (reading_refuses day_33 3 2).0 readings.of_day_33;
+  fault_fifth_day = (reading_refuses fifth_day 3 6).0 readings.of_fifth_day;
+  fault_b_over_T = (reading_refuses b_over_T 3 3).0 readings.of_b_over_T;
+  fault_hours_of_no_event = (reading_refuses hours_of_no_event 3 3).0 readings.of_hours_of_no_event;
+  fault_a_is_b = (reading_refuses a_is_b 18 3).0 readings.of_a_is_b;
+  fault_a_over_b = (reading_refuses a_over_b 18 3).0 readings.of_a_over_b;
+  fault_open_first = (reading_refuses open_first 5 2).0 readings.of_open_first;
+  fault_open_after_mon = (reading_refuses open_after_mon 5 4).0 readings.of_open_after_mon;
+  fault_open_after_bal = (reading_refuses open_after_bal 5 3).0 readings.of_open_after_bal;
+  fault_go_after_day = (reading_refuses go_after_day 5 3).0 readings.of_go_after_day;
+  fault_stop_after_day = (reading_refuses stop_after_day 5 3).0 readings.of_stop_after_day;
+  fault_amp_after_day = (reading_refuses amp_after_day 5 3).0 readings.of_amp_after_day;
+  fault_day_too_many = (reading_refuses day_too_many 6 4).0 readings.of_day_too_many;
+  fault_nothing = (reading_refuses nothing 5 1).0 readings.of_nothing;
+  fault_rig_alone = (reading_refuses rig_alone 5 2).0 readings.of_rig_alone;
+  fault_rig_later = (reading_refuses rig_later 5 2).0 readings.of_rig_later;
+  fault_go_before_mon = (reading_refuses go_before_mon 5 2).0 readings.of_go_before_mon;
+  fault_too_many_joint_states = (reading_refuses too_many_joint_states 6 4).0 readings.of_too_many_joint_states;
 }

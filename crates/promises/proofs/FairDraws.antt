@@ -11,8 +11,8 @@ use lib.Bits.{xor_lt}
 use borrow.Author.Tests.{eqb-true, eqb-false, lt-ltb, le-ltb}
 use Rattle.lists.specs.Lists.{pick, count}
 use Rattle.lists.proofs.Tests.{case, split}
-use Rattle.promises.specs.SplitMix.{nextState, mixFirst, mixSecond, mixThird, mix, raw}
-use Rattle.promises.specs.Draws.{thrownAway, giving, FairDraws}
+use Rattle.promises.specs.SplitMix.{next_state, mix_first, mix_second, mix_third, mix, raw}
+use Rattle.promises.specs.Draws.{thrown_away, giving, FairDraws}
 
 module _ (w v : ℕ) (below : v < w) where
   -- the numbers below m that leave v
@@ -52,31 +52,31 @@ module _ (w v : ℕ) (below : v < w) where
   none_kept c zero h = refl
   none_kept c (suc m) h = rw (lt-ltb m c h) (omega (arith, none_kept c m (omega arith)))
 
-  all-kept : (c m : ℕ) → kept c (c + m) + leaving c ≡ leaving (c + m)
+  all_kept : (c m : ℕ) → kept c (c + m) + leaving c ≡ leaving (c + m)
   unfolding kept leaving
-  all-kept c zero = rw add-zero (omega (arith, none_kept c c (omega arith)))
-  all-kept c (suc m) = rw (add-suc, le-ltb (c + m) c (omega arith)) (omega (arith, all-kept c m))
+  all_kept c zero = rw add-zero (omega (arith, none_kept c c (omega arith)))
+  all_kept c (suc m) = rw (add-suc, le-ltb (c + m) c (omega arith)) (omega (arith, all_kept c m))
 
-  giving-is : (total : ℕ) → giving total w v ≡ total / w
-  unfolding giving thrownAway kept
-  giving-is total =
+  giving_is : (total : ℕ) → giving total w v ≡ total / w
+  unfolding giving thrown_away kept
+  giving_is total =
       let c = total % w in
       let parts : c + total / w * w ≡ total = mod-add-div' total w in
-      let all : kept c total + leaving c ≡ leaving total = subst (λ n. kept c n + leaving c ≡ leaving n) parts (all-kept c (total / w * w)) in
+      let all : kept c total + leaving c ≡ leaving total = subst (λ n. kept c n + leaving c ≡ leaving n) parts (all_kept c (total / w * w)) in
       let many : leaving total ≡ leaving c + total / w = subst (λ n. leaving n ≡ leaving c + total / w) parts (rounds c (total / w)) in
       omega arith
 
 -- whichever of the w values: as many of the 2^64 raw numbers give it
-draw-fair : (w v : ℕ) → v < w → giving (2 ^ 64) w v ≡ 2 ^ 64 / w
-draw-fair w v h = giving-is w v h (2 ^ 64)
+draw_fair : (w v : ℕ) → v < w → giving (2 ^ 64) w v ≡ 2 ^ 64 / w
+draw_fair w v h = giving_is w v h (2 ^ 64)
 
 -- the last step of the mixing makes a number of 64 bits of one of 64 bits
 raw-below : (s : ℕ) → raw s < 2 ^ 64
-unfolding raw mix mixSecond mixThird
+unfolding raw mix mix_second mix_third
 raw-below s =
-    let y = mixSecond (mixFirst (nextState s)) in
+    let y = mix_second (mix_first (next_state s)) in
     let h : y < 2 ^ 64 = mod-lt _ (omega arith) in
     xor_lt 64 y (y / 2 ^ 31) h (lt_of_le_of_lt (div-le_self y (2 ^ 31)) h)
 
 pub fair-draws : FairDraws
-fair-draws = record { below = raw-below; even = draw-fair }
+fair-draws = record { below = raw-below; even = draw_fair }

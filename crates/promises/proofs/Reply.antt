@@ -15,22 +15,22 @@ use lib.Dec.{eqb, leb}
 use borrow.Author.Tests.{eqb-true, eqb-false, eq-eqb, ne_eqb, leb-true, le-leb}
 use Rattle.lists.proofs.Tests.{case, contra, and_left, and_right, and_intro}
 use Rattle.automaton.proofs.Sentences.{Steps}
-use Rattle.promises.specs.Text.{reply, Part, statesOf}
+use Rattle.promises.specs.Text.{reply, Part, states_of}
 use Rattle.promises.specs.Meaning.{Stands, Answered, StillDue, Replied, NoneDue, Says, Admits, Ends, MayStop}
-use Rattle.promises.specs.Rig.{replyNext, next_of, markedOf}
+use Rattle.promises.specs.Rig.{reply_next, next_of, marked_of}
 use Rattle.promises.specs.Sentences.{Agrees}
 use Rattle.promises.proofs.Agreeing.{ending, agrees}
 
 module _ (a b lo hi : ℕ) where
   -- ---- one event in front
 
-  answered-now : (s u : ℕ) (w : List ℕ) → u ≡ b → lo ≤ s → s ≤ hi → Answered a b lo hi s (u ∷ w)
+  answered_now : (s u : ℕ) (w : List ℕ) → u ≡ b → lo ≤ s → s ≤ hi → Answered a b lo hi s (u ∷ w)
   unfolding Answered Stands
-  answered-now s u w q l h = (0, omega arith, omega arith, q, λ k z. absurd (omega arith))
+  answered_now s u w q l h = (0, omega arith, omega arith, q, λ k z. absurd (omega arith))
 
-  answered-later : (s u : ℕ) (w : List ℕ) → ¬ (u ≡ b × lo ≤ s) → Answered a b lo hi s (u ∷ w) ↔ (u ≢ a × Answered a b lo hi (suc s) w)
+  answered_later : (s u : ℕ) (w : List ℕ) → ¬ (u ≡ b × lo ≤ s) → Answered a b lo hi s (u ∷ w) ↔ (u ≢ a × Answered a b lo hi (suc s) w)
   unfolding Answered Stands
-  answered-later s u w early = (λ p. to p, λ (d, (j, l, h, t, n)). (suc j, omega arith, omega arith, t, before d j n))
+  answered_later s u w early = (λ p. to p, λ (d, (j, l, h, t, n)). (suc j, omega arith, omega arith, t, before d j n))
     where
       to : Answered a b lo hi s (u ∷ w) → u ≢ a × Answered a b lo hi (suc s) w
       to (zero, l, h, t, n) = absurd (early (t, omega arith))
@@ -40,9 +40,9 @@ module _ (a b lo hi : ℕ) where
       before d j n zero q = d
       before d j n (suc k) q = n k (omega arith)
 
-  due-later : (s u : ℕ) (w : List ℕ) → StillDue a b lo hi s (u ∷ w) ↔ (u ≢ a × StillDue a b lo hi (suc s) w)
+  due_later : (s u : ℕ) (w : List ℕ) → StillDue a b lo hi s (u ∷ w) ↔ (u ≢ a × StillDue a b lo hi (suc s) w)
   unfolding StillDue Stands
-  due-later s u w = (λ (l, n). (n 0, (omega arith, λ k. n (suc k))), λ (d, (l, n)). (omega arith, after d n))
+  due_later s u w = (λ (l, n). (n 0, (omega arith, λ k. n (suc k))), λ (d, (l, n)). (omega arith, after d n))
     where
       after : u ≢ a → ((k : ℕ) → ¬ Stands a w k) → (k : ℕ) → ¬ Stands a (u ∷ w) k
       after d n zero = d
@@ -57,16 +57,16 @@ module _ (a b lo hi : ℕ) where
   Due late s w = (0 < s → Kept late s w) × ((i : ℕ) → Stands a w i → Kept late 1 (drop (suc i) w))
 
   module _ (late : Type 0) where
-    kept-later : (s u : ℕ) (w : List ℕ) → ¬ (u ≡ b × lo ≤ s) → Kept late s (u ∷ w) ↔ (u ≢ a × Kept late (suc s) w)
+    kept_later : (s u : ℕ) (w : List ℕ) → ¬ (u ≡ b × lo ≤ s) → Kept late s (u ∷ w) ↔ (u ≢ a × Kept late (suc s) w)
     unfolding Kept
-    kept-later s u w early =
-        let (at, af) = answered-later s u w early in
-        let (dt, df) = due-later s u w in
+    kept_later s u w early =
+        let (at, af) = answered_later s u w early in
+        let (dt, df) = due_later s u w in
         (⊎_elim (λ p. ((at p).0, inl (at p).1)) (λ (p, l). ((dt p).0, inr ((dt p).1, l))), λ (d, p). ⊎_map (λ q. af (d, q)) (λ (q, l). (df (d, q), l)) p)
 
-    kept-in-time : (s : ℕ) (w : List ℕ) → Kept late s w → s ≤ hi
+    kept_in_time : (s : ℕ) (w : List ℕ) → Kept late s w → s ≤ hi
     unfolding Kept Answered StillDue
-    kept-in-time s w = ⊎_elim (λ (j, l, h, t, n). omega arith) (λ ((l, n), p). omega arith)
+    kept_in_time s w = ⊎_elim (λ (j, l, h, t, n). omega arith) (λ ((l, n), p). omega arith)
 
     -- every a of u ∷ w: the first event, and those of w
     places : (u : ℕ) (w : List ℕ) → ((i : ℕ) → Stands a (u ∷ w) i → Kept late 1 (drop (suc i) (u ∷ w))) ↔ ((u ≡ a → Kept late 1 w) × ((i : ℕ) → Stands a w i → Kept late 1 (drop (suc i) w)))
@@ -78,8 +78,8 @@ module _ (a b lo hi : ℕ) where
         from f k (suc i) t = k i t
 
     step : 0 < lo → lo ≤ hi → a ≢ b → (s u : ℕ) (w : List ℕ) → s < hi + 1
-        → Due late s (u ∷ w) ↔ ((replyNext a b lo hi s u < hi + 1) × Due late (replyNext a b lo hi s u) w)
-    unfolding Due replyNext
+        → Due late s (u ∷ w) ↔ ((reply_next a b lo hi s u < hi + 1) × Due late (reply_next a b lo hi s u) w)
+    unfolding Due reply_next
     step pos le ne zero u w h =
         let (to, from) = places u w in
         case (eqb u a)
@@ -96,21 +96,21 @@ module _ (a b lo hi : ℕ) where
         rw (ne_eqb (suc s) 0 (λ q. omega arith), add-one (suc s)) (
         case (eqb u a)
         (λ t. rw t (
-          λ (k, r). absurd (((kept-later (suc s) u w (λ (q, l). ne (sym (eqb-true u a t) ∙ q))).0 (k (omega arith))).0 (eqb-true u a t)),
+          λ (k, r). absurd (((kept_later (suc s) u w (λ (q, l). ne (sym (eqb-true u a t) ∙ q))).0 (k (omega arith))).0 (eqb-true u a t)),
           λ (l, p). absurd (omega arith),
         ))
         (λ t. rw t (case (eqb u b && leb lo (suc s))
         (λ v. rw v (
           λ (k, r). (omega arith, (λ z. absurd (omega arith), (to r).1)),
           λ (l, (k, m)). (
-            λ z. unfold Kept in inl (answered-now (suc s) u w (eqb-true u b (and_left (eqb u b) _ v)) (leb-true lo (suc s) (and_right (eqb u b) _ v)) (omega arith)),
+            λ z. unfold Kept in inl (answered_now (suc s) u w (eqb-true u b (and_left (eqb u b) _ v)) (leb-true lo (suc s) (and_right (eqb u b) _ v)) (omega arith)),
             from (λ q. absurd (eqb-false u a t q), m),
           ),
         ))
         (λ v.
-        let (on, off) = kept-later (suc s) u w (λ (q, l). contra (and_intro (eq-eqb u b q) (le-leb lo (suc s) l)) v) in
+        let (on, off) = kept_later (suc s) u w (λ (q, l). contra (and_intro (eq-eqb u b q) (le-leb lo (suc s) l)) v) in
         rw v (
-          λ (k, r). let next = (on (k (omega arith))).1 in (omega (arith, kept-in-time (suc (suc s)) w next), (λ z. next, (to r).1)),
+          λ (k, r). let next = (on (k (omega arith))).1 in (omega (arith, kept_in_time (suc (suc s)) w next), (λ z. next, (to r).1)),
           λ (l, (k, m)). (λ z. off (eqb-false u a t, k (omega arith)), from (λ q. absurd (eqb-false u a t q), m)),
         )))))
 
@@ -137,9 +137,9 @@ module _ (a b lo hi : ℕ) where
   marked ps (suc s) = (λ (k, r). let (j, l, h, t, n) = k (omega arith) in absurd t, λ q. absurd (omega arith))
 
   module _ (pos : 0 < lo) (le : lo ≤ hi) (ne : a ≢ b) (es : List ℕ) (ps : List Part) where
-    pub reply-agrees : Agrees es (record { kind = reply a b lo hi; parts = ps })
-    unfolding Steps next_of markedOf statesOf Admits MayStop
-    reply-agrees =
+    pub reply_agrees : Agrees es (record { kind = reply a b lo hi; parts = ps })
+    unfolding Steps next_of marked_of states_of Admits MayStop
+    reply_agrees =
         agrees es (record { kind = reply a b lo hi; parts = ps })
         (λ s u w h. stepping (Unit {0}) s u w (says ps) (step (Unit {0}) pos le ne s u w h))
         (λ s h. (says ps s []).1 (nothing s h))
@@ -148,11 +148,11 @@ module _ (a b lo hi : ℕ) where
       where
         -- what is Due in every state steps as it does
         stepping : {Φ : ℕ → List ℕ → Type 0} (late : Type 0) (s u : ℕ) (w : List ℕ) → ((s : ℕ) (w : List ℕ) → Φ s w ↔ Due late s w)
-            → Due late s (u ∷ w) ↔ ((replyNext a b lo hi s u < hi + 1) × Due late (replyNext a b lo hi s u) w)
-            → Φ s (u ∷ w) ↔ ((replyNext a b lo hi s u < hi + 1) × Φ (replyNext a b lo hi s u) w)
+            → Due late s (u ∷ w) ↔ ((reply_next a b lo hi s u < hi + 1) × Due late (reply_next a b lo hi s u) w)
+            → Φ s (u ∷ w) ↔ ((reply_next a b lo hi s u < hi + 1) × Φ (reply_next a b lo hi s u) w)
         stepping late s u w same (to, from) = (
-          λ p. let (h, d) = to ((same s (u ∷ w)).0 p) in (h, (same (replyNext a b lo hi s u) w).1 d),
-          λ (h, d). (same s (u ∷ w)).1 (from (h, (same (replyNext a b lo hi s u) w).0 d)),
+          λ p. let (h, d) = to ((same s (u ∷ w)).0 p) in (h, (same (reply_next a b lo hi s u) w).1 d),
+          λ (h, d). (same s (u ∷ w)).1 (from (h, (same (reply_next a b lo hi s u) w).0 d)),
         )
 
         nothing : (s : ℕ) → s < hi + 1 → Due (Unit {0}) s []

@@ -18,140 +18,140 @@ use borrow.Author.Tests.{eq-eqb, eqb-true}
 use Rattle.lists.specs.Lists.{pick, index_of, first_of, Pairwise}
 use Rattle.lists.proofs.Tests.{case}
 use Rattle.lists.proofs.Members.{in_map}
-use Rattle.lists.proofs.Ordered.{same-ordered}
-use Rattle.lists.proofs.Permutations.{permutation-length}
+use Rattle.lists.proofs.Ordered.{same_ordered}
+use Rattle.lists.proofs.Permutations.{permutation_length}
 use Rattle.automaton.specs.Counting as counting
-use Rattle.automaton.proofs.Counting.{scenarios-ordered}
-use Rattle.automaton.proofs.Ranking.{unrank-at}
+use Rattle.automaton.proofs.Counting.{scenarios_ordered}
+use Rattle.automaton.proofs.Ranking.{unrank_at}
 use Rattle.promises.specs.Answer.{served}
-use Rattle.promises.specs.Text.{onto, splitOn, init, lines, fields, digitsValue, number, ahead, numbers, same, field, endOr, end, one, two, three, four, oneOrTwo, anyNumber, form, decode, Kind, mon, gap, reply, bal, day, Part, go, stop, amp, opens, IsBal, Monitor, addPart, extended, monitorsFrom, monitors, decoded, start_of, eventsOf, order_of, Readable, Case7, Case8}
-use Rattle.promises.specs.Meaning.{Leads, stepIn, step_of, HasHours, InHours, OnTime, Says, Ends, Admits, MayStop, BelowE, AllAdmit, AllMayStop, Belongs, Earlier}
-use Rattle.promises.specs.Rig.{rigAutomaton, start}
+use Rattle.promises.specs.Text.{onto, split_on, init, lines, fields, digits_value, number, ahead, numbers, same, field, end_or, end, one, two, three, four, one_or_two, any_number, form, decode, Kind, mon, gap, reply, bal, day, Part, go, stop, amp, opens, IsBal, Monitor, add_part, extended, monitors_from, monitors, decoded, start_of, events_of, order_of, Readable, Case7, Case8}
+use Rattle.promises.specs.Meaning.{Leads, step_in, step_of, HasHours, InHours, OnTime, Says, Ends, Admits, MayStop, BelowE, AllAdmit, AllMayStop, Belongs, Earlier}
+use Rattle.promises.specs.Rig.{rig_automaton, start}
 use Rattle.promises.specs.Calls.{total, count}
 use Rattle.promises.specs.Demand3.{Gives}
 use Rattle.promises.specs.Generator.{generator}
-use Rattle.promises.specs.Examples.{A-from-1, A-exchanged}
-use Rattle.promises.specs.Starts.{renumberedKind, renumberedPart, renumbered, Renumbered, Starts}
-use Rattle.promises.proofs.Meaning.{all, belong-alike, order-permutes, events-ordered}
-use Rattle.promises.proofs.Order.{comes-lex, order}
-use Rattle.promises.proofs.Answers.{belongs-listed, scenarioOf, count-told, same_total, same_count}
-use Rattle.promises.proofs.Demand3.{gives-scenario, gives-only}
+use Rattle.promises.specs.Examples.{A_from_1, A_exchanged}
+use Rattle.promises.specs.Starts.{renumbered_kind, renumbered_part, renumbered, Renumbered, Starts}
+use Rattle.promises.proofs.Meaning.{all, belong_alike, order_permutes, events_ordered}
+use Rattle.promises.proofs.Order.{comes_lex, order}
+use Rattle.promises.proofs.Answers.{belongs_listed, scenario_of, count-told, same_total, same_count}
+use Rattle.promises.proofs.Demand3.{gives_scenario, gives_only}
 
 -- ---- one monitor
 
 module _ (f : ℕ → ℕ) (injective : (s t : ℕ) → f s ≡ f t → s ≡ t) where
   -- a move of the renumbered lines is one of the lines, renumbered
-  move-back : (ps : List Part) (s e v : ℕ) → In (go (f s) e v) (map (renumberedPart f) ps) → (t : ℕ) × In (go s e t) ps × (v ≡ f t)
-  move-back ps s e v i = let (p, j, q) = in_map (renumberedPart f) ps i in back p j q
+  move_back : (ps : List Part) (s e v : ℕ) → In (go (f s) e v) (map (renumbered_part f) ps) → (t : ℕ) × In (go s e t) ps × (v ≡ f t)
+  move_back ps s e v i = let (p, j, q) = in_map (renumbered_part f) ps i in back p j q
     where
-      back : (p : Part) → In p ps → go (f s) e v ≡ renumberedPart f p → (t : ℕ) × In (go s e t) ps × (v ≡ f t)
+      back : (p : Part) → In p ps → go (f s) e v ≡ renumbered_part f p → (t : ℕ) × In (go s e t) ps × (v ≡ f t)
       back (go x y z) j q =
-          let q' : go (f s) e v ≡ go (f x) y (f z) = unfold renumberedPart in q in
+          let q' : go (f s) e v ≡ go (f x) y (f z) = unfold renumbered_part in q in
           let a : x ≡ s = sym (injective s x cc) in
           let b : y ≡ e = cc in
           (z, subst (λ p. In p ps) (ap₂ (λ x y. go x y z) a b) j, cc)
       back (stop x) j q =
-          let q' : go (f s) e v ≡ stop (f x) = unfold renumberedPart in q in
+          let q' : go (f s) e v ≡ stop (f x) = unfold renumbered_part in q in
           let z : ◌≡◌ {A = ℕ} 0 1 = cc in
           absurd (omega arith)
       back (amp x d) j q =
-          let q' : go (f s) e v ≡ amp x d = unfold renumberedPart in q in
+          let q' : go (f s) e v ≡ amp x d = unfold renumbered_part in q in
           let z : ◌≡◌ {A = ℕ} 0 1 = cc in
           absurd (omega arith)
       back (opens x a b) j q =
-          let q' : go (f s) e v ≡ opens x a b = unfold renumberedPart in q in
+          let q' : go (f s) e v ≡ opens x a b = unfold renumbered_part in q in
           let z : ◌≡◌ {A = ℕ} 0 1 = cc in
           absurd (omega arith)
 
   -- so is a mark
-  mark-back : (ps : List Part) (s : ℕ) → In (stop (f s)) (map (renumberedPart f) ps) → In (stop s) ps
-  mark-back ps s i = let (p, j, q) = in_map (renumberedPart f) ps i in back p j q
+  mark_back : (ps : List Part) (s : ℕ) → In (stop (f s)) (map (renumbered_part f) ps) → In (stop s) ps
+  mark_back ps s i = let (p, j, q) = in_map (renumbered_part f) ps i in back p j q
     where
-      back : (p : Part) → In p ps → stop (f s) ≡ renumberedPart f p → In (stop s) ps
+      back : (p : Part) → In p ps → stop (f s) ≡ renumbered_part f p → In (stop s) ps
       back (go x y z) j q =
-          let q' : stop (f s) ≡ go (f x) y (f z) = unfold renumberedPart in q in
+          let q' : stop (f s) ≡ go (f x) y (f z) = unfold renumbered_part in q in
           let z : ◌≡◌ {A = ℕ} 0 1 = cc in
           absurd (omega arith)
       back (stop x) j q =
-          let q' : stop (f s) ≡ stop (f x) = unfold renumberedPart in q in
+          let q' : stop (f s) ≡ stop (f x) = unfold renumbered_part in q in
           subst (λ x. In (stop x) ps) (sym (injective s x cc)) j
       back (amp x d) j q =
-          let q' : stop (f s) ≡ amp x d = unfold renumberedPart in q in
+          let q' : stop (f s) ≡ amp x d = unfold renumbered_part in q in
           let z : ◌≡◌ {A = ℕ} 0 1 = cc in
           absurd (omega arith)
       back (opens x a b) j q =
-          let q' : stop (f s) ≡ opens x a b = unfold renumberedPart in q in
+          let q' : stop (f s) ≡ opens x a b = unfold renumbered_part in q in
           let z : ◌≡◌ {A = ℕ} 0 1 = cc in
           absurd (omega arith)
 
   -- and hours
-  hours-back : (ps : List Part) (e a b : ℕ) → In (opens e a b) (map (renumberedPart f) ps) → In (opens e a b) ps
-  hours-back ps e a b i = let (p, j, q) = in_map (renumberedPart f) ps i in back p j q
+  hours_back : (ps : List Part) (e a b : ℕ) → In (opens e a b) (map (renumbered_part f) ps) → In (opens e a b) ps
+  hours_back ps e a b i = let (p, j, q) = in_map (renumbered_part f) ps i in back p j q
     where
-      back : (p : Part) → In p ps → opens e a b ≡ renumberedPart f p → In (opens e a b) ps
+      back : (p : Part) → In p ps → opens e a b ≡ renumbered_part f p → In (opens e a b) ps
       back (go x y z) j q =
-          let q' : opens e a b ≡ go (f x) y (f z) = unfold renumberedPart in q in
+          let q' : opens e a b ≡ go (f x) y (f z) = unfold renumbered_part in q in
           let z : ◌≡◌ {A = ℕ} 0 1 = cc in
           absurd (omega arith)
       back (stop x) j q =
-          let q' : opens e a b ≡ stop (f x) = unfold renumberedPart in q in
+          let q' : opens e a b ≡ stop (f x) = unfold renumbered_part in q in
           let z : ◌≡◌ {A = ℕ} 0 1 = cc in
           absurd (omega arith)
       back (amp x d) j q =
-          let q' : opens e a b ≡ amp x d = unfold renumberedPart in q in
+          let q' : opens e a b ≡ amp x d = unfold renumbered_part in q in
           let z : ◌≡◌ {A = ℕ} 0 1 = cc in
           absurd (omega arith)
       back (opens x y z) j q =
-          let q' : opens e a b ≡ opens x y z = unfold renumberedPart in q in
+          let q' : opens e a b ≡ opens x y z = unfold renumbered_part in q in
           subst (λ p. In p ps) (sym q') j
 
-  hours-on : (ps : List Part) (e a b : ℕ) → In (opens e a b) ps → In (opens e a b) (map (renumberedPart f) ps)
-  unfolding renumberedPart
-  hours-on ps e a b i = map-in (renumberedPart f) i
+  hours_on : (ps : List Part) (e a b : ℕ) → In (opens e a b) ps → In (opens e a b) (map (renumbered_part f) ps)
+  unfolding renumbered_part
+  hours_on ps e a b i = map-in (renumbered_part f) i
 
   -- and a step stays as it is
-  step_same : (e : ℕ) (ps : List Part) → first_of (stepIn e) (map (renumberedPart f) ps) ≡ first_of (stepIn e) ps
-  unfolding first_of stepIn renumberedPart or_else
+  step_same : (e : ℕ) (ps : List Part) → first_of (step_in e) (map (renumbered_part f) ps) ≡ first_of (step_in e) ps
+  unfolding first_of step_in renumbered_part or_else
   step_same e [] = refl
   step_same e (go a b c ∷ ps) = step_same e ps
   step_same e (stop a ∷ ps) = step_same e ps
-  step_same e (amp a d ∷ ps) = ap (or_else (stepIn e (amp a d))) (step_same e ps)
+  step_same e (amp a d ∷ ps) = ap (or_else (step_in e (amp a d))) (step_same e ps)
   step_same e (opens a b c ∷ ps) = step_same e ps
 
-  steps-same : (ps : List Part) → step_of (map (renumberedPart f) ps) ≡ step_of ps
+  steps_same : (ps : List Part) → step_of (map (renumbered_part f) ps) ≡ step_of ps
   unfolding step_of
-  steps-same ps = fun_ext (λ e. ap (λ o. Option.get_or o (pos 0)) (step_same e ps))
+  steps_same ps = fun_ext (λ e. ap (λ o. Option.get_or o (pos 0)) (step_same e ps))
 
-  leads-on : (ps : List Part) (s : ℕ) (w : List ℕ) (u : ℕ) → Leads ps s w u → Leads (map (renumberedPart f) ps) (f s) w (f u)
-  unfolding Leads renumberedPart
-  leads-on ps s [] u q = ap f q
-  leads-on ps s (e ∷ w) u (t, i, a) = (f t, map-in (renumberedPart f) i, leads-on ps t w u a)
+  leads_on : (ps : List Part) (s : ℕ) (w : List ℕ) (u : ℕ) → Leads ps s w u → Leads (map (renumbered_part f) ps) (f s) w (f u)
+  unfolding Leads renumbered_part
+  leads_on ps s [] u q = ap f q
+  leads_on ps s (e ∷ w) u (t, i, a) = (f t, map-in (renumbered_part f) i, leads_on ps t w u a)
 
-  leads-back : (ps : List Part) (s : ℕ) (w : List ℕ) (v : ℕ) → Leads (map (renumberedPart f) ps) (f s) w v → (u : ℕ) × Leads ps s w u × (v ≡ f u)
+  leads_back : (ps : List Part) (s : ℕ) (w : List ℕ) (v : ℕ) → Leads (map (renumbered_part f) ps) (f s) w v → (u : ℕ) × Leads ps s w u × (v ≡ f u)
   unfolding Leads
-  leads-back ps s [] v q = (s, refl, sym q)
-  leads-back ps s (e ∷ w) v (r, i, a) =
-      let (t, j, q) = move-back ps s e r i in
-      let (u, b, p) = leads-back ps t w v (rw q at a) in
+  leads_back ps s [] v q = (s, refl, sym q)
+  leads_back ps s (e ∷ w) v (r, i, a) =
+      let (t, j, q) = move_back ps s e r i in
+      let (u, b, p) = leads_back ps t w v (rw q at a) in
       (u, (t, j, b), p)
 
   -- one clause a kind
-  says : (w : List ℕ) (k : Kind) (ps : List Part) → Says k ps (start_of k) w ↔ Says (renumberedKind f k) (map (renumberedPart f) ps) (start_of (renumberedKind f k)) w
-  unfolding Says start_of renumberedKind
-  says w (mon S a) ps = (λ (u, l). (f u, leads-on ps a w u l), λ (v, l). let (u, m, q) = leads-back ps a w v l in (u, m))
+  says : (w : List ℕ) (k : Kind) (ps : List Part) → Says k ps (start_of k) w ↔ Says (renumbered_kind f k) (map (renumbered_part f) ps) (start_of (renumbered_kind f k)) w
+  unfolding Says start_of renumbered_kind
+  says w (mon S a) ps = (λ (u, l). (f u, leads_on ps a w u l), λ (v, l). let (u, m, q) = leads_back ps a w v l in (u, m))
   says w (gap e n) ps = (λ p. p, λ p. p)
   says w (reply a b lo hi) ps = (λ p. p, λ p. p)
-  says w (bal lo hi) ps = rw (steps-same ps) (λ p. p, λ p. p)
+  says w (bal lo hi) ps = rw (steps_same ps) (λ p. p, λ p. p)
   says w (day T) ps = unfold OnTime HasHours InHours in (
-    λ o i e t (a, b, h). let (c, d, k, l, r) = o i e t (a, b, hours-back ps e a b h) in (c, d, hours-on ps e c d k, l, r),
-    λ o i e t (a, b, h). let (c, d, k, l, r) = o i e t (a, b, hours-on ps e a b h) in (c, d, hours-back ps e c d k, l, r),
+    λ o i e t (a, b, h). let (c, d, k, l, r) = o i e t (a, b, hours_back ps e a b h) in (c, d, hours_on ps e c d k, l, r),
+    λ o i e t (a, b, h). let (c, d, k, l, r) = o i e t (a, b, hours_on ps e a b h) in (c, d, hours_back ps e c d k, l, r),
   )
 
-  ends : (w : List ℕ) (k : Kind) (ps : List Part) → Ends k ps (start_of k) w ↔ Ends (renumberedKind f k) (map (renumberedPart f) ps) (start_of (renumberedKind f k)) w
-  unfolding Ends start_of renumberedKind renumberedPart
+  ends : (w : List ℕ) (k : Kind) (ps : List Part) → Ends k ps (start_of k) w ↔ Ends (renumbered_kind f k) (map (renumbered_part f) ps) (start_of (renumbered_kind f k)) w
+  unfolding Ends start_of renumbered_kind renumbered_part
   ends w (mon S a) ps = (
-    λ (u, l, i). (f u, leads-on ps a w u l, map-in (renumberedPart f) i),
-    λ (v, l, i). let (u, m, q) = leads-back ps a w v l in (u, m, mark-back ps u (rw q at i)),
+    λ (u, l, i). (f u, leads_on ps a w u l, map-in (renumbered_part f) i),
+    λ (v, l, i). let (u, m, q) = leads_back ps a w v l in (u, m, mark_back ps u (rw q at i)),
   )
   ends w (gap e n) ps = (λ p. p, λ p. p)
   ends w (reply a b lo hi) ps = (λ p. p, λ p. p)
@@ -174,54 +174,54 @@ all_of Q same (m ∷ ms) (n ∷ ns) ((f, injective, q), r) =
 
 -- ---- the text
 
-module _ (t u : List ℕ) (n : Renumbered (monitors (decoded t)) (monitors (decoded u))) (ev : eventsOf (decoded t) ≡ eventsOf (decoded u)) where
-  all-admit : (w : List ℕ) → AllAdmit t w ↔ AllAdmit u w
+module _ (t u : List ℕ) (n : Renumbered (monitors (decoded t)) (monitors (decoded u))) (ev : events_of (decoded t) ≡ events_of (decoded u)) where
+  all_admit : (w : List ℕ) → AllAdmit t w ↔ AllAdmit u w
   unfolding BelowE Admits
-  all-admit w =
+  all_admit w =
       let (to, from) = all_of (λ m. Admits m (start_of m.kind) w) (λ f i m. says f i w m.kind m.parts) (monitors (decoded t)) (monitors (decoded u)) n in (
         λ a. record { events = rw ev at a.events; each = to a.each },
         λ a. record { events = rw ev a.events; each = from a.each },
       )
 
-  all-may-stop : (w : List ℕ) → AllMayStop t w ↔ AllMayStop u w
+  all_may_stop : (w : List ℕ) → AllMayStop t w ↔ AllMayStop u w
   unfolding AllMayStop MayStop
-  all-may-stop w = all_of (λ m. MayStop m (start_of m.kind) w) (λ f i m. ends f i w m.kind m.parts) (monitors (decoded t)) (monitors (decoded u)) n
+  all_may_stop w = all_of (λ m. MayStop m (start_of m.kind) w) (λ f i m. ends f i w m.kind m.parts) (monitors (decoded t)) (monitors (decoded u)) n
 
-  same-belong : (h : ℕ) (w : List ℕ) → Belongs t h w ↔ Belongs u h w
-  same-belong = belong-alike t u all-admit all-may-stop
+  same_belong : (h : ℕ) (w : List ℕ) → Belongs t h w ↔ Belongs u h w
+  same_belong = belong_alike t u all_admit all_may_stop
 
   module _ (r : Readable t) (s : Readable u) (h : ℕ) where
     counts_same : total t h ≡ total u h
-    counts_same = same_total t u h r s (same-belong h)
+    counts_same = same_total t u h r s (same_belong h)
 
     module _ (o : order_of (decoded t) ≡ order_of (decoded u)) where
       -- both lists of scenarios are in the order of events
-      same-list : counting.scenarios (rigAutomaton t) h (start t) ≡ counting.scenarios (rigAutomaton u) h (start u)
+      same_list : counting.scenarios (rig_automaton t) h (start t) ≡ counting.scenarios (rig_automaton u) h (start u)
       unfolding Earlier
-      same-list =
-          same-ordered (λ v w a b. order.irreflexive t v (order.transitive t v w v (rw comes-lex a) (rw comes-lex b)))
-          (scenarios-ordered (rigAutomaton t) (Earlier (decoded t)) (events-ordered t r) h (start t))
-          (scenarios-ordered (rigAutomaton u) (Earlier (decoded t)) (subst (λ es. Pairwise (λ a b. index_of es a < index_of es b) (rigAutomaton u).events) (sym o) (events-ordered u s)) h (start u))
-          (λ w i. (belongs-listed u h s w).0 ((same-belong h w).0 ((belongs-listed t h r w).1 i)))
-          (λ w i. (belongs-listed t h r w).0 ((same-belong h w).1 ((belongs-listed u h s w).1 i)))
+      same_list =
+          same_ordered (λ v w a b. order.irreflexive t v (order.transitive t v w v (rw comes_lex a) (rw comes_lex b)))
+          (scenarios_ordered (rig_automaton t) (Earlier (decoded t)) (events_ordered t r) h (start t))
+          (scenarios_ordered (rig_automaton u) (Earlier (decoded t)) (subst (λ es. Pairwise (λ a b. index_of es a < index_of es b) (rig_automaton u).events) (sym o) (events_ordered u s)) h (start u))
+          (λ w i. (belongs_listed u h s w).0 ((same_belong h w).0 ((belongs_listed t h r w).1 i)))
+          (λ w i. (belongs_listed t h r w).0 ((same_belong h w).1 ((belongs_listed u h s w).1 i)))
 
-      same-scenario : (i : ℕ) → i < total t h → scenarioOf t h i ≡ scenarioOf u h i
+      same_scenario : (i : ℕ) → i < total t h → scenario_of t h i ≡ scenario_of u h i
       unfolding total
-      same-scenario i l =
-          unrank-at (rigAutomaton t) h (start t) i l ∙ ap (λ ws. get_or ws i []) same-list ∙ sym (unrank-at (rigAutomaton u) h (start u) i (rw (← counts_same) l))
+      same_scenario i l =
+          unrank_at (rig_automaton t) h (start t) i l ∙ ap (λ ws. get_or ws i []) same_list ∙ sym (unrank_at (rig_automaton u) h (start u) i (rw (← counts_same) l))
 
     module _ (c7 : Case7 h → ⊥) (cells : List ℕ) (c8 : Case8 t h cells → ⊥) (m p : ℕ) (q : count t h cells ≡ served (m ∷ p ∷ [])) where
-      same-given : order_of (decoded t) ≡ order_of (decoded u) → (i : ℕ) → i < m → (w : List ℕ) → Gives generator t h i w → Gives generator u h i w
-      same-given o i l w g =
+      same_given : order_of (decoded t) ≡ order_of (decoded u) → (i : ℕ) → i < m → (w : List ℕ) → Gives generator t h i w → Gives generator u h i w
+      same_given o i l w g =
           let k = count-told t h cells m p r c7 c8 q in
-          let e : total u h ≡ m = sym counts_same ∙ k.total-is in
-          let lt : i < total t h = rw k.total-is l in
-          let v : w ≡ scenarioOf u h i = gives-only t h r c7 (rw k.total-is k.some) (rw k.total-is k.few) i w lt g ∙ same-scenario o i lt in
-          rw v (gives-scenario u h s c7 (rw e k.some) (rw e k.few) i (rw e l))
+          let e : total u h ≡ m = sym counts_same ∙ k.total_is in
+          let lt : i < total t h = rw k.total_is l in
+          let v : w ≡ scenario_of u h i = gives_only t h r c7 (rw k.total_is k.some) (rw k.total_is k.few) i w lt g ∙ same_scenario o i lt in
+          rw v (gives_scenario u h s c7 (rw e k.some) (rw e k.few) i (rw e l))
 
 -- an order of events tells how many there are
-same-events : (t u : List ℕ) → Readable t → Readable u → order_of (decoded t) ≡ order_of (decoded u) → eventsOf (decoded t) ≡ eventsOf (decoded u)
-same-events t u r s o = sym (permutation-length _ _ (order-permutes t r)) ∙ ap length o ∙ permutation-length _ _ (order-permutes u s)
+same_events : (t u : List ℕ) → Readable t → Readable u → order_of (decoded t) ≡ order_of (decoded u) → events_of (decoded t) ≡ events_of (decoded u)
+same_events t u r s o = sym (permutation_length _ _ (order_permutes t r)) ∙ ap length o ∙ permutation_length _ _ (order_permutes u s)
 
 -- ---- every `mon` from 0
 
@@ -229,30 +229,30 @@ same-events t u r s o = sym (permutation-length _ _ (order-permutes t r)) ∙ ap
 abbrev exchanged : ℕ → ℕ → ℕ
 exchanged a s = pick (eqb s a) 0 (pick (eqb s 0) a s)
 
-exchanged-twice : (a s : ℕ) → exchanged a (exchanged a s) ≡ s
-exchanged-twice a s =
+exchanged_twice : (a s : ℕ) → exchanged a (exchanged a s) ≡ s
+exchanged_twice a s =
     case (eqb s a)
     (λ p. rw p (case (eqb 0 a) (λ q. rw q (eqb-true 0 a q ∙ sym (eqb-true s a p))) (λ q. rw q (sym (eqb-true s a p)))))
     (λ p. case (eqb s 0) (λ q. rw (p, q, eq-eqb a a refl) (sym (eqb-true s 0 q))) (λ q. rw (p, q, p, q)))
 
-exchanged-injective : (a s t : ℕ) → exchanged a s ≡ exchanged a t → s ≡ t
-exchanged-injective a s t q = sym (exchanged-twice a s) ∙ ap (exchanged a) q ∙ exchanged-twice a t
+exchanged_injective : (a s t : ℕ) → exchanged a s ≡ exchanged a t → s ≡ t
+exchanged_injective a s t q = sym (exchanged_twice a s) ∙ ap (exchanged a) q ∙ exchanged_twice a t
 
-start-exchanged : (k : Kind) → (start_of (renumberedKind (exchanged (start_of k)) k) ≡ 0) ⊎ IsBal (renumberedKind (exchanged (start_of k)) k)
-unfolding start_of renumberedKind IsBal
+start-exchanged : (k : Kind) → (start_of (renumbered_kind (exchanged (start_of k)) k) ≡ 0) ⊎ IsBal (renumbered_kind (exchanged (start_of k)) k)
+unfolding start_of renumbered_kind IsBal
 start-exchanged (mon S a) = inl (rw (eq-eqb a a refl))
 start-exchanged (gap e n) = inl refl
 start-exchanged (reply a b lo hi) = inl refl
 start-exchanged (bal lo hi) = inr (lo, hi, refl)
 start-exchanged (day T) = inl refl
 
-from-0 : (ms : List Monitor) → (ns : List Monitor) × Renumbered ms ns × ((n : Monitor) → In n ns → (start_of n.kind ≡ 0) ⊎ IsBal n.kind)
+from_0 : (ms : List Monitor) → (ns : List Monitor) × Renumbered ms ns × ((n : Monitor) → In n ns → (start_of n.kind ≡ 0) ⊎ IsBal n.kind)
 unfolding Renumbered
-from-0 [] = ([], tt, λ n i. absurd (Memᴰ.not-nil i))
-from-0 (m ∷ ms) =
-    let (ns, r, z) = from-0 ms in
+from_0 [] = ([], tt, λ n i. absurd (Memᴰ.not-nil i))
+from_0 (m ∷ ms) =
+    let (ns, r, z) = from_0 ms in
     let f = exchanged (start_of m.kind) in
-    (renumbered f m ∷ ns, ((f, exchanged-injective (start_of m.kind), refl), r), each ns z)
+    (renumbered f m ∷ ns, ((f, exchanged_injective (start_of m.kind), refl), r), each ns z)
   where
     each : (ns : List Monitor) → ((n : Monitor) → In n ns → (start_of n.kind ≡ 0) ⊎ IsBal n.kind) → (n : Monitor) → In n (renumbered (exchanged (start_of m.kind)) m ∷ ns) → (start_of n.kind ≡ 0) ⊎ IsBal n.kind
     each ns z n (here q) = subst (λ n. (start_of n.kind ≡ 0) ⊎ IsBal n.kind) (sym q) (start-exchanged m.kind)
@@ -262,19 +262,19 @@ from-0 (m ∷ ms) =
 
 -- the monitors of both, read from their lines
 record Lines : Type 0 where
-  of-A : monitors (decoded A-from-1) ≡ record { kind = mon 2 1; parts = go 0 0 0 ∷ go 0 1 1 ∷ go 1 0 0 ∷ [] } ∷ []
-  of-exchanged : monitors (decoded A-exchanged) ≡ record { kind = mon 2 0; parts = go 1 0 1 ∷ go 1 1 0 ∷ go 0 0 1 ∷ [] } ∷ []
+  of_A : monitors (decoded A_from_1) ≡ record { kind = mon 2 1; parts = go 0 0 0 ∷ go 0 1 1 ∷ go 1 0 0 ∷ [] } ∷ []
+  of_exchanged : monitors (decoded A_exchanged) ≡ record { kind = mon 2 0; parts = go 1 0 1 ∷ go 1 1 0 ∷ go 0 0 1 ∷ [] } ∷ []
 
 lines_of : Lines
-unfolding decoded lines splitOn onto init decode fields form one two three four oneOrTwo anyNumber field endOr end number numbers ahead digitsValue same monitors monitorsFrom extended addPart
-lines_of = record { of-A = refl; of-exchanged = refl }
+unfolding decoded lines split_on onto init decode fields form one two three four one_or_two any_number field end_or end number numbers ahead digits_value same monitors monitors_from extended add_part
+lines_of = record { of_A = refl; of_exchanged = refl }
 
 pub starts : Starts
-unfolding Renumbered renumberedKind renumberedPart
+unfolding Renumbered renumbered_kind renumbered_part
 starts = record {
-  from-0 = from-0;
-  same-belong = same-belong;
-  same_count = λ t u r s n ev h c7 cells others c8 d8 m p q. same_count t u h r s (same-belong t u n ev h) c7 cells others c8 d8 m p q;
-  same-given = λ t u r s n o h c7 cells c8 m p q i l w. same-given t u n (same-events t u r s o) r s h c7 cells c8 m p q o i l w;
-  renumbered-A = rw (lines_of.of-A, lines_of.of-exchanged) ((exchanged 1, exchanged-injective 1, refl), tt);
+  from_0 = from_0;
+  same_belong = same_belong;
+  same_count = λ t u r s n ev h c7 cells others c8 d8 m p q. same_count t u h r s (same_belong t u n ev h) c7 cells others c8 d8 m p q;
+  same_given = λ t u r s n o h c7 cells c8 m p q i l w. same_given t u n (same_events t u r s o) r s h c7 cells c8 m p q o i l w;
+  renumbered_A = rw (lines_of.of_A, lines_of.of_exchanged) ((exchanged 1, exchanged_injective 1, refl), tt);
 }

@@ -10,97 +10,97 @@ use lib.ListN.{length, get_or, take, drop, get_or-append}
 use lib.Dec.{ltb, leb}
 use Rattle.lists.specs.Lists.{sum}
 use Rattle.lists.proofs.Tests.{contra, split}
-use Rattle.lists.proofs.Tells.{Tells, tells-true, tells-false, tells-lt, tells-le, tells-or}
+use Rattle.lists.proofs.Tells.{Tells, tells_true, tells_false, tells_lt, tells_le, tells_or}
 use Rattle.automaton.specs.Automaton.{Over}
-use Rattle.automaton.specs.Windows.{window, windowsOf, marks, ones}
-use Rattle.automaton.proofs.Windows.{length-marks, ones-marks, mark-bit, mark-departs}
+use Rattle.automaton.specs.Windows.{window, windows_of, marks, ones}
+use Rattle.automaton.proofs.Windows.{length_marks, ones_marks, mark_bit, mark_departs}
 use Rattle.promises.specs.Answer.{Answer, served, refused, Served, unless}
-use Rattle.promises.specs.Text.{eventsOf, decoded, Readable, Case7, Case13}
+use Rattle.promises.specs.Text.{events_of, decoded, Readable, Case7, Case13}
 use Rattle.promises.specs.Meaning.{Belongs, Departure}
-use Rattle.promises.specs.Rig.{rigAutomaton}
-use Rattle.promises.specs.Calls.{unlessAt, notBelow, outputAfter, sizedFor}
+use Rattle.promises.specs.Rig.{rig_automaton}
+use Rattle.promises.specs.Calls.{unless_at, not_below, output_after, sized_for}
 use Rattle.promises.specs.Shapes.{Shaped}
-use Rattle.promises.specs.Windows.{windows, windowsOutput, Case21, Case12·windows, WindowsReady, WindowsOwed}
-use Rattle.promises.proofs.Meaning.{text-departs, start-admits, start-carried}
-use Rattle.promises.proofs.Checks.{checked-list, sizedFor-on, sizedFor-text, sizedFor-7}
-use Rattle.promises.proofs.Answers.{events-in}
-use Rattle.promises.proofs.Buffers.{unless-served, output-left}
+use Rattle.promises.specs.Windows.{windows, windows_output, Case21, Case12Windows, WindowsReady, WindowsOwed}
+use Rattle.promises.proofs.Meaning.{text_departs, start_admits, start_carried}
+use Rattle.promises.proofs.Checks.{checked_list, sized_for_on, sized_for_text, sized_for_7}
+use Rattle.promises.proofs.Answers.{events_in}
+use Rattle.promises.proofs.Buffers.{unless-served, output_left}
 
 -- ---- the rows
 
 -- 'no cells are lent': there is no need in row 8
-pub windows-sized : (t : List ℕ) (h : ℕ) (log out : List ℕ) → windows t h log out ≡ sizedFor t 0 h [] (logRows (rigAutomaton t) (eventsOf (decoded t)) h log out)
-unfolding windows sizedFor
-windows-sized t h log out = rw (zero-mul (jointStates t))
+pub windows-sized : (t : List ℕ) (h : ℕ) (log out : List ℕ) → windows t h log out ≡ sized_for t 0 h [] (log_rows (rig_automaton t) (events_of (decoded t)) h log out)
+unfolding windows sized_for
+windows-sized t h log out = rw (zero-mul (joint_states t))
 
 after-served : (a b : Answer) → Served (after a b) → Served a × Served b
 unfolding Served
 after-served (served vs) b s = ((vs, refl), s)
 after-served (refused n p) b s = absurd (refused-serves n p s)
 
-tells-21 : (h : ℕ) (log : List ℕ) → Tells (ltb (length log) h || ltb 65535 (length log)) (Case21 h log)
+tells_21 : (h : ℕ) (log : List ℕ) → Tells (ltb (length log) h || ltb 65535 (length log)) (Case21 h log)
 unfolding Case21
-tells-21 h log = tells-or (tells-lt (length log) h) (tells-lt 65535 (length log))
+tells_21 h log = tells_or (tells_lt (length log) h) (tells_lt 65535 (length log))
 
-tells-12 : (h : ℕ) (log out : List ℕ) → Tells (ltb (length out) (windowsOf h log)) (Case12·windows h log out)
-unfolding Case12·windows windowsOf
-tells-12 h log out =
-    let t = tells-lt (length out) (suc (length log) - h) in
+tells_12 : (h : ℕ) (log out : List ℕ) → Tells (ltb (length out) (windows_of h log)) (Case12Windows h log out)
+unfolding Case12Windows windows_of
+tells_12 h log out =
+    let t = tells_lt (length out) (suc (length log) - h) in
     record { yes = λ q. let l = t.yes q in (length out, omega arith, omega arith); no = λ q (k, within, short). t.no q (omega arith) }
 
 -- the byte of a window stands within what is written
-window-within : (h k : ℕ) (log : List ℕ) → k + h ≤ length log → k < windowsOf h log
-unfolding windowsOf
+window-within : (h k : ℕ) (log : List ℕ) → k + h ≤ length log → k < windows_of h log
+unfolding windows_of
 window-within h k log le = omega arith
 
 module _ (t : List ℕ) (h : ℕ) (log out : List ℕ) where
   A : Automaton
-  A = rigAutomaton t
+  A = rig_automaton t
 
   E : ℕ
-  E = eventsOf (decoded t)
+  E = events_of (decoded t)
 
   rest : Answer
-  rest = logRows A E h log out
+  rest = log_rows A E h log out
 
   -- the rows up to 7
-  horizon-on : Readable t → (Case7 h → ⊥) → windows t h log out ≡ rest
+  horizon_on : Readable t → (Case7 h → ⊥) → windows t h log out ≡ rest
   unfolding rest A E
-  horizon-on r c7 = windows-sized t h log out ∙ sizedFor-on t 0 h [] _ r c7 (λ l. let z = rw (zero-mul (jointStates t)) at l in omega arith)
+  horizon_on r c7 = windows-sized t h log out ∙ sized_for_on t 0 h [] _ r c7 (λ l. let z = rw (zero-mul (joint_states t)) at l in omega arith)
 
   module _ (c21 : Case21 h log → ⊥) where
-    log-on : rest ≡ unless 12 0 (ltb (length out) (windowsOf h log)) (unlessAt 13 (notBelow E) log (served (ones A h log ∷ [])))
+    log_on : rest ≡ unless 12 0 (ltb (length out) (windows_of h log)) (unless_at 13 (not_below E) log (served (ones A h log ∷ [])))
     unfolding rest
-    log-on = check-passed 21 0 _ _ (tells-false (tells-21 h log) c21)
+    log_on = check_passed 21 0 _ _ (tells_false (tells_21 h log) c21)
 
-    room-on : (Case12·windows h log out → ⊥) → rest ≡ unlessAt 13 (notBelow E) log (served (ones A h log ∷ []))
-    room-on c12 = log-on ∙ check-passed 12 0 _ _ (tells-false (tells-12 h log out) c12)
+    room_on : (Case12Windows h log out → ⊥) → rest ≡ unless_at 13 (not_below E) log (served (ones A h log ∷ []))
+    room_on c12 = log_on ∙ check_passed 12 0 _ _ (tells_false (tells_12 h log out) c12)
 
   good : ((p : ℕ) → Case13 t log p → ⊥) → (k : ℕ) → k < length log → leb E (get_or log k 0) ≡ false
   unfolding Case13 E
-  good c k lt = tells-false (tells-le (eventsOf (decoded t)) (get_or log k 0)) (λ le. c k (lt, le))
+  good c k lt = tells_false (tells_le (events_of (decoded t)) (get_or log k 0)) (λ le. c k (lt, le))
 
-  windows-is : WindowsReady t h log out → windows t h log out ≡ served (ones (rigAutomaton t) h log ∷ [])
+  windows_is : WindowsReady t h log out → windows t h log out ≡ served (ones (rig_automaton t) h log ∷ [])
   unfolding A
-  windows-is w = horizon-on w.readable w.horizon ∙ room-on w.logged w.room ∙ go (checked-list 13 (notBelow E) log (served (ones A h log ∷ [])))
+  windows_is w = horizon_on w.readable w.horizon ∙ room_on w.logged w.room ∙ go (checked_list 13 (not_below E) log (served (ones A h log ∷ [])))
     where
-      go : ((unlessAt 13 (notBelow E) log (served (ones A h log ∷ [])) ≡ served (ones A h log ∷ [])) × ((k : ℕ) → k < length log → leb E (get_or log k 0) ≡ false))
-          ⊎ ((k : ℕ) × (k < length log) × (unlessAt 13 (notBelow E) log (served (ones A h log ∷ [])) ≡ refused 13 k) × (leb E (get_or log k 0) ≡ true) × ((j : ℕ) → j < k → leb E (get_or log j 0) ≡ false))
-          → unlessAt 13 (notBelow E) log (served (ones A h log ∷ [])) ≡ served (ones A h log ∷ [])
+      go : ((unless_at 13 (not_below E) log (served (ones A h log ∷ [])) ≡ served (ones A h log ∷ [])) × ((k : ℕ) → k < length log → leb E (get_or log k 0) ≡ false))
+          ⊎ ((k : ℕ) × (k < length log) × (unless_at 13 (not_below E) log (served (ones A h log ∷ [])) ≡ refused 13 k) × (leb E (get_or log k 0) ≡ true) × ((j : ℕ) → j < k → leb E (get_or log j 0) ≡ false))
+          → unless_at 13 (not_below E) log (served (ones A h log ∷ [])) ≡ served (ones A h log ∷ [])
       go (inl (q, g)) = q
       go (inr (k, lt, q, b, g)) = contra b (good w.listed k lt)
 
-  thirteen-at : (p : ℕ) → Case13 t log p → ((q : ℕ) → q < p → Case13 t log q → ⊥) → unlessAt 13 (notBelow E) log (served (ones A h log ∷ [])) ≡ refused 13 p
+  thirteen_at : (p : ℕ) → Case13 t log p → ((q : ℕ) → q < p → Case13 t log q → ⊥) → unless_at 13 (not_below E) log (served (ones A h log ∷ [])) ≡ refused 13 p
   unfolding Case13 E
-  thirteen-at p (lt, le) first = go (checked-list 13 (notBelow E) log (served (ones A h log ∷ [])))
+  thirteen_at p (lt, le) first = go (checked_list 13 (not_below E) log (served (ones A h log ∷ [])))
     where
-      go : ((unlessAt 13 (notBelow E) log (served (ones A h log ∷ [])) ≡ served (ones A h log ∷ [])) × ((k : ℕ) → k < length log → leb E (get_or log k 0) ≡ false))
-          ⊎ ((k : ℕ) × (k < length log) × (unlessAt 13 (notBelow E) log (served (ones A h log ∷ [])) ≡ refused 13 k) × (leb E (get_or log k 0) ≡ true) × ((j : ℕ) → j < k → leb E (get_or log j 0) ≡ false))
-          → unlessAt 13 (notBelow E) log (served (ones A h log ∷ [])) ≡ refused 13 p
-      go (inl (q, g)) = contra (tells-true (tells-le E (get_or log p 0)) le) (g p lt)
-      go (inr (k, l, q, b, g)) = q ∙ ap (refused 13) (same (ℕ-trichotomy k p))
+      go : ((unless_at 13 (not_below E) log (served (ones A h log ∷ [])) ≡ served (ones A h log ∷ [])) × ((k : ℕ) → k < length log → leb E (get_or log k 0) ≡ false))
+          ⊎ ((k : ℕ) × (k < length log) × (unless_at 13 (not_below E) log (served (ones A h log ∷ [])) ≡ refused 13 k) × (leb E (get_or log k 0) ≡ true) × ((j : ℕ) → j < k → leb E (get_or log j 0) ≡ false))
+          → unless_at 13 (not_below E) log (served (ones A h log ∷ [])) ≡ refused 13 p
+      go (inl (q, g)) = contra (tells_true (tells_le E (get_or log p 0)) le) (g p lt)
+      go (inr (k, l, q, b, g)) = q ∙ ap (refused 13) (same (ℕ_trichotomy k p))
         where
           same : (k < p) ⊎ ((k ≡ p) ⊎ (p < k)) → k ≡ p
-          same (inl c) = absurd (first k c (l, (tells-le E (get_or log k 0)).yes b))
+          same (inl c) = absurd (first k c (l, (tells_le E (get_or log k 0)).yes b))
           same (inr (inl c)) = c
-          same (inr (inr c)) = contra (tells-true (tells-le E (get_or log p 0)) le) (g p c)
+          same (inr (inr c)) = contra (tells_true (tells_le E (get_or log p 0)) le) (g p c)

@@ -13,10 +13,10 @@ use Rattle.automaton.specs.Counting.{N, most}
 use Rattle.automaton.specs.Ranking.{unrank}
 use Rattle.automaton.specs.Shuffle as swapping
 use Rattle.promises.specs.Answer.{Answer, refused, Served}
-use Rattle.promises.specs.Text.{jointStates}
-use Rattle.promises.specs.Rig.{rigAutomaton, start}
+use Rattle.promises.specs.Text.{joint_states}
+use Rattle.promises.specs.Rig.{rig_automaton, start}
 use Rattle.promises.specs.Demand3.{block}
-use Rattle.promises.specs.Calls.{count, countCells, scenarios, scenariosCells, written, index, indexCells, shuffle, shuffled, ScratchKept}
+use Rattle.promises.specs.Calls.{count, count_cells, scenarios, scenarios_cells, written, index, index_cells, shuffle, shuffled, ScratchKept}
 
 unfoldable pub ServedOr : List ℕ → Answer → Type 0
 ServedOr ns a = Served a ⊎ ((n : ℕ) × (p : ℕ) × (a ≡ refused n p) × In n ns)
@@ -28,9 +28,9 @@ Fills a = ServedOr (9 ∷ 10 ∷ 11 ∷ 14 ∷ []) a
 pub record CellsLeft (t : List ℕ) (h : ℕ) (a : Answer) (cells left : List ℕ) : Type 0 where
   pub long : length left ≡ length cells
   -- 'The cell at r × P + x holds N(r, x), or 18,446,744,073,709,551,615 if N(r, x) is that or more.'
-  pub filled : Fills a → (r x : ℕ) → r ≤ h → x < jointStates t → get_or left (r * jointStates t + x) 0 ≡ min (N (rigAutomaton t) r x) most
+  pub filled : Fills a → (r x : ℕ) → r ≤ h → x < joint_states t → get_or left (r * joint_states t + x) 0 ≡ min (N (rig_automaton t) r x) most
   -- 'Cells past (h+1) × P .. keep their contents.'
-  pub past : Fills a → (k : ℕ) → (h + 1) * jointStates t ≤ k → get_or left k 0 ≡ get_or cells k 0
+  pub past : Fills a → (k : ℕ) → (h + 1) * joint_states t ≤ k → get_or left k 0 ≡ get_or cells k 0
   -- 'after every other refusal they .. are untouched'
   pub untouched : (Fills a → ⊥) → left ≡ cells
 
@@ -59,15 +59,15 @@ pub record ScratchLeft (z : ℕ) (a : Answer) (scratch left : List ℕ) : Type 0
   pub untouched : (Served a → ⊥) → left ≡ scratch
 
 pub record Buffers : Type 0 where
-  pub count-cells : (t : List ℕ) (h : ℕ) (cells : List ℕ) → CellsLeft t h (count t h cells) cells (countCells t h cells)
-  pub scenarios-cells : (t : List ℕ) (h : ℕ) (is cells out : List ℕ) → CellsLeft t h (scenarios t h is cells out) cells (scenariosCells t h is cells out)
-  pub index-cells : (t s cells : List ℕ) → CellsLeft t (length s) (index t s cells) cells (indexCells t s cells)
-  pub scenarios-output : (t : List ℕ) (h : ℕ) (is cells out : List ℕ) → OutputLeft (length is * h) (scenarios t h is cells out) out (written t h is cells out)
+  pub count_cells_lem : (t : List ℕ) (h : ℕ) (cells : List ℕ) → CellsLeft t h (count t h cells) cells (count_cells t h cells)
+  pub scenarios_cells_lem : (t : List ℕ) (h : ℕ) (is cells out : List ℕ) → CellsLeft t h (scenarios t h is cells out) cells (scenarios_cells t h is cells out)
+  pub index_cells_lem : (t s cells : List ℕ) → CellsLeft t (length s) (index t s cells) cells (index_cells t s cells)
+  pub scenarios_output : (t : List ℕ) (h : ℕ) (is cells out : List ℕ) → OutputLeft (length is * h) (scenarios t h is cells out) out (written t h is cells out)
   -- 'Scenario number n of the list fills the h output bytes from n × h.'
-  pub scenarios-written : (t : List ℕ) (h : ℕ) (is cells out : List ℕ) → Served (scenarios t h is cells out) → (n : ℕ) → n < length is
-      → block h n (written t h is cells out) ≡ unrank (rigAutomaton t) h (start t) (get_or is n 0)
-  pub shuffle-output : (n : ℕ) (ds scratch out : List ℕ) → OutputLeft (length ds) (shuffle n ds scratch out) out (shuffled n ds scratch out)
-  pub shuffle-written : (n : ℕ) (ds scratch out : List ℕ) → Served (shuffle n ds scratch out) → take (length ds) (shuffled n ds scratch out) ≡ swapping.shuffle ds
+  pub scenarios_written : (t : List ℕ) (h : ℕ) (is cells out : List ℕ) → Served (scenarios t h is cells out) → (n : ℕ) → n < length is
+      → block h n (written t h is cells out) ≡ unrank (rig_automaton t) h (start t) (get_or is n 0)
+  pub shuffle_output : (n : ℕ) (ds scratch out : List ℕ) → OutputLeft (length ds) (shuffle n ds scratch out) out (shuffled n ds scratch out)
+  pub shuffle_written : (n : ℕ) (ds scratch out : List ℕ) → Served (shuffle n ds scratch out) → take (length ds) (shuffled n ds scratch out) ≡ swapping.shuffle ds
   -- what the contract of Shuffle says of the scratch is just this
-  pub shuffle-scratch : (n : ℕ) (ds scratch out left : List ℕ)
+  pub shuffle_scratch : (n : ℕ) (ds scratch out left : List ℕ)
       → ScratchKept (shuffle n ds scratch out) ds scratch left ↔ ScratchLeft (length ds) (shuffle n ds scratch out) scratch left

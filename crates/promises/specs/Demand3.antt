@@ -18,7 +18,7 @@ use mathlib.Core.List.{List, [], ◌∷◌, Memᴰ as In}
 use Rattle.lists.specs.Lists.{Sample}
 use Rattle.automaton.specs.Counting.{most}
 use Rattle.promises.specs.Answer.{Answer, served, Served, SaysNone, Refuses}
-use Rattle.promises.specs.Text.{Readable, Case7, Case8, Case8·scratch, Case12, Case12·draws, Case13}
+use Rattle.promises.specs.Text.{Readable, Case7, Case8, Case8Scratch, Case12, Case12Draws, Case13}
 use Rattle.promises.specs.Meaning.{Belongs, Comes}
 
 -- each element of l is at one place only
@@ -32,8 +32,8 @@ ValidDraws n ds = (i : ℕ) → i < length ds → (i ≤ get_or ds i 0) × (get_
 -- valid draws, and buffers as sized: 'neither case 8 nor case 12 holds of them'
 pub record Shufflable (n : ℕ) (ds scratch out : List ℕ) : Type 0 where
   pub valid : ValidDraws n ds
-  pub scratch-room : Case8·scratch ds scratch → ⊥
-  pub output-room : Case12·draws ds out → ⊥
+  pub scratch_room : Case8Scratch ds scratch → ⊥
+  pub output_room : Case12Draws ds out → ⊥
 
 -- Buffers are their contents before the call.
 pub record Calls : Type 0 where
@@ -72,7 +72,7 @@ module _ (C : Calls) where
     -- ''None' is refusal 9, from Count, Scenarios and Index alike'; it 'is said exactly when none belongs'
     pub record None : Type 0 where
       pub by_count : (cells : List ℕ) → Cells cells → SaysNone (count t h cells) ↔ ((w : List ℕ) → Belongs t h w → ⊥)
-      pub by-scenarios : (is cells out : List ℕ) → Cells cells → Room is out → SaysNone (scenarios t h is cells out) ↔ ((w : List ℕ) → Belongs t h w → ⊥)
+      pub by_scenarios : (is cells out : List ℕ) → Cells cells → Room is out → SaysNone (scenarios t h is cells out) ↔ ((w : List ℕ) → Belongs t h w → ⊥)
       pub by_index : (s cells : List ℕ) → Cells cells → length s ≡ h → ((p : ℕ) → Case13 t s p → ⊥)
           → SaysNone (index t s cells) ↔ ((w : List ℕ) → Belongs t h w → ⊥)
 

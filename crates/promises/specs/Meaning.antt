@@ -7,7 +7,7 @@
 --   StillDue .. s w     == it has none, and may have one after w
 --   Replied .. w        == the sentence of `reply`, a, b, lo, hi: every a of w has its reply, or it is still due
 --   NoneDue .. w        == every a of w has its reply
---   stepBy ps e         == the step that the first `amp` line of ps that does so gives event e
+--   step_by ps e         == the step that the first `amp` line of ps that does so gives event e
 --   step_of ps e         == the step of event e by the lines ps
 --   sum_of d w           == the steps d of the events of w, together
 --   InBand lo hi x      == the difference x is from lo to hi
@@ -25,7 +25,7 @@
 --   CarriedOn t w k     == w can be carried on by k events, or by fewer to a stoppable state
 --   Belongs t h w       == w has h events, every monitor admits it, and it can be so carried on by any further number of events
 --   JointState ms xs    == xs is a joint state of the monitors ms: a state of each, in their order
---   startsOf ms         == the one that they start in
+--   starts_of ms         == the one that they start in
 --   Every P ms xs w     == P holds of each monitor, of its state in xs and of w
 --   AllAdmitFrom t xs w, AllMayStopFrom t xs w, CarriedOnFrom t xs w k == the same as AllAdmit, AllMayStop and CarriedOn, from the joint state xs
 --   Departure t w       == there is no joint state from which every monitor admits w and it can then be so carried on
@@ -37,7 +37,7 @@ use Rattle.std.specs.Prelude.{◌≡◌, ◌⊎◌, ℕ, zero, suc, ◌+◌, ◌
 use mathlib.Core.List.{List, [], ◌∷◌, ◌++◌, map, Memᴰ as In}
 use Rattle.std.proofs.Math.Option.{Option, none, some, get_or}
 use Rattle.lists.specs.Lists.{pick, index_of, first_of}
-use Rattle.promises.specs.Text.{Kind, mon, gap, reply, bal, day, Part, go, stop, amp, opens, Line, Monitor, monitors, statesOf, start_of, eventsOf, order_of, decoded}
+use Rattle.promises.specs.Text.{Kind, mon, gap, reply, bal, day, Part, go, stop, amp, opens, Line, Monitor, monitors, states_of, start_of, events_of, order_of, decoded}
 
 unfoldable pub Stands : ℕ → List ℕ → ℕ → Type 0
 Stands e [] i = ⊥
@@ -82,18 +82,18 @@ module _ (a b lo hi : ℕ) where
 -- ---- `bal` (02 no. 6)
 
 -- 'Each following `amp`, e, d line gives event e a signed step d'
-unfoldable pub stepIn : ℕ → Part → Option ℤ
-stepIn e (go a b c) = none
-stepIn e (stop a) = none
-stepIn e (amp f d) = pick (eqb f e) (some d) none
-stepIn e (opens f a b) = none
+unfoldable pub step_in : ℕ → Part → Option ℤ
+step_in e (go a b c) = none
+step_in e (stop a) = none
+step_in e (amp f d) = pick (eqb f e) (some d) none
+step_in e (opens f a b) = none
 
-abbrev pub stepBy : List Part → ℕ → Option ℤ
-stepBy ps e = first_of (stepIn e) ps
+abbrev pub step_by : List Part → ℕ → Option ℤ
+step_by ps e = first_of (step_in e) ps
 
 -- 'an event without one has step 0'
 unfoldable pub step_of : List Part → ℕ → ℤ
-step_of ps e = get_or (stepBy ps e) (pos 0)
+step_of ps e = get_or (step_by ps e) (pos 0)
 
 unfoldable pub sum_of : (ℕ → ℤ) → List ℕ → ℤ
 sum_of d [] = pos 0
@@ -151,7 +151,7 @@ MayStop m s w = Ends m.kind m.parts s w
 
 -- 'Events are 0 to E−1'
 unfoldable pub BelowE : List ℕ → List ℕ → Type 0
-BelowE t w = (e : ℕ) → In e w → e < eventsOf (decoded t)
+BelowE t w = (e : ℕ) → In e w → e < events_of (decoded t)
 
 pub record AllAdmit (t w : List ℕ) : Type 0 where
   pub events : BelowE t w
@@ -178,10 +178,10 @@ unfoldable pub JointState : List Monitor → List ℕ → Type 0
 JointState [] [] = Unit {0}
 JointState [] (x ∷ xs) = ⊥
 JointState (m ∷ ms) [] = ⊥
-JointState (m ∷ ms) (x ∷ xs) = (x < statesOf m.kind) × JointState ms xs
+JointState (m ∷ ms) (x ∷ xs) = (x < states_of m.kind) × JointState ms xs
 
-unfoldable pub startsOf : List Monitor → List ℕ
-startsOf ms = map (λ m. start_of m.kind) ms
+unfoldable pub starts_of : List Monitor → List ℕ
+starts_of ms = map (λ m. start_of m.kind) ms
 
 unfoldable pub Every : (Monitor → ℕ → List ℕ → Type 0) → List Monitor → List ℕ → List ℕ → Type 0
 Every P [] xs w = Unit {0}

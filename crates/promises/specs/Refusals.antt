@@ -9,7 +9,7 @@ use Rattle.std.specs.Prelude.{◌≡◌, ◌↔◌, ◌⊎◌, ℕ, suc, ◌≤�
 use mathlib.Core.List.{List, Memᴰ as In}
 use Rattle.automaton.specs.Counting.{most}
 use Rattle.promises.specs.Answer.{Answer, refused}
-use Rattle.promises.specs.Text.{Readable, Fault, Case7, Case8, Case8·scratch, Case12, Case12·draws, Case13}
+use Rattle.promises.specs.Text.{Readable, Fault, Case7, Case8, Case8Scratch, Case12, Case12Draws, Case13}
 use Rattle.promises.specs.Meaning.{Belongs}
 use Rattle.promises.specs.Demand3.{Calls, Once}
 
@@ -44,31 +44,31 @@ module _ (C : Calls) where
 
   pub record Refusals : Type 0 where
     -- rows 1 to 8 and 16 to 18
-    pub count-early : (t : List ℕ) (h : ℕ) (cells : List ℕ) → EarlyRows t h cells (count t h cells)
-    pub scenarios-early : (t : List ℕ) (h : ℕ) (is cells out : List ℕ) → EarlyRows t h cells (scenarios t h is cells out)
-    pub index-early : (t s cells : List ℕ) → EarlyRows t (length s) cells (index t s cells)
+    pub count_early : (t : List ℕ) (h : ℕ) (cells : List ℕ) → EarlyRows t h cells (count t h cells)
+    pub scenarios_early : (t : List ℕ) (h : ℕ) (is cells out : List ℕ) → EarlyRows t h cells (scenarios t h is cells out)
+    pub index_early : (t s cells : List ℕ) → EarlyRows t (length s) cells (index t s cells)
     -- 12: 'output shorter than list length × h'
-    pub scenarios-12 : (t : List ℕ) (h : ℕ) (is cells out : List ℕ) → Sized t h cells → Case12 h is out → scenarios t h is cells out ≡ refused 12 0
+    pub scenarios_12 : (t : List ℕ) (h : ℕ) (is cells out : List ℕ) → Sized t h cells → Case12 h is out → scenarios t h is cells out ≡ refused 12 0
     -- 13: 'event byte E or more', 'position, from 0'
-    pub index-13 : (t s cells : List ℕ) (p : ℕ) → Sized t (length s) cells → Case13 t s p → ((q : ℕ) → q < p → Case13 t s q → ⊥) → index t s cells ≡ refused 13 p
+    pub index_13 : (t s cells : List ℕ) (p : ℕ) → Sized t (length s) cells → Case13 t s p → ((q : ℕ) → q < p → Case13 t s q → ⊥) → index t s cells ≡ refused 13 p
     -- 9: 'N is 0'
-    pub count-9 : (t : List ℕ) (h : ℕ) (cells : List ℕ) → Sized t h cells → ((w : List ℕ) → Belongs t h w → ⊥) → count t h cells ≡ refused 9 0
-    pub scenarios-9 : (t : List ℕ) (h : ℕ) (is cells out : List ℕ) → Sized t h cells → (Case12 h is out → ⊥) → ((w : List ℕ) → Belongs t h w → ⊥)
+    pub count_9 : (t : List ℕ) (h : ℕ) (cells : List ℕ) → Sized t h cells → ((w : List ℕ) → Belongs t h w → ⊥) → count t h cells ≡ refused 9 0
+    pub scenarios_9 : (t : List ℕ) (h : ℕ) (is cells out : List ℕ) → Sized t h cells → (Case12 h is out → ⊥) → ((w : List ℕ) → Belongs t h w → ⊥)
         → scenarios t h is cells out ≡ refused 9 0
-    pub index-9 : (t s cells : List ℕ) → Sized t (length s) cells → ((p : ℕ) → Case13 t s p → ⊥) → ((w : List ℕ) → Belongs t (length s) w → ⊥) → index t s cells ≡ refused 9 0
+    pub index_9 : (t s cells : List ℕ) → Sized t (length s) cells → ((p : ℕ) → Case13 t s p → ⊥) → ((w : List ℕ) → Belongs t (length s) w → ⊥) → index t s cells ≡ refused 9 0
     -- 10: 'N is 18,446,744,073,709,551,615 or more'
-    pub count-10 : (t : List ℕ) (h : ℕ) (cells : List ℕ) → Sized t h cells → Many t h → count t h cells ≡ refused 10 0
-    pub scenarios-10 : (t : List ℕ) (h : ℕ) (is cells out : List ℕ) → Sized t h cells → (Case12 h is out → ⊥) → Many t h → scenarios t h is cells out ≡ refused 10 0
-    pub index-10 : (t s cells : List ℕ) → Sized t (length s) cells → ((p : ℕ) → Case13 t s p → ⊥) → Many t (length s) → index t s cells ≡ refused 10 0
+    pub count_10 : (t : List ℕ) (h : ℕ) (cells : List ℕ) → Sized t h cells → Many t h → count t h cells ≡ refused 10 0
+    pub scenarios_10 : (t : List ℕ) (h : ℕ) (is cells out : List ℕ) → Sized t h cells → (Case12 h is out → ⊥) → Many t h → scenarios t h is cells out ≡ refused 10 0
+    pub index_10 : (t s cells : List ℕ) → Sized t (length s) cells → ((p : ℕ) → Case13 t s p → ⊥) → Many t (length s) → index t s cells ≡ refused 10 0
     -- 11: 'index not below N', 'position in list'
-    pub scenarios-11 : (t : List ℕ) (h : ℕ) (is cells out : List ℕ) (L : List (List ℕ)) (p : ℕ) → Sized t h cells → (Case12 h is out → ⊥) → Countable t h L
+    pub scenarios_11 : (t : List ℕ) (h : ℕ) (is cells out : List ℕ) (L : List (List ℕ)) (p : ℕ) → Sized t h cells → (Case12 h is out → ⊥) → Countable t h L
         → p < length is → length L ≤ get_or is p 0 → ((q : ℕ) → q < p → get_or is q 0 < length L) → scenarios t h is cells out ≡ refused 11 p
     -- 14: 'sequence no scenario'; 'first event that isn't admitted or leads to a state not live': with it, and not before it, the sequence is
     -- one that can't be carried on
-    pub index-14 : (t s cells : List ℕ) (L : List (List ℕ)) (p : ℕ) → Sized t (length s) cells → ((p : ℕ) → Case13 t s p → ⊥) → Countable t (length s) L
+    pub index_14 : (t s cells : List ℕ) (L : List (List ℕ)) (p : ℕ) → Sized t (length s) cells → ((p : ℕ) → Case13 t s p → ⊥) → Countable t (length s) L
         → p < length s → Belongs t p (take p s) → (Belongs t (suc p) (take (suc p) s) → ⊥) → index t s cells ≡ refused 14 p
     -- the shuffle's rows: 8, 12, and 15: 'draw out of range', 'position'
-    pub shuffle-8 : (n : ℕ) (ds scratch out : List ℕ) → Case8·scratch ds scratch → shuffle n ds scratch out ≡ refused 8 0
-    pub shuffle-12 : (n : ℕ) (ds scratch out : List ℕ) → (Case8·scratch ds scratch → ⊥) → Case12·draws ds out → shuffle n ds scratch out ≡ refused 12 0
-    pub shuffle-15 : (n : ℕ) (ds scratch out : List ℕ) (p : ℕ) → (Case8·scratch ds scratch → ⊥) → (Case12·draws ds out → ⊥)
+    pub shuffle_8 : (n : ℕ) (ds scratch out : List ℕ) → Case8Scratch ds scratch → shuffle n ds scratch out ≡ refused 8 0
+    pub shuffle_12 : (n : ℕ) (ds scratch out : List ℕ) → (Case8Scratch ds scratch → ⊥) → Case12Draws ds out → shuffle n ds scratch out ≡ refused 12 0
+    pub shuffle_15 : (n : ℕ) (ds scratch out : List ℕ) (p : ℕ) → (Case8Scratch ds scratch → ⊥) → (Case12Draws ds out → ⊥)
         → p < length ds → (get_or ds p 0 < p) ⊎ (n ≤ get_or ds p 0) → ((q : ℕ) → q < p → (q ≤ get_or ds q 0) × (get_or ds q 0 < n)) → shuffle n ds scratch out ≡ refused 15 p

@@ -10,13 +10,13 @@ use mathlib.Core.List.{List, [], ◌∷◌, ◌++◌, Memᴰ as In}
 use Rattle.std.proofs.Math.Option.{some}
 use Rattle.automaton.specs.Automaton as automaton
 use Rattle.automaton.specs.Automaton.{Over, walk}
-use Rattle.promises.specs.Text.{Kind, gap, reply, Part, go, stop, amp, opens, Line, begins, continues, Monitor, monitors, latest, statesOf, start_of, eventsOf, product, order_of, decoded, OutOfRange, Equal, IsMon, Case1, AllSound, Readable, Fault}
+use Rattle.promises.specs.Text.{Kind, gap, reply, Part, go, stop, amp, opens, Line, begins, continues, Monitor, monitors, latest, states_of, start_of, events_of, product, order_of, decoded, OutOfRange, Equal, IsMon, Case1, AllSound, Readable, Fault}
 use Rattle.promises.specs.Meaning.{Stands, Apart, Admits, MayStop, BelowE}
-use Rattle.promises.specs.Rig.{monitorOf}
+use Rattle.promises.specs.Rig.{monitor_of}
 
 pub record Agrees (es : List ℕ) (m : Monitor) : Type 0 where
-  pub admits : (s : ℕ) (w : List ℕ) → s < statesOf m.kind → automaton.Admits (monitorOf es m) s w ↔ (Over es w × Admits m s w)
-  pub stops : (s : ℕ) (w : List ℕ) → automaton.Admits (monitorOf es m) s w → ((monitorOf es m).stop (walk (monitorOf es m) s w) ≡ true) ↔ MayStop m s w
+  pub admits : (s : ℕ) (w : List ℕ) → s < states_of m.kind → automaton.Admits (monitor_of es m) s w ↔ (Over es w × Admits m s w)
+  pub stops : (s : ℕ) (w : List ℕ) → automaton.Admits (monitor_of es m) s w → ((monitor_of es m).stop (walk (monitor_of es m) s w) ≡ true) ↔ MayStop m s w
 
 -- 'after a, some b comes lo to hi steps later .. Until the first such b a further a isn't admitted .. A reply still due at the horizon is no fault.'
 unfoldable pub RepliedAt : ℕ → ℕ → ℕ → ℕ → List ℕ → Type 0
@@ -53,28 +53,28 @@ pub record Sentences : Type 0 where
   -- so of every monitor of a readable text, whatever its kind: 'A user reading the sentence gets what the third demand says of monitors.'
   pub each : (t : List ℕ) → Readable t → (m : Monitor) → In m (monitors (decoded t)) → Agrees (order_of (decoded t)) m
   -- in other states a monitor says what is left of its sentence: it admits v and then w just if it admits v, and w in the state that v led to
-  pub continued : (t : List ℕ) → Readable t → (m : Monitor) → In m (monitors (decoded t)) → (s : ℕ) (v w : List ℕ) → s < statesOf m.kind → BelowE t v → BelowE t w
-      → Admits m s (v ++ w) ↔ (Admits m s v × Admits m (walk (monitorOf (order_of (decoded t)) m) s v) w)
+  pub continued : (t : List ℕ) → Readable t → (m : Monitor) → In m (monitors (decoded t)) → (s : ℕ) (v w : List ℕ) → s < states_of m.kind → BelowE t v → BelowE t w
+      → Admits m s (v ++ w) ↔ (Admits m s v × Admits m (walk (monitor_of (order_of (decoded t)) m) s v) w)
   -- and where it admits both, it may stop after them just if it may stop after w in that state
-  pub continued-stops : (t : List ℕ) → Readable t → (m : Monitor) → In m (monitors (decoded t)) → (s : ℕ) (v w : List ℕ) → s < statesOf m.kind → BelowE t v → BelowE t w
-      → Admits m s (v ++ w) → MayStop m s (v ++ w) ↔ MayStop m (walk (monitorOf (order_of (decoded t)) m) s v) w
+  pub continued_stops : (t : List ℕ) → Readable t → (m : Monitor) → In m (monitors (decoded t)) → (s : ℕ) (v w : List ℕ) → s < states_of m.kind → BelowE t v → BelowE t w
+      → Admits m s (v ++ w) → MayStop m s (v ++ w) ↔ MayStop m (walk (monitor_of (order_of (decoded t)) m) s v) w
   -- in the start state, 'two occurrences of e are at least n steps apart', and no more
-  pub gap-plain : (e n : ℕ) (ps : List Part) (w : List ℕ) → Admits (record { kind = gap e n; parts = ps }) (start_of (gap e n)) w ↔ Apart e n w
+  pub gap_plain : (e n : ℕ) (ps : List Part) (w : List ℕ) → Admits (record { kind = gap e n; parts = ps }) (start_of (gap e n)) w ↔ Apart e n w
   -- and the sentence of `reply`, by the places at which a and b stand
-  pub reply-plain : (a b lo hi : ℕ) (ps : List Part) (w : List ℕ) → 1 ≤ lo → Admits (record { kind = reply a b lo hi; parts = ps }) (start_of (reply a b lo hi)) w ↔ RepliedAt a b lo hi w
+  pub reply_plain : (a b lo hi : ℕ) (ps : List Part) (w : List ℕ) → 1 ≤ lo → Admits (record { kind = reply a b lo hi; parts = ps }) (start_of (reply a b lo hi)) w ↔ RepliedAt a b lo hi w
   -- 'All `gap` states are marked `stop`, of `reply` only state 0.'
-  pub gap-marked : (e n : ℕ) (ps : List Part) (s : ℕ) → MayStop (record { kind = gap e n; parts = ps }) s []
-  pub reply-marked : (a b lo hi : ℕ) (ps : List Part) (s : ℕ) → MayStop (record { kind = reply a b lo hi; parts = ps }) s [] ↔ (s ≡ 0)
+  pub gap_marked : (e n : ℕ) (ps : List Part) (s : ℕ) → MayStop (record { kind = gap e n; parts = ps }) s []
+  pub reply_marked : (a b lo hi : ℕ) (ps : List Part) (s : ℕ) → MayStop (record { kind = reply a b lo hi; parts = ps }) s [] ↔ (s ≡ 0)
   -- it 'counts as a `mon` in 3, 5 and 6': a line of any kind is 5 as the first line, 3 out of range or as the fifth monitor
   pub not_first : (t : List ℕ) (k : Kind) (back : List Line) → (Case1 t → ⊥) → decoded t ≡ begins k ∷ back → Fault t 5 1
-  pub out_of_range : (t : List ℕ) (front : List Line) (k : Kind) → Begins t front k → OutOfRange (eventsOf front) k → Fault t 3 (suc (length front))
+  pub out_of_range : (t : List ℕ) (front : List Line) (k : Kind) → Begins t front k → OutOfRange (events_of front) k → Fault t 3 (suc (length front))
   pub fifth : (t : List ℕ) (front : List Line) (k : Kind) → Begins t front k → 4 ≤ length (monitors front) → Fault t 3 (suc (length front))
   -- '17, a equals b, place the line, after 3': also where P is over 1,024
-  pub equal : (t : List ℕ) (front : List Line) (k : Kind) → Begins t front k → (OutOfRange (eventsOf front) k → ⊥) → length (monitors front) < 4 → Equal k
+  pub equal : (t : List ℕ) (front : List Line) (k : Kind) → Begins t front k → (OutOfRange (events_of front) k → ⊥) → length (monitors front) < 4 → Equal k
       → Fault t 17 (suc (length front))
   -- and 6 where it is
-  pub too_many : (t : List ℕ) (front : List Line) (k : Kind) → Begins t front k → (OutOfRange (eventsOf front) k → ⊥) → length (monitors front) < 4 → (Equal k → ⊥)
-      → 1024 < product (monitors front) * statesOf k → Fault t 6 (suc (length front))
+  pub too_many : (t : List ℕ) (front : List Line) (k : Kind) → Begins t front k → (OutOfRange (events_of front) k → ⊥) → length (monitors front) < 4 → (Equal k → ⊥)
+      → 1024 < product (monitors front) * states_of k → Fault t 6 (suc (length front))
   -- 'A `go` or `stop` is 5 if the latest monitor isn't a `mon`', or there is none, whatever its numbers
-  pub not-mon : (t : List ℕ) (front : List Line) (p : Part) → OfMon p → Continues t front p → ((m : Monitor) → latest (monitors front) ≡ some m → IsMon m.kind → ⊥)
+  pub not_mon : (t : List ℕ) (front : List Line) (p : Part) → OfMon p → Continues t front p → ((m : Monitor) → latest (monitors front) ≡ some m → IsMon m.kind → ⊥)
       → Fault t 5 (suc (length front))

@@ -15,8 +15,8 @@ module _ (C : Calls) where
 
   pub record Shapes : Type 0 where
     -- 'Gives N and the passes.'
-    pub of-count : (t : List ℕ) (h : ℕ) (cells : List ℕ) → Shaped 2 (count t h cells)
-    pub of-scenarios : (t : List ℕ) (h : ℕ) (is cells out : List ℕ) → Shaped 0 (scenarios t h is cells out)
+    pub of_count : (t : List ℕ) (h : ℕ) (cells : List ℕ) → Shaped 2 (count t h cells)
+    pub of_scenarios : (t : List ℕ) (h : ℕ) (is cells out : List ℕ) → Shaped 0 (scenarios t h is cells out)
     -- 'Gives its index.'
-    pub of-index : (t s cells : List ℕ) → Shaped 1 (index t s cells)
-    pub of-shuffle : (n : ℕ) (ds scratch out : List ℕ) → Shaped 0 (shuffle n ds scratch out)
+    pub of_index : (t s cells : List ℕ) → Shaped 1 (index t s cells)
+    pub of_shuffle : (n : ℕ) (ds scratch out : List ℕ) → Shaped 0 (shuffle n ds scratch out)

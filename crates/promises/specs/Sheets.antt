@@ -1,7 +1,7 @@
 -- Sheets of bench commands (02 no. 12; source document 002).
 --   Command           == a line of the sheet: load j, run es, save j
 --   shared a b        == how many events a and b begin with alike
---   slotFor g prev s  == the slot that the scenario s loads, prev being the one before it; depthFor its depth
+--   slot_for g prev s  == the slot that the scenario s loads, prev being the one before it; depth_for its depth
 --   tail g prev s     == what is left of s after that depth
 --   leg g j es        == the run es, and the save of slot j where it ends at that slot's depth
 --   legs f g j rest   == the commands after the load of slot j, `rest` being what is left of the scenario, in at most f legs
@@ -9,22 +9,22 @@
 --   previous ss k     == the scenario before number k, and nothing before the first
 --   sheet g ss m      == the commands for the scenarios ss 0 .. ss (m−1)
 --   events cs         == how many events the runs of cs have together
---   commandLine c, text cs  == a command as a line, and commands as a text
+--   command_line c, text cs  == a command as a line, and commands as a text
 --   scenario h scenarios k  == scenario number k of those that were filled
---   sheetText m h g scenarios == the bytes of the sheet
---   sheetCall, sheetOutput  == the call's answer, and the output afterwards
--- and in words, apart from the definitions above but `events`, and `sheetText` for the length of the sheet:
+--   sheet_text m h g scenarios == the bytes of the sheet
+--   sheet_call, sheet_output  == the call's answer, and the output afterwards
+-- and in words, apart from the definitions above but `events`, and `sheet_text` for the length of the sheet:
 --   Bench             == the plain machine: a current sequence, and slots
 --   step b c          == the machine after a command
 --   arrivals b cs     == where the machine stands before each load, and at the end
---   savesNext cs      == the slot that the next command saves, if it is a save
+--   saves_next cs      == the slot that the next command saves, if it is a save
 --   Allowed g h b c cs, Proper g h b cs == the command c, after which cs stand, or each of the commands cs, is as the request says
 --   loads cs          == the slots that are loaded
 --   Shares n a b      == a and b begin with the same n events
 --   Deepest g a s j   == slot j is that of the deepest depth within the start that a and s share
 --   command l         == the command that a line is, if it is one
 --   Drives            == a text that reads as commands, with what they do on the bench
---   Case20, Case12·sheet, SheetReady == the cases of refusal; none holds
+--   Case20, Case12Sheet, SheetReady == the cases of refusal; none holds
 --   SheetOwed         == what the call owes
 --   SheetExamples     == small sheets
 -- Checks go 7, 20, 12. Assumes nothing.
@@ -35,7 +35,7 @@ use Rattle.lists.specs.Lists.{pick, sum, tabulate, stack}
 use Rattle.promises.specs.Answer.{Answer, served, refused, Served, unless}
 use Rattle.promises.specs.Text.{lines, unended, fields, numbers, same, bytes, Case7}
 use Rattle.promises.specs.Spelling.{spelled, joined}
-use Rattle.promises.specs.Calls.{outputAfter}
+use Rattle.promises.specs.Calls.{output_after}
 use Rattle.promises.specs.Demand3.{block}
 use Rattle.promises.specs.Buffers.{OutputLeft}
 use Rattle.promises.specs.Shapes.{Shaped}
@@ -55,15 +55,15 @@ shared (x ∷ a) [] = 0
 shared (x ∷ a) (y ∷ b) = pick (eqb x y) (suc (shared a b)) 0
 
 -- 'Slot j is for depth j × g'; 'Each scenario loads the deepest such depth within the start it shares with the one before'
-unfoldable pub slotFor : ℕ → List ℕ → List ℕ → ℕ
-slotFor g prev s = shared prev s / g
+unfoldable pub slot_for : ℕ → List ℕ → List ℕ → ℕ
+slot_for g prev s = shared prev s / g
 
-unfoldable pub depthFor : ℕ → List ℕ → List ℕ → ℕ
-depthFor g prev s = slotFor g prev s * g
+unfoldable pub depth_for : ℕ → List ℕ → List ℕ → ℕ
+depth_for g prev s = slot_for g prev s * g
 
 -- 'The tail of the new scenario after the loaded depth is handed on'
 unfoldable pub tail : ℕ → List ℕ → List ℕ → List ℕ
-tail g prev s = drop (depthFor g prev s) s
+tail g prev s = drop (depth_for g prev s) s
 
 -- 'saves at each depth reached after the load'
 unfoldable pub leg : ℕ → ℕ → List ℕ → List Command
@@ -77,7 +77,7 @@ legs (suc f) g j (e ∷ rest) = leg g (suc j) (take g (e ∷ rest)) ++ legs f g 
 
 -- as many legs as events are enough
 unfoldable pub part : ℕ → List ℕ → List ℕ → List Command
-part g prev s = load (slotFor g prev s) ∷ legs (length (tail g prev s)) g (slotFor g prev s) (tail g prev s)
+part g prev s = load (slot_for g prev s) ∷ legs (length (tail g prev s)) g (slot_for g prev s) (tail g prev s)
 
 -- ---- the sheet
 
@@ -96,13 +96,13 @@ events (run es ∷ cs) = length es + events cs
 events (save j ∷ cs) = events cs
 
 -- 'They are written as rig text lines are, each event byte as a number'
-unfoldable pub commandLine : Command → List ℕ
-commandLine (load j) = spelled "load" (j ∷ [])
-commandLine (run es) = spelled "run" es
-commandLine (save j) = spelled "save" (j ∷ [])
+unfoldable pub command_line : Command → List ℕ
+command_line (load j) = spelled "load" (j ∷ [])
+command_line (run es) = spelled "run" es
+command_line (save j) = spelled "save" (j ∷ [])
 
 unfoldable pub text : List Command → List ℕ
-text cs = joined (map commandLine cs)
+text cs = joined (map command_line cs)
 
 -- ---- the call
 
@@ -110,19 +110,19 @@ text cs = joined (map commandLine cs)
 unfoldable pub scenario : ℕ → List ℕ → ℕ → List ℕ
 scenario h scenarios k = block h k scenarios
 
-unfoldable pub sheetText : ℕ → ℕ → ℕ → List ℕ → List ℕ
-sheetText m h g scenarios = text (sheet g (scenario h scenarios) m)
+unfoldable pub sheet_text : ℕ → ℕ → ℕ → List ℕ → List ℕ
+sheet_text m h g scenarios = text (sheet g (scenario h scenarios) m)
 
 -- 7; 20: 'g is 0, place 0, between 7 and 12'; 'Fewer bytes, or an output shorter than the sheet, are 12.' 'its length in bytes and the event total are reported'
-unfoldable pub sheetCall : ℕ → ℕ → ℕ → List ℕ → List ℕ → Answer
-sheetCall m h g scenarios out =
+unfoldable pub sheet_call : ℕ → ℕ → ℕ → List ℕ → List ℕ → Answer
+sheet_call m h g scenarios out =
     unless 7 0 (ltb 1000 h)
     (unless 20 0 (eqb g 0)
-    (unless 12 0 (ltb (length scenarios) (m * h) || ltb (length out) (length (sheetText m h g scenarios)))
-    (served (length (sheetText m h g scenarios) ∷ events (sheet g (scenario h scenarios) m) ∷ []))))
+    (unless 12 0 (ltb (length scenarios) (m * h) || ltb (length out) (length (sheet_text m h g scenarios)))
+    (served (length (sheet_text m h g scenarios) ∷ events (sheet g (scenario h scenarios) m) ∷ []))))
 
-unfoldable pub sheetOutput : ℕ → ℕ → ℕ → List ℕ → List ℕ → List ℕ
-sheetOutput m h g scenarios out = outputAfter (sheetCall m h g scenarios out) (sheetText m h g scenarios) out
+unfoldable pub sheet_output : ℕ → ℕ → ℕ → List ℕ → List ℕ → List ℕ
+sheet_output m h g scenarios out = output_after (sheet_call m h g scenarios out) (sheet_text m h g scenarios) out
 
 -- ---- the bench
 
@@ -144,20 +144,20 @@ arrivals b (load j ∷ cs) = b.current ∷ arrivals (step b (load j)) cs
 arrivals b (run es ∷ cs) = arrivals (step b (run es)) cs
 arrivals b (save j ∷ cs) = arrivals (step b (save j)) cs
 
-unfoldable pub savesNext : List Command → Option ℕ
-savesNext [] = none
-savesNext (load j ∷ cs) = none
-savesNext (run es ∷ cs) = none
-savesNext (save j ∷ cs) = some j
+unfoldable pub saves_next : List Command → Option ℕ
+saves_next [] = none
+saves_next (load j ∷ cs) = none
+saves_next (run es ∷ cs) = none
+saves_next (save j ∷ cs) = some j
 
 -- 'Slot j is for depth j × g'; 'A `run` ends at the next such depth or at h, and an empty one isn't written'; 'saves at each depth reached after the load', and
 -- so after a run only
 unfoldable pub Allowed : ℕ → ℕ → Bench → Command → List Command → Type 0
-Allowed g h b (load j) cs = (length (b.slot j) ≡ j * g) × (savesNext cs ≡ none)
+Allowed g h b (load j) cs = (length (b.slot j) ≡ j * g) × (saves_next cs ≡ none)
 Allowed g h b (run es) cs =
     let depth = length b.current + length es in
-    (0 < length es) × (depth ≡ min h ((length b.current / g + 1) * g)) × (savesNext cs ≡ pick (eqb (depth % g) 0) (some (depth / g)) none)
-Allowed g h b (save j) cs = (length b.current ≡ j * g) × (savesNext cs ≡ none)
+    (0 < length es) × (depth ≡ min h ((length b.current / g + 1) * g)) × (saves_next cs ≡ pick (eqb (depth % g) 0) (some (depth / g)) none)
+Allowed g h b (save j) cs = (length b.current ≡ j * g) × (saves_next cs ≡ none)
 
 unfoldable pub Proper : ℕ → ℕ → Bench → List Command → Type 0
 Proper g h b [] = Unit {0}
@@ -178,22 +178,22 @@ Deepest g a s j = Shares (j * g) a s × ((i : ℕ) → Shares (i * g) a s → i 
 
 -- ---- a line read as rig text lines are
 
-unfoldable pub asSlot : (ℕ → Command) → Option (List ℕ) → Option Command
-asSlot f none = none
-asSlot f (some []) = none
-asSlot f (some (j ∷ [])) = some (f j)
-asSlot f (some (j ∷ (i ∷ ns))) = none
+unfoldable pub as_slot : (ℕ → Command) → Option (List ℕ) → Option Command
+as_slot f none = none
+as_slot f (some []) = none
+as_slot f (some (j ∷ [])) = some (f j)
+as_slot f (some (j ∷ (i ∷ ns))) = none
 
-unfoldable pub asRun : Option (List ℕ) → Option Command
-asRun none = none
-asRun (some es) = some (run es)
+unfoldable pub as_run : Option (List ℕ) → Option Command
+as_run none = none
+as_run (some es) = some (run es)
 
 unfoldable pub form_of : List (List ℕ) → Option Command
 form_of [] = none
 form_of (w ∷ fs) =
-    pick (same w (bytes "load")) (asSlot load (numbers fs))
-    (pick (same w (bytes "run")) (asRun (numbers fs))
-    (pick (same w (bytes "save")) (asSlot save (numbers fs))
+    pick (same w (bytes "load")) (as_slot load (numbers fs))
+    (pick (same w (bytes "run")) (as_run (numbers fs))
+    (pick (same w (bytes "save")) (as_slot save (numbers fs))
     none))
 
 unfoldable pub command : List ℕ → Option Command
@@ -211,43 +211,43 @@ pub record Drives (m h g : ℕ) (ss : ℕ → List ℕ) (written : List ℕ) (by
   -- 'Run on it, the sheet arrives at every scenario, in list order.'
   pub arrives : (b : Bench) → b.slot 0 ≡ [] → arrivals b cs ≡ b.current ∷ tabulate ss m
   -- 'saves at each depth reached after the load', and nothing before the first load
-  pub unsaved : savesNext cs ≡ none
+  pub unsaved : saves_next cs ≡ none
   pub proper : (b : Bench) → b.slot 0 ≡ [] → Proper g h b cs
   -- 'Each scenario loads the deepest such depth within the start it shares with the one before (slot 0 for the first)'
-  pub each-loads : length (loads cs) ≡ m
-  pub first-loads : 0 < m → get_or (loads cs) 0 0 ≡ 0
-  pub next-loads : (k : ℕ) → suc k < m → Deepest g (ss k) (ss (suc k)) (get_or (loads cs) (suc k) 0)
+  pub each_loads : length (loads cs) ≡ m
+  pub first_loads : 0 < m → get_or (loads cs) 0 0 ≡ 0
+  pub next_loads : (k : ℕ) → suc k < m → Deepest g (ss k) (ss (suc k)) (get_or (loads cs) (suc k) 0)
   -- 'the event total'; 'the total equals the sum of h less the loaded depth over all scenarios'
-  pub run-events : events cs ≡ total
-  pub sum-of-tails : sum (λ j. h - j * g) (loads cs) ≡ total
+  pub run_events : events cs ≡ total
+  pub sum_of_tails : sum (λ j. h - j * g) (loads cs) ≡ total
 
 -- 20: 'g is 0'
 unfoldable pub Case20 : ℕ → Type 0
 Case20 g = g ≡ 0
 
 -- 12: 'Fewer bytes, or an output shorter than the sheet'
-unfoldable pub Case12·sheet : ℕ → ℕ → ℕ → List ℕ → List ℕ → Type 0
-Case12·sheet m h g scenarios out = (length scenarios < m * h) ⊎ (length out < length (sheetText m h g scenarios))
+unfoldable pub Case12Sheet : ℕ → ℕ → ℕ → List ℕ → List ℕ → Type 0
+Case12Sheet m h g scenarios out = (length scenarios < m * h) ⊎ (length out < length (sheet_text m h g scenarios))
 
 pub record SheetReady (m h g : ℕ) (scenarios out : List ℕ) : Type 0 where
   pub horizon : Case7 h → ⊥
   pub spaced : Case20 g → ⊥
-  pub room : Case12·sheet m h g scenarios out → ⊥
+  pub room : Case12Sheet m h g scenarios out → ⊥
 
 pub record SheetOwed (m h g : ℕ) (scenarios out : List ℕ) : Type 0 where
-  pub seven : Case7 h → sheetCall m h g scenarios out ≡ refused 7 0
-  pub twenty : (Case7 h → ⊥) → Case20 g → sheetCall m h g scenarios out ≡ refused 20 0
-  pub twelve : (Case7 h → ⊥) → (Case20 g → ⊥) → Case12·sheet m h g scenarios out → sheetCall m h g scenarios out ≡ refused 12 0
-  pub served-just : Served (sheetCall m h g scenarios out) ↔ SheetReady m h g scenarios out
+  pub seven : Case7 h → sheet_call m h g scenarios out ≡ refused 7 0
+  pub twenty : (Case7 h → ⊥) → Case20 g → sheet_call m h g scenarios out ≡ refused 20 0
+  pub twelve : (Case7 h → ⊥) → (Case20 g → ⊥) → Case12Sheet m h g scenarios out → sheet_call m h g scenarios out ≡ refused 12 0
+  pub served_just : Served (sheet_call m h g scenarios out) ↔ SheetReady m h g scenarios out
   -- 'From m scenarios, the m × h bytes': each has h of them
   pub long : SheetReady m h g scenarios out → (k : ℕ) → k < m → length (scenario h scenarios k) ≡ h
   -- 'For a served sheet its length in bytes and the event total are reported'; 'each event byte as a number, and any byte may stand'
   pub drives : SheetReady m h g scenarios out → ((e : ℕ) → In e scenarios → e < 256)
-      → (n : ℕ) × (total : ℕ) × (cs : List Command) × (sheetCall m h g scenarios out ≡ served (n ∷ total ∷ []))
-      × (n ≡ length (sheetText m h g scenarios)) × Drives m h g (scenario h scenarios) (take n (sheetOutput m h g scenarios out)) n total cs
-  pub output-left : OutputLeft (length (sheetText m h g scenarios)) (sheetCall m h g scenarios out) out (sheetOutput m h g scenarios out)
+      → (n : ℕ) × (total : ℕ) × (cs : List Command) × (sheet_call m h g scenarios out ≡ served (n ∷ total ∷ []))
+      × (n ≡ length (sheet_text m h g scenarios)) × Drives m h g (scenario h scenarios) (take n (sheet_output m h g scenarios out)) n total cs
+  pub output_left : OutputLeft (length (sheet_text m h g scenarios)) (sheet_call m h g scenarios out) out (sheet_output m h g scenarios out)
   -- two values are told, and 0 is no number of refusal
-  pub shaped : Shaped 2 (sheetCall m h g scenarios out)
+  pub shaped : Shaped 2 (sheet_call m h g scenarios out)
 
 -- small sheets, worked out apart from the definitions
 pub record SheetExamples : Type 0 where
@@ -257,13 +257,13 @@ pub record SheetExamples : Type 0 where
       ∷ load 2 ∷ run (9 ∷ [])
       ∷ load 1 ∷ run (7 ∷ 7 ∷ []) ∷ save 2 ∷ run (7 ∷ []) ∷ []
   -- one that equals the one before, where g divides h, is its load alone; the rest of the output is kept
-  pub equal : sheetOutput 2 2 2 (16 ∷ 255 ∷ 16 ∷ 255 ∷ 8 ∷ []) (tabulate (λ k. 9) 33) ≡ bytes "load\t0\nrun\t16\t255\nsave\t1\nload\t1\n" ++ 9 ∷ []
-  pub told : sheetCall 2 2 2 (16 ∷ 255 ∷ 16 ∷ 255 ∷ 8 ∷ []) (tabulate (λ k. 9) 33) ≡ served (32 ∷ 2 ∷ [])
-  pub one-byte-short : sheetCall 2 2 2 (16 ∷ 255 ∷ 16 ∷ 255 ∷ 8 ∷ []) (tabulate (λ k. 9) 31) ≡ refused 12 0
+  pub equal : sheet_output 2 2 2 (16 ∷ 255 ∷ 16 ∷ 255 ∷ 8 ∷ []) (tabulate (λ k. 9) 33) ≡ bytes "load\t0\nrun\t16\t255\nsave\t1\nload\t1\n" ++ 9 ∷ []
+  pub told : sheet_call 2 2 2 (16 ∷ 255 ∷ 16 ∷ 255 ∷ 8 ∷ []) (tabulate (λ k. 9) 33) ≡ served (32 ∷ 2 ∷ [])
+  pub one_byte_short : sheet_call 2 2 2 (16 ∷ 255 ∷ 16 ∷ 255 ∷ 8 ∷ []) (tabulate (λ k. 9) 31) ≡ refused 12 0
   -- of no events each scenario is a load
-  pub no-events : sheetOutput 2 0 7 [] (tabulate (λ k. 9) 14) ≡ bytes "load\t0\nload\t0\n"
+  pub no_events : sheet_output 2 0 7 [] (tabulate (λ k. 9) 14) ≡ bytes "load\t0\nload\t0\n"
   -- 7 before 20 before 12
-  pub spaced-0 : sheetCall 1 1 0 [] [] ≡ refused 20 0
-  pub all_three : sheetCall 1 1001 0 [] [] ≡ refused 7 0
+  pub spaced_0 : sheet_call 1 1 0 [] [] ≡ refused 20 0
+  pub all_three : sheet_call 1 1001 0 [] [] ≡ refused 7 0
   -- m × h is meant exactly
-  pub exact : sheetCall 4611686018427387904 4 1 [] [] ≡ refused 12 0
+  pub exact : sheet_call 4611686018427387904 4 1 [] [] ≡ refused 12 0

@@ -9,9 +9,9 @@
 --   decode l           == the line form that l is, with its numbers, or `other` where it is none
 --   decoded t          == the forms of t's lines
 --   monitors ls        == the monitors of the lines ls, first to last, each the line that begins it and its further lines
---   statesOf k         == how many states a monitor of the kind k has
+--   states_of k         == how many states a monitor of the kind k has
 --   start_of k          == the state in which it starts
---   eventsOf ls        == E
+--   events_of ls        == E
 --   order_of ls         == the events, in the order in which they are compared
 --   OutOfRange E k     == a number of a line that begins a monitor of the kind k is out of its range, in a rig with E events
 --   Equal k            == the a and the b of such a line are equal
@@ -19,7 +19,7 @@
 --   Readable t         == no case of a check on the text holds of it
 --   Fault t n p        == the checks on the text, in their order, refuse t with number n and place p
 --   Case7 .. Case13    == the case holds of a horizon, of lent buffers, of a sequence
--- A new line form is one constructor of Kind, Part or Line and its word in `form`; a new Kind has one clause each of `statesOf`, `start_of`, `OutOfRange` and
+-- A new line form is one constructor of Kind, Part or Line and its word in `form`; a new Kind has one clause each of `states_of`, `start_of`, `OutOfRange` and
 -- `Equal`, a new Part one of `cases`, a new Line also what it does to the monitors (`extended`) and to the order of events (`reordered`).
 -- How each form is written is fixed by the theorem of Spelling. Assumes nothing.
 use Rattle.std.specs.Prelude.{◌≡◌, ◌⊎◌, ◌≢◌, Bool, true, false, ◌&&◌, ℕ, zero, suc, ◌+◌, ◌-◌, ◌*◌, ◌≤◌, ◌<◌, ℤ, pos, negsuc, neg_ℤ, nat_abs, ◌-ℤ◌, ◌<ℤ◌, length, get_or, eqb, leb}
@@ -37,9 +37,9 @@ onto x [] = (x ∷ []) ∷ []
 onto x (p ∷ ps) = (x ∷ p) ∷ ps
 
 -- the pieces that byte b parts: one more than there are bytes b
-unfoldable pub splitOn : ℕ → List ℕ → List (List ℕ)
-splitOn b [] = [] ∷ []
-splitOn b (x ∷ xs) = pick (eqb x b) ([] ∷ splitOn b xs) (onto x (splitOn b xs))
+unfoldable pub split_on : ℕ → List ℕ → List (List ℕ)
+split_on b [] = [] ∷ []
+split_on b (x ∷ xs) = pick (eqb x b) ([] ∷ split_on b xs) (onto x (split_on b xs))
 
 unfoldable pub init : List (List ℕ) → List (List ℕ)
 init [] = []
@@ -53,24 +53,24 @@ last_of (p ∷ (q ∷ ps)) = last_of (q ∷ ps)
 
 -- 'A line ends with byte 10'
 unfoldable pub lines : List ℕ → List (List ℕ)
-lines t = init (splitOn 10 t)
+lines t = init (split_on 10 t)
 
 unfoldable pub unended : List ℕ → List ℕ
-unended t = last_of (splitOn 10 t)
+unended t = last_of (split_on 10 t)
 
 -- 'fields are parted by one byte 9'
 unfoldable pub fields : List ℕ → List (List ℕ)
-fields l = splitOn 9 l
+fields l = split_on 9 l
 
-unfoldable pub digitsValue : ℕ → List ℕ → Option ℕ
-digitsValue n [] = some n
-digitsValue n (b ∷ bs) = pick (leb 48 b && leb b 57) (digitsValue (10 * n + (b - 48)) bs) none
+unfoldable pub digits_value : ℕ → List ℕ → Option ℕ
+digits_value n [] = some n
+digits_value n (b ∷ bs) = pick (leb 48 b && leb b 57) (digits_value (10 * n + (b - 48)) bs) none
 
 -- 'A number is one to five digits, no leading zero except 0 itself'
 unfoldable pub number : List ℕ → Option ℕ
 number [] = none
-number (b ∷ []) = digitsValue 0 (b ∷ [])
-number (b ∷ (c ∷ bs)) = pick (eqb b 48) none (pick (leb (length bs) 3) (digitsValue 0 (b ∷ (c ∷ bs))) none)
+number (b ∷ []) = digits_value 0 (b ∷ [])
+number (b ∷ (c ∷ bs)) = pick (eqb b 48) none (pick (leb (length bs) 3) (digits_value 0 (b ∷ (c ∷ bs))) none)
 
 -- x before the elements of a list, where there are both
 unfoldable pub ahead : Option ℕ → Option (List ℕ) → Option (List ℕ)
@@ -137,12 +137,12 @@ field {A} read rest (f ∷ fs) = onward (read f)
     onward (some a) = rest a fs
 
 -- the line l where no field is left, else what `more` makes of those that are
-unfoldable pub endOr : Line → (List (List ℕ) → Line) → List (List ℕ) → Line
-endOr l more [] = l
-endOr l more (f ∷ fs) = more (f ∷ fs)
+unfoldable pub end_or : Line → (List (List ℕ) → Line) → List (List ℕ) → Line
+end_or l more [] = l
+end_or l more (f ∷ fs) = more (f ∷ fs)
 
 unfoldable pub end : Line → List (List ℕ) → Line
-end l = endOr l (λ fs. other)
+end l = end_or l (λ fs. other)
 
 -- one number, two, three and four
 unfoldable pub one : (ℕ → Line) → List (List ℕ) → Line
@@ -158,22 +158,22 @@ unfoldable pub four : (ℕ → ℕ → ℕ → ℕ → Line) → List (List ℕ)
 four f = field number (λ a. three (f a))
 
 -- one signed number, two, and a number before one
-unfoldable pub oneSigned : (ℤ → Line) → List (List ℕ) → Line
-oneSigned f = field signed (λ a. end (f a))
+unfoldable pub one_signed : (ℤ → Line) → List (List ℕ) → Line
+one_signed f = field signed (λ a. end (f a))
 
-unfoldable pub twoSigned : (ℤ → ℤ → Line) → List (List ℕ) → Line
-twoSigned f = field signed (λ a. oneSigned (f a))
+unfoldable pub two_signed : (ℤ → ℤ → Line) → List (List ℕ) → Line
+two_signed f = field signed (λ a. one_signed (f a))
 
-unfoldable pub thenSigned : (ℕ → ℤ → Line) → List (List ℕ) → Line
-thenSigned f = field number (λ a. oneSigned (f a))
+unfoldable pub then_signed : (ℕ → ℤ → Line) → List (List ℕ) → Line
+then_signed f = field number (λ a. one_signed (f a))
 
 -- one number, or two
-unfoldable pub oneOrTwo : (ℕ → Line) → (ℕ → ℕ → Line) → List (List ℕ) → Line
-oneOrTwo f g = field number (λ a. endOr (f a) (one (g a)))
+unfoldable pub one_or_two : (ℕ → Line) → (ℕ → ℕ → Line) → List (List ℕ) → Line
+one_or_two f g = field number (λ a. end_or (f a) (one (g a)))
 
 -- any number of numbers, none included
-unfoldable pub anyNumber : (List ℕ → Line) → List (List ℕ) → Line
-anyNumber f fs = whole (numbers fs)
+unfoldable pub any_number : (List ℕ → Line) → List (List ℕ) → Line
+any_number f fs = whole (numbers fs)
   where
     whole : Option (List ℕ) → Line
     whole none = other
@@ -189,14 +189,14 @@ unfoldable pub form : List (List ℕ) → Line
 form [] = other
 form (w ∷ fs) =
     pick (same w (bytes "rig")) (one (λ E. rig E) fs)
-    (pick (same w (bytes "mon")) (oneOrTwo (λ S. begins (mon S 0)) (λ S a. begins (mon S a)) fs)
+    (pick (same w (bytes "mon")) (one_or_two (λ S. begins (mon S 0)) (λ S a. begins (mon S a)) fs)
     (pick (same w (bytes "go")) (three (λ s e t. continues (go s e t)) fs)
-    (pick (same w (bytes "ord")) (anyNumber (λ es. ord es) fs)
+    (pick (same w (bytes "ord")) (any_number (λ es. ord es) fs)
     (pick (same w (bytes "stop")) (one (λ s. continues (stop s)) fs)
     (pick (same w (bytes "gap")) (two (λ e n. begins (gap e n)) fs)
     (pick (same w (bytes "reply")) (four (λ a b lo hi. begins (reply a b lo hi)) fs)
-    (pick (same w (bytes "bal")) (twoSigned (λ lo hi. begins (bal lo hi)) fs)
-    (pick (same w (bytes "amp")) (thenSigned (λ e d. continues (amp e d)) fs)
+    (pick (same w (bytes "bal")) (two_signed (λ lo hi. begins (bal lo hi)) fs)
+    (pick (same w (bytes "amp")) (then_signed (λ e d. continues (amp e d)) fs)
     (pick (same w (bytes "day")) (one (λ T. begins (day T)) fs)
     (pick (same w (bytes "open")) (three (λ e a b. continues (opens e a b)) fs)
     other))))))))))
@@ -215,33 +215,33 @@ pub record Monitor : Type 0 where
   pub parts : List Part
 
 -- the latest monitor has one line more
-unfoldable pub addPart : Part → List Monitor → List Monitor
-addPart p [] = []
-addPart p (m ∷ []) = record { kind = m.kind; parts = m.parts ++ (p ∷ []) } ∷ []
-addPart p (m ∷ (n ∷ ms)) = m ∷ addPart p (n ∷ ms)
+unfoldable pub add_part : Part → List Monitor → List Monitor
+add_part p [] = []
+add_part p (m ∷ []) = record { kind = m.kind; parts = m.parts ++ (p ∷ []) } ∷ []
+add_part p (m ∷ (n ∷ ms)) = m ∷ add_part p (n ∷ ms)
 
 unfoldable pub extended : List Monitor → Line → List Monitor
 extended ms (rig E) = ms
 extended ms (ord es) = ms
 extended ms (begins k) = ms ++ (record { kind = k; parts = [] } ∷ [])
-extended ms (continues p) = addPart p ms
+extended ms (continues p) = add_part p ms
 extended ms other = ms
 
-unfoldable pub monitorsFrom : List Monitor → List Line → List Monitor
-monitorsFrom ms [] = ms
-monitorsFrom ms (l ∷ ls) = monitorsFrom (extended ms l) ls
+unfoldable pub monitors_from : List Monitor → List Line → List Monitor
+monitors_from ms [] = ms
+monitors_from ms (l ∷ ls) = monitors_from (extended ms l) ls
 
 unfoldable pub monitors : List Line → List Monitor
-monitors ls = monitorsFrom [] ls
+monitors ls = monitors_from [] ls
 
 -- '`mon`, S: a new monitor with states 0 to S−1'; `gap` and `reply`: 'a monitor, with n or hi+1 states' (02 no. 5); `bal`: 'It has hi−lo+1 states' (02 no. 6);
 -- `day`: 'a monitor whose T states are the steps of the day' (02 no. 7)
-unfoldable pub statesOf : Kind → ℕ
-statesOf (mon S a) = S
-statesOf (gap e n) = n
-statesOf (reply a b lo hi) = hi + 1
-statesOf (bal lo hi) = nat_abs (hi -ℤ lo) + 1
-statesOf (day T) = T
+unfoldable pub states_of : Kind → ℕ
+states_of (mon S a) = S
+states_of (gap e n) = n
+states_of (reply a b lo hi) = hi + 1
+states_of (bal lo hi) = nat_abs (hi -ℤ lo) + 1
+states_of (day T) = T
 
 -- 'the monitor's start state' (02 no. 1); `gap`: no coming step bars e; `reply`: '0 with nothing due' (02 no. 5); `bal`: 'beginning at 0', and 'state j is the
 -- difference lo+j', so −lo (02 no. 6); `day`: 'step 0 begins the scenario' (02 no. 7)
@@ -261,16 +261,16 @@ latest (m ∷ (n ∷ ms)) = latest (n ∷ ms)
 -- 'The joint states number P, the product of all S'
 unfoldable pub product : List Monitor → ℕ
 product [] = 1
-product (m ∷ ms) = statesOf m.kind * product ms
+product (m ∷ ms) = states_of m.kind * product ms
 
 -- E, of the first line
-unfoldable pub eventsOf : List Line → ℕ
-eventsOf [] = 0
-eventsOf (rig E ∷ ls) = E
-eventsOf (ord es ∷ ls) = 0
-eventsOf (begins k ∷ ls) = 0
-eventsOf (continues p ∷ ls) = 0
-eventsOf (other ∷ ls) = 0
+unfoldable pub events_of : List Line → ℕ
+events_of [] = 0
+events_of (rig E ∷ ls) = E
+events_of (ord es ∷ ls) = 0
+events_of (begins k ∷ ls) = 0
+events_of (continues p ∷ ls) = 0
+events_of (other ∷ ls) = 0
 
 -- ---- the order of events
 
@@ -282,12 +282,12 @@ reordered es (begins k) = es
 reordered es (continues p) = es
 reordered es other = es
 
-unfoldable pub orderFrom : List ℕ → List Line → List ℕ
-orderFrom es [] = es
-orderFrom es (l ∷ ls) = orderFrom (reordered es l) ls
+unfoldable pub order_from : List ℕ → List Line → List ℕ
+order_from es [] = es
+order_from es (l ∷ ls) = order_from (reordered es l) ls
 
 unfoldable pub order_of : List Line → List ℕ
-order_of ls = orderFrom [] ls
+order_of ls = order_from [] ls
 
 -- ---- the cases of a line l after the lines ls, as the tables of 01 and 02 write them
 
@@ -334,10 +334,10 @@ unfoldable pub beginning : List Line → Kind → Cases
 beginning ls k = record {
   misformed = ⊥;
   misplaced = ls ≡ [];
-  out_of_range = OutOfRange (eventsOf ls) k ⊎ (4 ≤ length (monitors ls));
+  out_of_range = OutOfRange (events_of ls) k ⊎ (4 ≤ length (monitors ls));
   clash = λ n. (n ≡ 17) × Equal k;
   again = ⊥;
-  too_many = 1024 < product (monitors ls) * statesOf k;
+  too_many = 1024 < product (monitors ls) * states_of k;
 }
 
 -- there is a latest monitor, and P holds of it
@@ -375,9 +375,9 @@ cases ls (rig E) = record { misformed = ⊥; misplaced = ls ≢ []; out_of_range
 -- 'at most one and only second'; 'On line 2 the wrong number of fields is 2, an event not below E is 3; an `ord` elsewhere is 5 with any number of number
 -- fields, none included.' (02 no. 2)
 cases ls (ord es) = record {
-  misformed = (length ls ≡ 1) × (length es ≢ eventsOf ls);
+  misformed = (length ls ≡ 1) × (length es ≢ events_of ls);
   misplaced = length ls ≢ 1;
-  out_of_range = (e : ℕ) × In e es × (eventsOf ls ≤ e);
+  out_of_range = (e : ℕ) × In e es × (events_of ls ≤ e);
   clash = λ n. (n ≡ 16) × Twice es;
   again = ⊥;
   too_many = ⊥;
@@ -386,15 +386,15 @@ cases ls (begins k) = beginning ls k
 -- 'moves from s to t on event e': s and t below S, e below E; 'A `go` or `stop` is 5 if the latest monitor isn't a `mon`.' (02 no. 5)
 cases ls (continues (go s e t)) =
     continuing ls IsMon
-    (λ m. (statesOf m.kind ≤ s) ⊎ ((eventsOf ls ≤ e) ⊎ (statesOf m.kind ≤ t)))
+    (λ m. (states_of m.kind ≤ s) ⊎ ((events_of ls ≤ e) ⊎ (states_of m.kind ≤ t)))
     never
     (λ m. (u : ℕ) × In (go s e u) m.parts)
 -- 'A state marked twice is 4, a state not below S is 3, a `stop` before any `mon` is 5.' (02 no. 4)
-cases ls (continues (stop s)) = continuing ls IsMon (λ m. statesOf m.kind ≤ s) never (λ m. In (stop s) m.parts)
+cases ls (continues (stop s)) = continuing ls IsMon (λ m. states_of m.kind ≤ s) never (λ m. In (stop s) m.parts)
 -- 'a signed step d, −15 to 15'; 'An event given twice is 4; an `amp` is 5 if the latest monitor isn't a `bal`.' (02 no. 6)
-cases ls (continues (amp e d)) = continuing ls IsBal (λ m. (eventsOf ls ≤ e) ⊎ Outsideℤ (neg_ℤ (pos 15)) (pos 15) d) never (λ m. (c : ℤ) × In (amp e c) m.parts)
+cases ls (continues (amp e d)) = continuing ls IsBal (λ m. (events_of ls ≤ e) ⊎ Outsideℤ (neg_ℤ (pos 15)) (pos 15) d) never (λ m. (c : ℤ) × In (amp e c) m.parts)
 -- 'b at most T'; 'an `open` is 5 if the latest monitor isn't a `day`'; '18, a, which has no other range, not below b'; 'Several lines add up' (02 no. 7)
-cases ls (continues (opens e a b)) = continuing ls IsDay (λ m. (eventsOf ls ≤ e) ⊎ (statesOf m.kind < b)) (λ n. (n ≡ 18) × (b ≤ a)) (λ m. ⊥)
+cases ls (continues (opens e a b)) = continuing ls IsDay (λ m. (events_of ls ≤ e) ⊎ (states_of m.kind < b)) (λ n. (n ≡ 18) × (b ≤ a)) (λ m. ⊥)
 cases ls other = record { misformed = Unit {0}; misplaced = ls ≡ []; out_of_range = ⊥; clash = never; again = ⊥; too_many = ⊥ }
 
 unfoldable pub Case2 : List Line → Line → Type 0
@@ -432,7 +432,7 @@ pub record Sound (ls : List Line) (l : Line) : Type 0 where
   pub formed : Case2 ls l → ⊥
   pub placed : Case5 ls l → ⊥
   pub ranged : Case3 ls l → ⊥
-  pub named-once : Case16 ls l → ⊥
+  pub named_once : Case16 ls l → ⊥
   pub unequal : Case17 ls l → ⊥
   pub nonempty : Case18 ls l → ⊥
   pub new : Case4 ls l → ⊥
@@ -480,8 +480,8 @@ Fault t n p =
 -- ---- the cases of the other things that a call is given
 
 -- P
-unfoldable pub jointStates : List ℕ → ℕ
-jointStates t = product (monitors (decoded t))
+unfoldable pub joint_states : List ℕ → ℕ
+joint_states t = product (monitors (decoded t))
 
 -- 'h over 1,000'
 unfoldable pub Case7 : ℕ → Type 0
@@ -489,18 +489,18 @@ Case7 h = 1000 < h
 
 -- 'cells below (h+1) × P; scratch below 2 × z'
 unfoldable pub Case8 : List ℕ → ℕ → List ℕ → Type 0
-Case8 t h cells = length cells < (h + 1) * jointStates t
+Case8 t h cells = length cells < (h + 1) * joint_states t
 
-unfoldable pub Case8·scratch : List ℕ → List ℕ → Type 0
-Case8·scratch draws scratch = length scratch < 2 * length draws
+unfoldable pub Case8Scratch : List ℕ → List ℕ → Type 0
+Case8Scratch draws scratch = length scratch < 2 * length draws
 
 -- 'output shorter than list length × h, or z'
 unfoldable pub Case12 : ℕ → List ℕ → List ℕ → Type 0
 Case12 h list out = length out < length list * h
 
-unfoldable pub Case12·draws : List ℕ → List ℕ → Type 0
-Case12·draws draws out = length out < length draws
+unfoldable pub Case12Draws : List ℕ → List ℕ → Type 0
+Case12Draws draws out = length out < length draws
 
 -- 'event byte E or more', at position p
 unfoldable pub Case13 : List ℕ → List ℕ → ℕ → Type 0
-Case13 t s p = (p < length s) × (eventsOf (decoded t) ≤ get_or s p 0)
+Case13 t s p = (p < length s) × (events_of (decoded t) ≤ get_or s p 0)

@@ -12,7 +12,7 @@ use Rattle.automaton.specs.Automaton.{Automaton}
 use Rattle.automaton.specs.Counting.{N}
 use Rattle.promises.specs.Calls.{row, rows, filled}
 use Rattle.counting.specs.Tabled.{HoldsRow, rows_from}
-use Rattle.counting.proofs.Rows.{length-rows, length-rowsFrom, rowsFrom-0}
+use Rattle.counting.proofs.Rows.{length_rows, length_rows_from, rows_from_0}
 use Rattle.ranking.specs.Ranks.{HoldsRows, Unranked}
 
 -- row r is within the cells of n rows
@@ -34,41 +34,41 @@ module _ (A : Automaton) (b : ℕ) (cells : List ℕ) where
   rows_back n h =
       let le : n * A.states ≤ suc n * A.states = rw suc-mul (omega arith) in
       sym (take-take (n * A.states) (suc n * A.states) cells le) ∙ ap (take (n * A.states)) h
-      ∙ take_at (rows_from A b n) (row A (b + n)) (n * A.states) (length-rowsFrom A A.states refl b n)
+      ∙ take_at (rows_from A b n) (row A (b + n)) (n * A.states) (length_rows_from A A.states refl b n)
 
-  pub rows-fewer : (m n : ℕ) → m ≤ n → HoldsRows A b n cells → HoldsRows A b m cells
-  rows-fewer m n le = le_ind (λ n. HoldsRows A b n cells → HoldsRows A b m cells) (λ h. h) (λ n le f h. f (rows_back n h)) n le
+  pub rows_fewer : (m n : ℕ) → m ≤ n → HoldsRows A b n cells → HoldsRows A b m cells
+  rows_fewer m n le = le_ind (λ n. HoldsRows A b n cells → HoldsRows A b m cells) (λ h. h) (λ n le f h. f (rows_back n h)) n le
 
   last_row : (r : ℕ) → HoldsRows A b (suc r) cells → HoldsRow A (b + r) (drop (r * A.states) cells)
   unfolding HoldsRows HoldsRow rows_from stack
   last_row r h =
       let s = A.states in
-      let len : length (rows_from A b r) ≡ r * s = length-rowsFrom A s refl b r in
+      let len : length (rows_from A b r) ≡ r * s = length_rows_from A s refl b r in
       let before : take (r * s) cells ≡ rows_from A b r = rows_back r h in
       let parts : rows_from A b r ++ take s (drop (r * s) cells) ≡ rows_from A b r ++ row A (b + r) =
       ap (λ (l : List ℕ). l ++ take s (drop (r * s) cells)) (sym before) ∙ sym (take-add (r * s) s cells) ∙ ap (λ (n : ℕ). take n cells) (sym (suc-mul r s)) ∙ h in
       sym (drop_at (rows_from A b r) (take s (drop (r * s) cells)) (r * s) len) ∙ ap (drop (r * s)) parts ∙ drop_at (rows_from A b r) (row A (b + r)) (r * s) len
 
   -- the part that begins at r × p holds row b + r
-  pub row-lent : (p r n : ℕ) → A.states ≡ p → HoldsRows A b n cells → r < n → HoldsRow A (b + r) (take (length cells - r * p) (drop (r * p) cells))
-  row-lent p r n wide h lt =
+  pub row_lent : (p r n : ℕ) → A.states ≡ p → HoldsRows A b n cells → r < n → HoldsRow A (b + r) (take (length cells - r * p) (drop (r * p) cells))
+  row_lent p r n wide h lt =
       let all : take (length cells - r * p) (drop (r * p) cells) ≡ drop (r * p) cells = take_all (length cells - r * p) (drop (r * p) cells) (rw length-drop (omega arith)) in
       let here : drop (r * A.states) cells ≡ drop (r * p) cells = ap (λ (k : ℕ). drop (r * k) cells) wide in
-      subst (HoldsRow A (b + r)) (here ∙ sym all) (last_row r (rows-fewer (suc r) n lt h))
+      subst (HoldsRow A (b + r)) (here ∙ sym all) (last_row r (rows_fewer (suc r) n lt h))
 
 -- cells that are filled for the horizon h hold its rows
 pub filled-rows : (A : Automaton) (h : ℕ) (cells : List ℕ) → HoldsRows A 0 (h + 1) (filled A h cells)
 unfolding HoldsRows filled
 filled-rows A h cells =
-    take_at (rows A (h + 1)) (drop ((h + 1) * A.states) cells) ((h + 1) * A.states) (length-rows A A.states refl (h + 1)) ∙ sym (rowsFrom-0 A (h + 1))
+    take_at (rows A (h + 1)) (drop ((h + 1) * A.states) cells) ((h + 1) * A.states) (length_rows A A.states refl (h + 1)) ∙ sym (rows_from_0 A (h + 1))
 
 -- the first element is stored, and the rest lent to a writer
 module _ (out : List ℕ) (v : ℕ) (some : 0 < length out) where
   pub length_rest : length (take (length (set out 0 v) - 1) (drop 1 (set out 0 v))) ≡ length out - 1
   length_rest = simp (length-take, length-drop, length-set) (omega arith)
 
-  pub rest-within : (p n : ℕ) → length out * p ≤ n → length (take (length (set out 0 v) - 1) (drop 1 (set out 0 v))) * p ≤ n
-  rest-within p n h = rw length_rest (omega (arith, row_within (length out - 1) (length out) p n (omega arith) h))
+  pub rest_within : (p n : ℕ) → length out * p ≤ n → length (take (length (set out 0 v) - 1) (drop 1 (set out 0 v))) * p ≤ n
+  rest_within p n h = rw length_rest (omega (arith, row_within (length out - 1) (length out) p n (omega arith) h))
 
 -- what the whole then holds
 pub rest_back : (out : List ℕ) (v : ℕ) (last : List ℕ) → 0 < length out → take 1 (set out 0 v) ++ (last ++ drop (length (set out 0 v) - 1) (drop 1 (set out 0 v))) ≡ v ∷ last

@@ -14,20 +14,20 @@ use lib.Dec.{ltb}
 use borrow.Author.Tests.{ltb-true, lt-ltb, eq-eqb, ne_eqb}
 use Rattle.lists.specs.Lists.{pick, sum, Pairwise, more}
 use Rattle.lists.proofs.Tests.{case}
-use Rattle.lists.proofs.Members.{getD-in}
+use Rattle.lists.proofs.Members.{get_or-in}
 use Rattle.lists.proofs.Distinct.{in_place}
 use Rattle.automaton.specs.Automaton.{Automaton}
 use Rattle.automaton.specs.Pruning.{live}
 use Rattle.automaton.specs.Counting.{N, most, cell}
 use Rattle.automaton.specs.Ranking.{choose, before, unrank}
-use Rattle.automaton.specs.Table.{liveEvents}
-use Rattle.automaton.proofs.Counting.{N-step, N-dead}
+use Rattle.automaton.specs.Table.{live_events}
+use Rattle.automaton.proofs.Counting.{N_step, N_dead}
 use Rattle.automaton.proofs.Ranking.{choose-back}
-use Rattle.automaton.proofs.Table.{EntryAt, before-live, live_in, live_at, liveEvents-distinct}
+use Rattle.automaton.proofs.Table.{EntryAt, before_live, live_in, live_at, live_events_distinct}
 use Rattle.counting.specs.Tabled.{Tabled, HoldsRow}
-use Rattle.counting.proofs.Sums.{up_to, upTo-suc, upTo-total, upTo-least, tabled-few, tabled-some, tabled-none, entry-state, beside}
+use Rattle.counting.proofs.Sums.{up_to, up_to_suc, up_to_total, up_to_least, tabled_few, tabled_some, tabled_none, entry_state, beside}
 use Rattle.ranking.specs.declared.Choice.{Choice}
-use Rattle.ranking.specs.Ranks.{Chosen, ChosenOrNone, noChoice, FoundOrNot}
+use Rattle.ranking.specs.Ranks.{Chosen, ChosenOrNone, no_choice, FoundOrNot}
 
 -- a count that is above some number is that of a state
 pub counted-state : (y p v k : ℕ) → k < pick (ltb y p) v 0 → y < p
@@ -40,121 +40,121 @@ before_at f [] u k h = absurd (omega arith)
 before_at f (d ∷ l) u zero h = rw (eq-eqb d d refl)
 before_at f (d ∷ l) (more g u) (suc k) h =
     let lt : k < length l = omega arith in
-    rw (ne_eqb d (get_or l k 0) (g (get_or l k 0) (getD-in l k 0 lt))) (ap (λ (n : ℕ). f d + n) (before_at f l u k lt))
+    rw (ne_eqb d (get_or l k 0) (g (get_or l k 0) (get_or-in l k 0 lt))) (ap (λ (n : ℕ). f d + n) (before_at f l u k lt))
 
 module _ (A : Automaton) (p : ℕ) (t : List ℕ) (tabled : Tabled A p t) (few : p ≤ 1024) (x : ℕ) (hx : x < p) where
   state : x < A.states
   state = let n : A.states ≡ p = tabled.states in omega arith
 
   -- the counts before the live event at place c
-  before-upTo : (r c : ℕ) → c < length (liveEvents A x) → before (λ d. N A r (A.next x d)) A.events (get_or (liveEvents A x) c 0) ≡ up_to A r x c
+  before_up_to : (r c : ℕ) → c < length (live_events A x) → before (λ d. N A r (A.next x d)) A.events (get_or (live_events A x) c 0) ≡ up_to A r x c
   unfolding up_to
-  before-upTo r c h =
+  before_up_to r c h =
       let f : ℕ → ℕ = λ d. N A r (A.next x d) in
-      sym (before-live A x f (λ e d. N-dead A r (A.next x e) d) (get_or (liveEvents A x) c 0) (live_at A x c h).1)
-      ∙ before_at f (liveEvents A x) (liveEvents-distinct A x tabled.distinct) c h
+      sym (before_live A x f (λ e d. N_dead A r (A.next x e) d) (get_or (live_events A x) c 0) (live_at A x c h).1)
+      ∙ before_at f (live_events A x) (live_events_distinct A x tabled.distinct) c h
 
   -- what is not found among the live events leads to no live state
-  pub not_found : (e : ℕ) → ((k : ℕ) → k < length (liveEvents A x) → get_or (liveEvents A x) k 0 ≡ e → ⊥) → live A (A.next x e) ≡ false
-  not_found e none = case (live A (A.next x e)) (λ l. tabled.only-events x e state (λ i. let (k, lt, q) = in_place 0 (live_in A x i l) in none k lt q)) (λ d. d)
+  pub not_found : (e : ℕ) → ((k : ℕ) → k < length (live_events A x) → get_or (live_events A x) k 0 ≡ e → ⊥) → live A (A.next x e) ≡ false
+  not_found e none = case (live A (A.next x e)) (λ l. tabled.only_events x e state (λ i. let (k, lt, q) = in_place 0 (live_in A x i l) in none k lt q)) (λ d. d)
 
   -- all columns passed, or an empty entry: no live event is left
-  pub past_all : (c : ℕ) → c ≡ 16 → length (liveEvents A x) ≤ c
-  past_all c e = omega (arith, tabled-few A p t tabled x)
+  pub past_all : (c : ℕ) → c ≡ 16 → length (live_events A x) ≤ c
+  past_all c e = omega (arith, tabled_few A p t tabled x)
 
-  pub past-last : (c v : ℕ) → c < 16 → v ≡ get_or t (x * 16 + c) 0 → v ≡ 65535 → length (liveEvents A x) ≤ c
-  past-last c v hc read q = tabled-none A p t tabled few x c hx hc (sym read ∙ q)
+  pub past_last : (c v : ℕ) → c < 16 → v ≡ get_or t (x * 16 + c) 0 → v ≡ 65535 → length (live_events A x) ≤ c
+  past_last c v hc read q = tabled_none A p t tabled few x c hx hc (sym read ∙ q)
 
   -- one turn in the code's own values: v is the entry read in column c, n the count that it leads to
   module _ (c v : ℕ) (hc : c < 16) (read : v ≡ get_or t (x * 16 + c) 0) (entered : v ≡ 65535 → ⊥) where
-    pub is-entry : EntryAt A x c v
-    is-entry = tabled-some A p t tabled few x c hx hc v read entered
+    pub is_entry : EntryAt A x c v
+    is_entry = tabled_some A p t tabled few x c hx hc v read entered
 
-    pub entry-below : v % 1024 < p
-    entry-below = entry-state A p t tabled x c v is-entry
+    pub entry_below : v % 1024 < p
+    entry_below = entry_state A p t tabled x c v is_entry
 
     module _ (r : ℕ) (cells : List ℕ) (holds : HoldsRow A r cells) (n : ℕ) (count : n ≡ pick (ltb (v % 1024) p) (get_or cells (v % 1024) 0) 0) where
-      upTo-next : up_to A r x (c + 1) ≡ up_to A r x c + N A r (v % 1024)
-      upTo-next = upTo-suc A r x c is-entry.within ∙ ap (λ (y : ℕ). up_to A r x c + N A r y) (sym is-entry.state-is)
+      up_to_next : up_to A r x (c + 1) ≡ up_to A r x c + N A r (v % 1024)
+      up_to_next = up_to_suc A r x c is_entry.within ∙ ap (λ (y : ℕ). up_to A r x c + N A r y) (sym is_entry.state_is)
 
       -- what is read is the event's count
-      count-exact : N A (r + 1) x ≤ most → n ≡ N A r (v % 1024)
+      count_exact : N A (r + 1) x ≤ most → n ≡ N A r (v % 1024)
       unfolding cell
-      count-exact le =
+      count_exact le =
           let q : n ≡ min (N A r (v % 1024)) most =
-          count ∙ ap (λ (b : Bool). pick b (get_or cells (v % 1024) 0) 0) (lt-ltb (v % 1024) p entry-below) ∙ beside A p t tabled r cells holds x c v is-entry ∙ ap (cell A r) (sym is-entry.state-is) in
-          omega (arith, upTo-next, upTo-least A r x (c + 1) state)
+          count ∙ ap (λ (b : Bool). pick b (get_or cells (v % 1024) 0) 0) (lt-ltb (v % 1024) p entry_below) ∙ beside A p t tabled r cells holds x c v is_entry ∙ ap (cell A r) (sym is_entry.state_is) in
+          omega (arith, up_to_next, up_to_least A r x (c + 1) state)
 
       -- stepping over the event
-      pub step-over : (left i : ℕ) → N A (r + 1) x ≤ most → left + up_to A r x c ≡ i → n ≤ left → left - n + up_to A r x (c + 1) ≡ i
-      step-over left i le s h = omega (arith, upTo-next, count-exact le)
+      pub step_over : (left i : ℕ) → N A (r + 1) x ≤ most → left + up_to A r x c ≡ i → n ≤ left → left - n + up_to A r x (c + 1) ≡ i
+      step_over left i le s h = omega (arith, up_to_next, count_exact le)
 
-      pub add-on : (sum q : ℕ) → N A (r + 1) x ≤ most → sum ≡ up_to A r x c → q ≡ min (sum + n) (2 ^ 64 - 1) → q ≡ up_to A r x (c + 1)
+      pub add_on : (sum q : ℕ) → N A (r + 1) x ≤ most → sum ≡ up_to A r x c → q ≡ min (sum + n) (2 ^ 64 - 1) → q ≡ up_to A r x (c + 1)
       unfolding most
-      add-on sum q le s e = omega (arith, upTo-next, count-exact le, upTo-least A r x (c + 1) state)
+      add_on sum q le s e = omega (arith, up_to_next, count_exact le, up_to_least A r x (c + 1) state)
 
       -- the index is in the event's part: the step that is chosen
-      pub choose-here : (left i : ℕ) → (N A (r + 1) x ≤ most → left + up_to A r x c ≡ i) → i ≤ most → left < n
+      pub choose_here : (left i : ℕ) → (N A (r + 1) x ≤ most → left + up_to A r x c ≡ i) → i ≤ most → left < n
           → ChosenOrNone A r x i (record { event = v / 1024; left = left; state = v % 1024 })
-      choose-here left i so_far small h =
+      choose_here left i so_far small h =
           record {
             some = λ lt exact.
-                let at = live_at A x c is-entry.within in
+                let at = live_at A x c is_entry.within in
                 record {
-                  is-event = rw is-entry.event-is at.0;
-                  leads = is-entry.state-is ∙ ap (A.next x) (sym is-entry.event-is);
-                  taken-off = rw (is-entry.event-is, before-upTo r c is-entry.within) (omega (arith, so_far (omega arith)));
-                  is_below = omega (arith, count-exact (omega arith));
+                  is_event = rw is_entry.event_is at.0;
+                  leads = is_entry.state_is ∙ ap (A.next x) (sym is_entry.event_is);
+                  taken_off = rw (is_entry.event_is, before_up_to r c is_entry.within) (omega (arith, so_far (omega arith)));
+                  is_below = omega (arith, count_exact (omega arith));
                 };
-            none = λ le. absurd (omega (arith, so_far (omega arith), count-exact (omega arith), upTo-next, upTo-least A r x (c + 1) state));
+            none = λ le. absurd (omega (arith, so_far (omega arith), count_exact (omega arith), up_to_next, up_to_least A r x (c + 1) state));
           }
 
     -- the event is found: how a scenario goes on with it
     pub found_here : (e r sum : ℕ) → v / 1024 ≡ e → sum ≡ up_to A r x c → FoundOrNot A p r x e (record { before = sum; state = v % 1024 })
     found_here e r sum q s =
-        let here : get_or (liveEvents A x) c 0 ≡ e = sym is-entry.event-is ∙ q in
-        let at = live_at A x c is-entry.within in
+        let here : get_or (live_events A x) c 0 ≡ e = sym is_entry.event_is ∙ q in
+        let at = live_at A x c is_entry.within in
         record {
           goes_on = λ h. record {
-            is-event = subst (λ (d : ℕ). In d A.events) here at.0;
+            is_event = subst (λ (d : ℕ). In d A.events) here at.0;
             is_live = subst (λ (d : ℕ). live A (A.next x d) ≡ true) here at.1;
-            leads = is-entry.state-is ∙ ap (A.next x) here;
-            passed = s ∙ sym (before-upTo r c is-entry.within) ∙ ap (before (λ d. N A r (A.next x d)) A.events) here;
+            leads = is_entry.state_is ∙ ap (A.next x) here;
+            passed = s ∙ sym (before_up_to r c is_entry.within) ∙ ap (before (λ d. N A r (A.next x d)) A.events) here;
           };
-          not_live = λ h. absurd (omega (arith, entry-below));
+          not_live = λ h. absurd (omega (arith, entry_below));
         }
 
     -- it is none of the events passed
-    pub found-later : (e : ℕ) → ((k : ℕ) → k < c → get_or (liveEvents A x) k 0 ≡ e → ⊥) → (v / 1024 ≡ e → ⊥) → (k : ℕ) → k < c + 1 → get_or (liveEvents A x) k 0 ≡ e → ⊥
-    found-later e before ne k lt = go (eq-or-lt_of_le {n = k} {m = c} (omega arith))
+    pub found_later : (e : ℕ) → ((k : ℕ) → k < c → get_or (live_events A x) k 0 ≡ e → ⊥) → (v / 1024 ≡ e → ⊥) → (k : ℕ) → k < c + 1 → get_or (live_events A x) k 0 ≡ e → ⊥
+    found_later e before ne k lt = go (eq-or-lt_of_le {n = k} {m = c} (omega arith))
       where
-        go : (k ≡ c) ⊎ (k < c) → get_or (liveEvents A x) k 0 ≡ e → ⊥
-        go (inl q) is = ne (is-entry.event-is ∙ ap (λ (j : ℕ). get_or (liveEvents A x) j 0) (sym q) ∙ is)
+        go : (k ≡ c) ⊎ (k < c) → get_or (live_events A x) k 0 ≡ e → ⊥
+        go (inl q) is = ne (is_entry.event_is ∙ ap (λ (j : ℕ). get_or (live_events A x) j 0) (sym q) ∙ is)
         go (inr b) is = before k b is
 
-  module _ (c : ℕ) (past : length (liveEvents A x) ≤ c) where
+  module _ (c : ℕ) (past : length (live_events A x) ≤ c) where
     -- the index is in no event's part
-    pub choose-none : (r left i : ℕ) → (N A (r + 1) x ≤ most → left + up_to A r x c ≡ i) → ChosenOrNone A r x i noChoice
-    choose-none r left i so_far =
+    pub choose_none : (r left i : ℕ) → (N A (r + 1) x ≤ most → left + up_to A r x c ≡ i) → ChosenOrNone A r x i no_choice
+    choose_none r left i so_far =
         record {
-          some = λ lt exact. absurd (omega (arith, so_far (omega arith), upTo-total A r x c state past));
+          some = λ lt exact. absurd (omega (arith, so_far (omega arith), up_to_total A r x c state past));
           none = λ le. refl;
         }
 
-    pub found_nowhere : (e r : ℕ) → ((k : ℕ) → k < c → get_or (liveEvents A x) k 0 ≡ e → ⊥) → FoundOrNot A p r x e (record { before = 0; state = p })
+    pub found_nowhere : (e r : ℕ) → ((k : ℕ) → k < c → get_or (live_events A x) k 0 ≡ e → ⊥) → FoundOrNot A p r x e (record { before = 0; state = p })
     found_nowhere e r none = record { goes_on = λ h. absurd (omega arith); not_live = λ h. not_found e (λ k lt. none k (omega arith)) }
 
 -- the scenario goes on from the step that is chosen
 module _ (A : Automaton) (r x i : ℕ) (c : Choice) (is : Chosen A r x i c) where
-  pub chosen-unrank : unrank A (r + 1) x i ≡ c.event ∷ unrank A r c.state c.left
+  pub chosen_unrank : unrank A (r + 1) x i ≡ c.event ∷ unrank A r c.state c.left
   unfolding unrank
-  chosen-unrank =
+  chosen_unrank =
       let f : ℕ → ℕ = λ e. N A r (A.next x e) in
       let g : ℕ → ℕ → List ℕ = λ e j. unrank A r (A.next x e) j in
       let below : c.left < N A r (A.next x c.event) = rw is.leads at is.is_below in
       rw add-one
-      (ap (choose f g A.events) (sym is.taken-off) ∙ (choose-back f g is.is-event c.left below).0
+      (ap (choose f g A.events) (sym is.taken_off) ∙ (choose-back f g is.is_event c.left below).0
       ∙ ap (λ (y : ℕ). c.event ∷ unrank A r y c.left) (sym is.leads))
 
-  pub chosen-least : live A x ≡ true → N A r c.state ≤ N A (r + 1) x
-  chosen-least l = rw (is.leads, add-one r) (N-step A r x c.event l is.is-event)
+  pub chosen_least : live A x ≡ true → N A r c.state ≤ N A (r + 1) x
+  chosen_least l = rw (is.leads, add-one r) (N_step A r x c.event l is.is_event)

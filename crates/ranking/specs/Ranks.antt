@@ -2,8 +2,8 @@
 --   HoldsRows A b n cells             == the cells begin with the n rows from b on
 --   Exact A p b n x t cells           == t and the cells are those of A for n events with b left after them, whose count from x is not cut off
 --   Chosen A r x i c                  == c is one step of unranking the index i from x, with r events left after it
---   noChoice                          == what is told where the index is in no event's part
---   ChosenOrNone A r x i c            == c is that step, or noChoice where the index is not below the count
+--   no_choice                          == what is told where the index is in no event's part
+--   ChosenOrNone A r x i c            == c is that step, or no_choice where the index is not below the count
 --   ChosenBy t cells p x i c          == the same, whatever automaton the table and the row of cells are those of
 --   FoundEvent A r x e f              == f is how a scenario from x begins with the event e, with r events left after it
 --   FoundOrNot A p r x e f            == f is that, or its state is p where e isn't admitted or leads to a state not live
@@ -12,20 +12,20 @@
 --   UnrankedBy t cells p x i out a s l == the same for as many events as the output has bytes, whatever automaton the table and the rows are those of
 --   WholeBy t cells p x i out a       == a is the scenario of index i from x, of as many events as the output has bytes
 --   Begun A x h i at b s l o out      == the first `at` events of the scenario of index i stand from o on, and the rest of it is still to be written
---   rankedAs A x s                    == what is told of the sequence s from x: its index, or the place where it is no scenario
+--   ranked_as A x s                    == what is told of the sequence s from x: its index, or the place where it is no scenario
 --   RankedBy t cells p x s k          == k is that
 --   IndicesBelow n is                 == every index of the list is below n
---   withScenarios A h x is out        == the output with the scenarios of the indices at its front, one after the other
+--   with_scenarios A h x is out        == the output with the scenarios of the indices at its front, one after the other
 --   WrittenBy t cells p x h is b a    == a is so made from b, if every index is below the count
 --   ListedBy t cells p x h n is k b a == the same where k tells no place in the list; else a is b
 -- Assumes nothing.
 use Rattle.std.specs.Prelude.{◌≡◌, true, false, ℕ, ◌+◌, ◌*◌, ◌<◌, ◌≤◌, length, get_or, take, drop, ltb}
 use mathlib.Core.List.{List, ◌++◌, Memᴰ as In}
-use Rattle.lists.specs.Lists.{pick, concatMap}
+use Rattle.lists.specs.Lists.{pick, concat_map}
 use Rattle.automaton.specs.Automaton.{Automaton}
 use Rattle.automaton.specs.Pruning.{live}
 use Rattle.automaton.specs.Counting.{N, most}
-use Rattle.automaton.specs.Ranking.{before, unrank, rank, firstViolation}
+use Rattle.automaton.specs.Ranking.{before, unrank, rank, first_violation}
 use Rattle.counting.specs.Tabled.{Tabled, HoldsRow, rows_from}
 use Rattle.ranking.specs.declared.Choice.{Choice}
 use Rattle.ranking.specs.declared.Found.{Found}
@@ -38,29 +38,29 @@ HoldsRows A b n cells = take (n * A.states) cells ≡ rows_from A b n
 pub record Exact (A : Automaton) (p b n x : ℕ) (t cells : List ℕ) : Type 0 where
   pub tabled : Tabled A p t
   pub holds : HoldsRows A b n cells
-  pub not-cut-off : N A (b + n) x < most
+  pub not_cut_off : N A (b + n) x < most
 
 -- ---- one step
 
 -- 'step over events in order, taking each one's count from i, until i is below the next one's; take that event'
 pub record Chosen (A : Automaton) (r x i : ℕ) (c : Choice) : Type 0 where
-  pub is-event : In c.event A.events
+  pub is_event : In c.event A.events
   pub leads : c.state ≡ A.next x c.event
-  pub taken-off : before (λ e. N A r (A.next x e)) A.events c.event + c.left ≡ i
+  pub taken_off : before (λ e. N A r (A.next x e)) A.events c.event + c.left ≡ i
   pub is_below : c.left < N A r c.state
 
-abbrev pub noChoice : Choice
-noChoice = record { event = 0; left = 0; state = 0 }
+abbrev pub no_choice : Choice
+no_choice = record { event = 0; left = 0; state = 0 }
 
 pub record ChosenOrNone (A : Automaton) (r x i : ℕ) (c : Choice) : Type 0 where
   pub some : i < N A (r + 1) x → N A (r + 1) x < most → Chosen A r x i c
-  pub none : N A (r + 1) x ≤ i → c ≡ noChoice
+  pub none : N A (r + 1) x ≤ i → c ≡ no_choice
 
 abbrev pub ChosenBy : List ℕ → List ℕ → ℕ → ℕ → ℕ → Choice → Type 0
 ChosenBy t cells p x i c = (A : Automaton) (r : ℕ) → Tabled A p t → HoldsRow A r cells → ChosenOrNone A r x i c
 
 pub record FoundEvent (A : Automaton) (r x e : ℕ) (f : Found) : Type 0 where
-  pub is-event : In e A.events
+  pub is_event : In e A.events
   pub is_live : live A (A.next x e) ≡ true
   pub leads : f.state ≡ A.next x e
   pub passed : f.before ≡ before (λ d. N A r (A.next x d)) A.events e
@@ -90,17 +90,17 @@ WholeBy t cells p x i out after =
 
 -- the first `at` events stand from o on; the rest, of b events, is the scenario of index l from s
 pub record Begun (A : Automaton) (x h i at b s l o : ℕ) (out : List ℕ) : Type 0 where
-  pub not-cut-off : N A b s < most
+  pub not_cut_off : N A b s < most
   pub is_below : l < N A b s
   pub written : (j : ℕ) → j < at → get_or out (o + j) 0 ≡ get_or (unrank A h x i) j 0
   pub rest : drop at (unrank A h x i) ≡ unrank A b s l
 
 -- refusal 14: the place is that of the 'first event that isn't admitted or leads to a state not live'
-unfoldable pub rankedAs : Automaton → ℕ → List ℕ → Ranked
-rankedAs A x s = pick (ltb (firstViolation A x s) (length s)) (Violation (firstViolation A x s)) (Index (rank A x s))
+unfoldable pub ranked_as : Automaton → ℕ → List ℕ → Ranked
+ranked_as A x s = pick (ltb (first_violation A x s) (length s)) (Violation (first_violation A x s)) (Index (rank A x s))
 
 abbrev pub RankedBy : List ℕ → List ℕ → ℕ → ℕ → List ℕ → Ranked → Type 0
-RankedBy t cells p x s k = (A : Automaton) → Exact A p 0 (length s) x t cells → k ≡ rankedAs A x s
+RankedBy t cells p x s k = (A : Automaton) → Exact A p 0 (length s) x t cells → k ≡ ranked_as A x s
 
 -- ---- lists of indices
 
@@ -108,13 +108,13 @@ unfoldable pub IndicesBelow : ℕ → List ℕ → Type 0
 IndicesBelow n is = (k : ℕ) → k < length is → get_or is k 0 < n
 
 -- 'Scenario number n of the list fills the h output bytes from n × h.'
-unfoldable pub withScenarios : Automaton → ℕ → ℕ → List ℕ → List ℕ → List ℕ
-withScenarios A h x is out = concatMap (unrank A h x) is ++ drop (length is * h) out
+unfoldable pub with_scenarios : Automaton → ℕ → ℕ → List ℕ → List ℕ → List ℕ
+with_scenarios A h x is out = concat_map (unrank A h x) is ++ drop (length is * h) out
 
 abbrev pub WrittenBy : List ℕ → List ℕ → ℕ → ℕ → ℕ → List ℕ → List ℕ → List ℕ → Type 0
 WrittenBy t cells p x h is out after =
-    (A : Automaton) → Exact A p 0 h x t cells → IndicesBelow (N A h x) is → after ≡ withScenarios A h x is out
+    (A : Automaton) → Exact A p 0 h x t cells → IndicesBelow (N A h x) is → after ≡ with_scenarios A h x is out
 
 abbrev pub ListedBy : List ℕ → List ℕ → ℕ → ℕ → ℕ → ℕ → List ℕ → ℕ → List ℕ → List ℕ → Type 0
 ListedBy t cells p x h n is k out after =
-    (A : Automaton) → Exact A p 0 h x t cells → n ≡ N A h x → after ≡ pick (ltb k (length is)) out (withScenarios A h x is out)
+    (A : Automaton) → Exact A p 0 h x t cells → n ≡ N A h x → after ≡ pick (ltb k (length is)) out (with_scenarios A h x is out)

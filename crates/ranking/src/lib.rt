@@ -2,7 +2,7 @@
 // empty entry.
 ghost use Rattle.std.specs.Prelude.{◌≡◌, not, ◌+◌, ◌-◌, ◌*◌, ◌<◌, ◌≤◌, ◌^◌, min, get_or, length, ltb};
 ghost use Rattle.lists.specs.Lists.{pick};
-ghost use Rattle.promises.specs.Calls.{notBelow, firstBad};
+ghost use Rattle.promises.specs.Calls.{not_below, first_bad};
 ghost use Rattle.ranking.specs.Ranks.{ChosenBy, FoundBy, UnrankedBy, WholeBy, RankedBy, WrittenBy, ListedBy};
 
 // One step of unranking: the event, what is left of the index, and the state that the event leads to.
@@ -176,7 +176,7 @@ pub fn fits(scenarios: usize, h: usize, out: usize) -> bool
 
 // The place of the first index that is not below n; the list's length where all are.
 pub fn first_not_below(list: &[u64], n: u64) -> usize
-    ensures { result ≡ firstBad (notBelow n) list.now }
+    ensures { result ≡ first_bad (not_below n) list.now }
 {
     for k in 0..list.len() {
         if n <= list[k] {
@@ -218,7 +218,7 @@ pub fn unrank_list(
     out: &mut [u8],
 ) -> usize
     requires { (p ≤ 1024) × (x < p) × (h * p ≤ length cells.now) × (length list.now * h ≤ length out.old) }
-    ensures value { result ≡ firstBad (notBelow count) list.now }
+    ensures value { result ≡ first_bad (not_below count) list.now }
     ensures listed_by { ListedBy table.now cells.now p x h count list.now result out.old out.new }
 {
     let place = first_not_below(list, count);

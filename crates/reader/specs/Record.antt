@@ -1,39 +1,39 @@
 -- What the record of a readable text is. Paper 01, 'Rig text'.
---   monitorIn t m      == monitor m of the text t, as its lines
+--   monitor_in t m      == monitor m of the text t, as its lines
 --   ReadFrom t r       == r is the record of the text t: the same monitors, tables, order of events and joint automaton
 -- Assumes nothing.
 use Rattle.std.specs.Prelude.{◌≡◌, ◌↔◌, true, List, ℕ, ◌<◌, length, get_or}
 use Rattle.automaton.specs.Automaton as automaton
 use Rattle.automaton.specs.Automaton.{walk}
 use Rattle.automaton.specs.Joint.{sizes}
-use Rattle.promises.specs.Text.{Monitor, monitors, decoded, statesOf, start_of, eventsOf, order_of, jointStates}
+use Rattle.promises.specs.Text.{Monitor, monitors, decoded, states_of, start_of, events_of, order_of, joint_states}
 use Rattle.promises.specs.Meaning.{Admits, MayStop, BelowE}
-use Rattle.promises.specs.Rig.{monitorOf, rigAutomaton, start}
+use Rattle.promises.specs.Rig.{monitor_of, rig_automaton, start}
 use Rattle.rig.specs.declared.Rig.{Rig}
-use Rattle.rig.specs.Record.{count_of, start_at, order_in, monitorAt, standing, recordAutomaton, recordStart, WellFormed}
+use Rattle.rig.specs.Record.{count_of, start_at, order_in, monitor_at, standing, record_automaton, record_start, WellFormed}
 use Rattle.reader.specs.Reading.{nobody}
 
-abbrev pub monitorIn : List ℕ → ℕ → Monitor
-monitorIn t m = get_or (monitors (decoded t)) m nobody
+abbrev pub monitor_in : List ℕ → ℕ → Monitor
+monitor_in t m = get_or (monitors (decoded t)) m nobody
 
 pub record ReadFrom (t : List ℕ) (r : Rig) : Type 0 where
   -- all states, events and targets in range, and P at most 1,024
-  pub well-formed : WellFormed r
-  pub events-are : r.events ≡ eventsOf (decoded t)
-  pub monitors-are : r.monitors ≡ length (monitors (decoded t))
-  pub counts-are : (m : ℕ) → m < r.monitors → count_of r m ≡ statesOf (monitorIn t m).kind
-  pub starts-are : (m : ℕ) → m < r.monitors → start_at r m ≡ start_of (monitorIn t m).kind
+  pub well_formed : WellFormed r
+  pub events_are : r.events ≡ events_of (decoded t)
+  pub monitors_are : r.monitors ≡ length (monitors (decoded t))
+  pub counts_are : (m : ℕ) → m < r.monitors → count_of r m ≡ states_of (monitor_in t m).kind
+  pub starts_are : (m : ℕ) → m < r.monitors → start_at r m ≡ start_of (monitor_in t m).kind
   -- the events are compared in the text's order
   pub order_is : order_in r ≡ order_of (decoded t)
   -- the table of each monitor, of any kind, is the automaton of its lines
-  pub tables-are : (m : ℕ) → m < r.monitors → monitorAt r m ≡ monitorOf (order_of (decoded t)) (monitorIn t m)
+  pub tables_are : (m : ℕ) → m < r.monitors → monitor_at r m ≡ monitor_of (order_of (decoded t)) (monitor_in t m)
   -- so, from every state, it admits just the sequences of events that the monitor's sentence admits: 'That the table admits exactly the sequences of the
   -- sentence is shown for all n, lo and hi together' (02 no. 5)
-  pub admits-are : (m s : ℕ) (w : List ℕ) → m < r.monitors → s < count_of r m → automaton.Admits (monitorAt r m) s w ↔ (BelowE t w × Admits (monitorIn t m) s w)
+  pub admits_are : (m s : ℕ) (w : List ℕ) → m < r.monitors → s < count_of r m → automaton.Admits (monitor_at r m) s w ↔ (BelowE t w × Admits (monitor_in t m) s w)
   -- and leads to a marked state where it may stop (02 no. 4)
-  pub stops-are : (m s : ℕ) (w : List ℕ) → m < r.monitors → automaton.Admits (monitorAt r m) s w
-      → ((monitorAt r m).stop (walk (monitorAt r m) s w) ≡ true) ↔ MayStop (monitorIn t m) s w
+  pub stops_are : (m s : ℕ) (w : List ℕ) → m < r.monitors → automaton.Admits (monitor_at r m) s w
+      → ((monitor_at r m).stop (walk (monitor_at r m) s w) ≡ true) ↔ MayStop (monitor_in t m) s w
   -- the joint automaton that the record stands for is the one that the lines describe
-  pub automaton-is : recordAutomaton r ≡ rigAutomaton t
-  pub start_is : recordStart r ≡ start t
-  pub joint-states-are : sizes (standing r) ≡ jointStates t
+  pub automaton_is : record_automaton r ≡ rig_automaton t
+  pub start_is : record_start r ≡ start t
+  pub joint_states_are : sizes (standing r) ≡ joint_states t

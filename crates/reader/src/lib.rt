@@ -1,7 +1,7 @@
 // Reading a rig's text: its record, or the first of the refusals 1 to 6 and 16 to 18. One pass over the text, line by line; the tables are filled in place.
 ghost use Rattle.std.specs.Prelude.{◌≡◌};
 ghost use Rattle.promises.specs.Reading as promised;
-ghost use Rattle.reader.specs.Reading.{answer_of, refusal, recordOf};
+ghost use Rattle.reader.specs.Reading.{answer_of, refusal, record_of};
 
 use kinds::Band;
 use rig::Rig;
@@ -34,7 +34,7 @@ fn refused(number: u64, place: u64) -> Reading
 // Reads a text of any length.
 pub fn read(text: &[u8]) -> Reading
     ensures verdict_value { answer_of result.verdict ≡ promised.reading text.now }
-    ensures rig_value { result.rig ≡ recordOf text.now }
+    ensures rig_value { result.rig ≡ record_of text.now }
 {
     if 65535 < text.len() {
         return refused(1, 0);

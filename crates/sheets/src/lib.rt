@@ -2,9 +2,9 @@
 //
 // A sheet is measured before it is written, so that nothing is written where it does not fit.
 ghost use Rattle.std.specs.Prelude.{◌≡◌, true, ◌++◌, ◌+◌, ◌*◌, ◌<◌, ◌≤◌, length, take, drop};
-ghost use Rattle.line.specs.Line.{fieldBytes};
-ghost use Rattle.promises.specs.Sheets.{leg as legOf, previous as previousOf, text, scenario as scenarioOf, shared as sharedBy, tail as tailOf, sheetText, sheetCall, sheetOutput};
-ghost use Rattle.sheets.specs.Writing.{sheetAnswer, legsText, part_of, Measures};
+ghost use Rattle.line.specs.Line.{field_bytes};
+ghost use Rattle.promises.specs.Sheets.{leg as legOf, previous as previousOf, text, scenario as scenario_of, shared as sharedBy, tail as tailOf, sheet_text, sheet_call, sheet_output};
+ghost use Rattle.sheets.specs.Writing.{sheet_answer, legs_text, part_of, Measures};
 
 // What the call answers: the length of the sheet and the events that it runs, or a refusal's number and place.
 #[derive(Drop)]
@@ -23,8 +23,8 @@ struct Measured {
 
 // Writes the sheet of m scenarios of h events, with a slot for each depth that g divides.
 pub fn sheet(scenarios: &[u8], m: u64, h: u64, g: u64, out: &mut [u8]) -> Sheeted
-    ensures result_value { sheetAnswer result ≡ sheetCall m h g scenarios.now out.old }
-    ensures out_after { out.new ≡ sheetOutput m h g scenarios.now out.old }
+    ensures result_value { sheet_answer result ≡ sheet_call m h g scenarios.now out.old }
+    ensures out_after { out.new ≡ sheet_output m h g scenarios.now out.old }
 {
     if 1000 < h {
         return Sheeted::Refused(7, 0);
@@ -76,8 +76,8 @@ fn measure(scenarios: &[u8], m: usize, h: usize, g: usize, room: usize) -> Measu
 
 // Writes the sheet, which fits, at the front of `out`.
 fn write_sheet(scenarios: &[u8], m: usize, h: usize, g: usize, out: &mut [u8])
-    requires { (h ≤ 1000) × (0 < g) × (m * h ≤ length scenarios.now) × (length (sheetText m h g scenarios.now) ≤ length out.old) }
-    ensures { out.new ≡ sheetText m h g scenarios.now ++ drop (length (sheetText m h g scenarios.now)) out.old }
+    requires { (h ≤ 1000) × (0 < g) × (m * h ≤ length scenarios.now) × (length (sheet_text m h g scenarios.now) ≤ length out.old) }
+    ensures { out.new ≡ sheet_text m h g scenarios.now ++ drop (length (sheet_text m h g scenarios.now)) out.old }
 {
     let mut at = 0;
     for k in 0..m {
@@ -89,7 +89,7 @@ fn write_sheet(scenarios: &[u8], m: usize, h: usize, g: usize, out: &mut [u8])
 // What scenario number k runs: its part after the depth that it loads.
 fn runs(scenarios: &[u8], h: usize, g: usize, k: usize) -> &[u8]
     requires { (0 < g) × (k * h + h ≤ length scenarios.now) }
-    ensures { result.now ≡ tailOf g (previousOf (scenarioOf h scenarios.now) k) (scenarioOf h scenarios.now k) }
+    ensures { result.now ≡ tailOf g (previousOf (scenario_of h scenarios.now) k) (scenario_of h scenarios.now k) }
 {
     tail(previous(scenarios, h, k), scenario(scenarios, h, k), g)
 }
@@ -97,7 +97,7 @@ fn runs(scenarios: &[u8], h: usize, g: usize, k: usize) -> &[u8]
 // Scenario number k.
 fn scenario(scenarios: &[u8], h: usize, k: usize) -> &[u8]
     requires { k * h + h ≤ length scenarios.now }
-    ensures { result.now ≡ scenarioOf h scenarios.now k }
+    ensures { result.now ≡ scenario_of h scenarios.now k }
 {
     let at = k * h;
     &scenarios[at..at + h]
@@ -106,7 +106,7 @@ fn scenario(scenarios: &[u8], h: usize, k: usize) -> &[u8]
 // The scenario before number k, and an empty one before the first.
 fn previous(scenarios: &[u8], h: usize, k: usize) -> &[u8]
     requires { k * h ≤ length scenarios.now }
-    ensures { result.now ≡ previousOf (scenarioOf h scenarios.now) k }
+    ensures { result.now ≡ previousOf (scenario_of h scenarios.now) k }
 {
     if k == 0 {
         return &scenarios[..0];
@@ -194,7 +194,7 @@ fn write_part(rest: &[u8], h: usize, g: usize, out: &mut [u8]) -> usize
 // How many bytes the commands after the load of a slot have.
 fn legs_length(rest: &[u8], g: usize, slot: usize) -> usize
     requires { (0 < g) × (slot + length rest.now ≤ 1000) }
-    ensures { (result ≡ length (legsText g slot rest.now)) × (result ≤ 4030 * length rest.now) }
+    ensures { (result ≡ length (legs_text g slot rest.now)) × (result ≤ 4030 * length rest.now) }
 {
     let mut bytes = 0;
     let mut from = 0;
@@ -211,9 +211,9 @@ fn legs_length(rest: &[u8], g: usize, slot: usize) -> usize
 // Writes these commands at the front of `out` and gives how many bytes they have.
 fn write_legs(rest: &[u8], g: usize, slot: usize, out: &mut [u8]) -> usize
     requires g_nonzero { (0 < g) × (slot + length rest.now ≤ 1000) }
-    requires rest_in_bounds { length (legsText g slot rest.now) ≤ length out.old }
-    ensures value { result ≡ length (legsText g slot rest.now) }
-    ensures out_after { out.new ≡ legsText g slot rest.now ++ drop (length (legsText g slot rest.now)) out.old }
+    requires rest_in_bounds { length (legs_text g slot rest.now) ≤ length out.old }
+    ensures value { result ≡ length (legs_text g slot rest.now) }
+    ensures out_after { out.new ≡ legs_text g slot rest.now ++ drop (length (legs_text g slot rest.now)) out.old }
 {
     let mut at = 0;
     let mut from = 0;
@@ -266,7 +266,7 @@ fn write_leg(run: &[u8], g: usize, j: usize, out: &mut [u8]) -> usize
 
 // How many bytes a `load` or `save` line has.
 fn slot_length(j: usize) -> usize
-    ensures { result ≡ 5 + length (fieldBytes j) }
+    ensures { result ≡ 5 + length (field_bytes j) }
 {
     5 + line::field_length(j as u64)
 }

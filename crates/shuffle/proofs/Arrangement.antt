@@ -7,21 +7,21 @@ use lib.Seq.{drop-length, append_snoc}
 use borrow.Author.Tests.{eqb-false}
 use Rattle.lists.specs.Lists.{pick, tabulate}
 use Rattle.lists.proofs.Tests.{case, split}
-use Rattle.lists.proofs.Tables.{length-tabulate, get_d_tabulate}
-use Rattle.automaton.specs.Shuffle.{swap, shuffleFrom, shuffle}
+use Rattle.lists.proofs.Tables.{length-tabulate, get_or-tabulate}
+use Rattle.automaton.specs.Shuffle.{swap, shuffle_from, shuffle}
 use Rattle.automaton.proofs.Shuffle.{swap-first, swap-second, swap-other}
-use Rattle.shuffle.specs.Places.{arranged, drawn, latestStep, multiple, moved, Held}
+use Rattle.shuffle.specs.Places.{arranged, drawn, latest_step, multiple, moved, Held}
 
 -- ---- the output
 
-from_step : (ds : List ℕ) (i : ℕ) → tabulate (drawn ds) i ++ (swap (arranged ds i) i (get_or ds i 0) i ∷ shuffleFrom (swap (arranged ds i) i (get_or ds i 0)) (suc i) (drop (suc i) ds))
-    ≡ tabulate (drawn ds) (suc i) ++ shuffleFrom (arranged ds (suc i)) (suc i) (drop (suc i) ds)
+from_step : (ds : List ℕ) (i : ℕ) → tabulate (drawn ds) i ++ (swap (arranged ds i) i (get_or ds i 0) i ∷ shuffle_from (swap (arranged ds i) i (get_or ds i 0)) (suc i) (drop (suc i) ds))
+    ≡ tabulate (drawn ds) (suc i) ++ shuffle_from (arranged ds (suc i)) (suc i) (drop (suc i) ds)
 unfolding tabulate arranged drawn
 from_step ds i =
-    rw (swap-first (arranged ds i) i (get_or ds i 0)) (sym (append_snoc (tabulate (drawn ds) i) (arranged ds i (get_or ds i 0)) (shuffleFrom (arranged ds (suc i)) (suc i) (drop (suc i) ds))))
+    rw (swap-first (arranged ds i) i (get_or ds i 0)) (sym (append_snoc (tabulate (drawn ds) i) (arranged ds i (get_or ds i 0)) (shuffle_from (arranged ds (suc i)) (suc i) (drop (suc i) ds))))
 
-from : (ds : List ℕ) (r i : ℕ) → i + r ≡ length ds → tabulate (drawn ds) i ++ shuffleFrom (arranged ds i) i (drop i ds) ≡ tabulate (drawn ds) (length ds)
-unfolding shuffleFrom
+from : (ds : List ℕ) (r i : ℕ) → i + r ≡ length ds → tabulate (drawn ds) i ++ shuffle_from (arranged ds i) i (drop i ds) ≡ tabulate (drawn ds) (length ds)
+unfolding shuffle_from
 from ds zero i q =
     let e : i ≡ length ds = omega arith in
     rw (e, drop-length ds) (append-nil (tabulate (drawn ds) (length ds)))
@@ -34,27 +34,27 @@ outputs ds = sym (from ds (length ds) 0 (omega arith))
 -- ---- a place that no step has come to
 
 -- the number at k, s being one more than the last step that drew it
-numberBy : List ℕ → ℕ → ℕ → ℕ
-numberBy ds k zero = k
-numberBy ds k (suc s) = arranged ds s s
+number_by : List ℕ → ℕ → ℕ → ℕ
+number_by ds k zero = k
+number_by ds k (suc s) = arranged ds s s
 
-by_last : (ds : List ℕ) (k i : ℕ) → i ≤ k → arranged ds i k ≡ numberBy ds k (latestStep (eqb k) ds i)
-unfolding arranged latestStep numberBy
+by_last : (ds : List ℕ) (k i : ℕ) → i ≤ k → arranged ds i k ≡ number_by ds k (latest_step (eqb k) ds i)
+unfolding arranged latest_step number_by
 by_last ds k zero h = refl
 by_last ds k (suc i) h = go (eqb k (get_or ds i 0)) refl (by_last ds k i (omega arith))
   where
-    go : (t : Bool) → eqb k (get_or ds i 0) ≡ t → arranged ds i k ≡ numberBy ds k (latestStep (eqb k) ds i)
-        → swap (arranged ds i) i (get_or ds i 0) k ≡ numberBy ds k (pick t (suc i) (latestStep (eqb k) ds i))
+    go : (t : Bool) → eqb k (get_or ds i 0) ≡ t → arranged ds i k ≡ number_by ds k (latest_step (eqb k) ds i)
+        → swap (arranged ds i) i (get_or ds i 0) k ≡ number_by ds k (pick t (suc i) (latest_step (eqb k) ds i))
     go true q ih = ap (swap (arranged ds i) i (get_or ds i 0)) (eqb-true k (get_or ds i 0) q) ∙ swap-second (arranged ds i) i (get_or ds i 0)
     go false q ih = swap-other (arranged ds i) i (get_or ds i 0) k (λ e. omega arith) (eqb-false k (get_or ds i 0) q) ∙ ih
 
-pub drawn-first : (ds : List ℕ) (i : ℕ) → i ≤ get_or ds i 0 → latestStep (eqb (get_or ds i 0)) ds i ≡ 0 → drawn ds i ≡ get_or ds i 0
-unfolding drawn numberBy
-drawn-first ds i h q = by_last ds (get_or ds i 0) i h ∙ ap (numberBy ds (get_or ds i 0)) q
+pub drawn-first : (ds : List ℕ) (i : ℕ) → i ≤ get_or ds i 0 → latest_step (eqb (get_or ds i 0)) ds i ≡ 0 → drawn ds i ≡ get_or ds i 0
+unfolding drawn number_by
+drawn-first ds i h q = by_last ds (get_or ds i 0) i h ∙ ap (number_by ds (get_or ds i 0)) q
 
-pub drawn-again : (ds : List ℕ) (i s : ℕ) → i ≤ get_or ds i 0 → latestStep (eqb (get_or ds i 0)) ds i ≡ suc s → drawn ds i ≡ arranged ds s s
-unfolding drawn numberBy
-drawn-again ds i s h q = by_last ds (get_or ds i 0) i h ∙ ap (numberBy ds (get_or ds i 0)) q
+pub drawn-again : (ds : List ℕ) (i s : ℕ) → i ≤ get_or ds i 0 → latest_step (eqb (get_or ds i 0)) ds i ≡ suc s → drawn ds i ≡ arranged ds s s
+unfolding drawn number_by
+drawn-again ds i s h q = by_last ds (get_or ds i 0) i h ∙ ap (number_by ds (get_or ds i 0)) q
 
 -- ---- the places that the scratch holds
 
@@ -62,15 +62,15 @@ pub held_first : (m : ℕ) (ds s : List ℕ) → Held m ds 0 (tabulate (multiple
 unfolding arranged
 held_first m ds s k h =
     let e : min 0 k ≡ 0 = omega arith in
-    rw e (get_or-append (tabulate (multiple 1) m) (drop m s) 0 k (rw length-tabulate h) ∙ get_d_tabulate (multiple 1) m k 0 h ∙ mul-one k)
+    rw e (get_or-append (tabulate (multiple 1) m) (drop m s) 0 k (rw length-tabulate h) ∙ get_or-tabulate (multiple 1) m k 0 h ∙ mul-one k)
 
 -- a place from i on has the number now
-pub held-ahead : (m : ℕ) (ds s : List ℕ) (i k : ℕ) → Held m ds i s → k < m → i ≤ k → get_or s k 0 ≡ arranged ds i k
-held-ahead m ds s i k h l a = let e : min i k ≡ i = omega arith in rw e at (h k l)
+pub held_ahead : (m : ℕ) (ds s : List ℕ) (i k : ℕ) → Held m ds i s → k < m → i ≤ k → get_or s k 0 ≡ arranged ds i k
+held_ahead m ds s i k h l a = let e : min i k ≡ i = omega arith in rw e at (h k l)
 
 -- a place below i has the number that its own step moved away
-pub held-behind : (m : ℕ) (ds s : List ℕ) (i k : ℕ) → Held m ds i s → k < m → k ≤ i → get_or s k 0 ≡ arranged ds k k
-held-behind m ds s i k h l a = let e : min i k ≡ k = omega arith in rw e at (h k l)
+pub held_behind : (m : ℕ) (ds s : List ℕ) (i k : ℕ) → Held m ds i s → k < m → k ≤ i → get_or s k 0 ≡ arranged ds k k
+held_behind m ds s i k h l a = let e : min i k ≡ k = omega arith in rw e at (h k l)
 
 moved_same : (m i d : ℕ) (s : List ℕ) → d < m → m ≤ length s → get_or (moved m i d s) d 0 ≡ get_or s i 0
 unfolding moved
@@ -100,16 +100,16 @@ held_moved m ds s i a b c h k l = ⊎_elim (λ p. behind p (ℕ_discrete k d)) (
     behind p (yes q) =
         let e : min (i + 1) k ≡ k = omega arith in
         let f : i ≡ k = omega arith in
-        rw e (ap (λ (j : ℕ). get_or (moved m i (get_or ds i 0) s) j 0) q ∙ moved_same m i (get_or ds i 0) s (omega arith) b ∙ ap (λ (j : ℕ). get_or s j 0) f ∙ held-behind m ds s i k h l p)
+        rw e (ap (λ (j : ℕ). get_or (moved m i (get_or ds i 0) s) j 0) q ∙ moved_same m i (get_or ds i 0) s (omega arith) b ∙ ap (λ (j : ℕ). get_or s j 0) f ∙ held_behind m ds s i k h l p)
     behind p (no q) =
         let e : min (i + 1) k ≡ k = omega arith in
-        rw e (moved_other m i (get_or ds i 0) k s (λ _. q) ∙ held-behind m ds s i k h l p)
+        rw e (moved_other m i (get_or ds i 0) k s (λ _. q) ∙ held_behind m ds s i k h l p)
 
     ahead : i < k → Dec (k ≡ d) → get_or (moved m i (get_or ds i 0) s) k 0 ≡ arranged ds (min (i + 1) k) k
     ahead p (yes q) =
         let e : min (i + 1) k ≡ suc i = omega arith in
-        rw e (ap (λ (j : ℕ). get_or (moved m i (get_or ds i 0) s) j 0) q ∙ moved_same m i (get_or ds i 0) s (omega arith) b ∙ held-ahead m ds s i i h a (omega arith)
+        rw e (ap (λ (j : ℕ). get_or (moved m i (get_or ds i 0) s) j 0) q ∙ moved_same m i (get_or ds i 0) s (omega arith) b ∙ held_ahead m ds s i i h a (omega arith)
         ∙ sym (ap (swap (arranged ds i) i (get_or ds i 0)) q ∙ swap-second (arranged ds i) i (get_or ds i 0)))
     ahead p (no q) =
         let e : min (i + 1) k ≡ suc i = omega arith in
-        rw e (moved_other m i (get_or ds i 0) k s (λ _. q) ∙ held-ahead m ds s i k h l (omega arith) ∙ sym (swap-other (arranged ds i) i (get_or ds i 0) k (λ r. omega arith) q))
+        rw e (moved_other m i (get_or ds i 0) k s (λ _. q) ∙ held_ahead m ds s i k h l (omega arith) ∙ sym (swap-other (arranged ds i) i (get_or ds i 0) k (λ r. omega arith) q))

@@ -6,117 +6,117 @@ use lib.Seq.{drop-append-add}
 use borrow.Author.Tests.{lt-leb}
 use Rattle.lists.specs.Lists.{pick, tabulate}
 use Rattle.lists.proofs.Tests.{case, contra, and_left, and_right, and_intro}
-use Rattle.lists.proofs.Tables.{length-tabulate, get_d_tabulate}
+use Rattle.lists.proofs.Tables.{length-tabulate, get_or-tabulate}
 use Rattle.automaton.specs.Shuffle.{Valid}
-use Rattle.promises.proofs.Answers.{valid-at}
-use Rattle.shuffle.specs.Buckets.{bucketOf}
-use Rattle.shuffle.specs.Places.{latestStep, inBucket, multiple, chained, moved, Linked, Prepared, Kept}
-use Rattle.shuffle.proofs.Mixing.{bucket-below}
+use Rattle.promises.proofs.Answers.{valid_at}
+use Rattle.shuffle.specs.Buckets.{bucket_of}
+use Rattle.shuffle.specs.Places.{latest_step, in_bucket, multiple, chained, moved, Linked, Prepared, Kept}
+use Rattle.shuffle.proofs.Mixing.{bucket_below}
 use Rattle.shuffle.proofs.Draws.{valid-few}
 use Rattle.shuffle.proofs.Arrangement.{moved_other, length_moved, drop-moved}
 
 -- ---- the last step that passes a test
 
-pub latestStep-le : (f : ℕ → Bool) (ds : List ℕ) (i : ℕ) → latestStep f ds i ≤ i
-unfolding latestStep
-latestStep-le f ds zero = omega arith
-latestStep-le f ds (suc i) = let h = latestStep-le f ds i in case (f (get_or ds i 0)) (λ t. rw t (omega arith)) (λ t. rw t (omega arith))
+pub latest_step_le : (f : ℕ → Bool) (ds : List ℕ) (i : ℕ) → latest_step f ds i ≤ i
+unfolding latest_step
+latest_step_le f ds zero = omega arith
+latest_step_le f ds (suc i) = let h = latest_step_le f ds i in case (f (get_or ds i 0)) (λ t. rw t (omega arith)) (λ t. rw t (omega arith))
 
-pub latestStep-yes : (f : ℕ → Bool) (ds : List ℕ) (i : ℕ) → f (get_or ds i 0) ≡ true → latestStep f ds (suc i) ≡ suc i
-unfolding latestStep
-latestStep-yes f ds i t = rw t
+pub latest_step_yes : (f : ℕ → Bool) (ds : List ℕ) (i : ℕ) → f (get_or ds i 0) ≡ true → latest_step f ds (suc i) ≡ suc i
+unfolding latest_step
+latest_step_yes f ds i t = rw t
 
-pub latestStep-no : (f : ℕ → Bool) (ds : List ℕ) (i : ℕ) → f (get_or ds i 0) ≡ false → latestStep f ds (suc i) ≡ latestStep f ds i
-unfolding latestStep
-latestStep-no f ds i t = rw t
+pub latest_step_no : (f : ℕ → Bool) (ds : List ℕ) (i : ℕ) → f (get_or ds i 0) ≡ false → latest_step f ds (suc i) ≡ latest_step f ds i
+unfolding latest_step
+latest_step_no f ds i t = rw t
 
 -- among the steps that pass a coarser test
-pub latestStep-among : (f g : ℕ → Bool) → ((d : ℕ) → f d ≡ true → g d ≡ true) → (ds : List ℕ) (i : ℕ) → latestStep f ds i ≡ latestStep f ds (latestStep g ds i)
-unfolding latestStep
-latestStep-among f g h ds zero = refl
-latestStep-among f g h ds (suc i) = go (f (get_or ds i 0)) (g (get_or ds i 0)) refl refl (latestStep-among f g h ds i)
+pub latest_step_among : (f g : ℕ → Bool) → ((d : ℕ) → f d ≡ true → g d ≡ true) → (ds : List ℕ) (i : ℕ) → latest_step f ds i ≡ latest_step f ds (latest_step g ds i)
+unfolding latest_step
+latest_step_among f g h ds zero = refl
+latest_step_among f g h ds (suc i) = go (f (get_or ds i 0)) (g (get_or ds i 0)) refl refl (latest_step_among f g h ds i)
   where
-    go : (a b : Bool) → f (get_or ds i 0) ≡ a → g (get_or ds i 0) ≡ b → latestStep f ds i ≡ latestStep f ds (latestStep g ds i)
-        → pick a (suc i) (latestStep f ds i) ≡ latestStep f ds (pick b (suc i) (latestStep g ds i))
+    go : (a b : Bool) → f (get_or ds i 0) ≡ a → g (get_or ds i 0) ≡ b → latest_step f ds i ≡ latest_step f ds (latest_step g ds i)
+        → pick a (suc i) (latest_step f ds i) ≡ latest_step f ds (pick b (suc i) (latest_step g ds i))
     go a true p q ih = rw p
     go true false p q ih = contra (h (get_or ds i 0) p) q
     go false false p q ih = ih
 
 -- a step that is the last one to pass does pass
-pub latestStep-passes : (f : ℕ → Bool) (ds : List ℕ) (i : ℕ) → latestStep f ds (suc i) ≡ suc i → f (get_or ds i 0) ≡ true
-latestStep-passes f ds i q = case (f (get_or ds i 0)) (λ t. t) (λ t. let h = latestStep-le f ds i in let e = latestStep-no f ds i t in absurd (omega arith))
+pub latest_step-passes : (f : ℕ → Bool) (ds : List ℕ) (i : ℕ) → latest_step f ds (suc i) ≡ suc i → f (get_or ds i 0) ≡ true
+latest_step-passes f ds i q = case (f (get_or ds i 0)) (λ t. t) (λ t. let h = latest_step_le f ds i in let e = latest_step_no f ds i t in absurd (omega arith))
 
 -- ---- walking a chain
 
 -- the walk for draw i has come to s: the step s - 1 is on the chain, and none from s on before i has the same draw
 pub record Walked (m : ℕ) (ds : List ℕ) (i s : ℕ) : Type 0 where
   pub early : s ≤ i
-  pub same : latestStep (eqb (get_or ds i 0)) ds i ≡ latestStep (eqb (get_or ds i 0)) ds s
-  pub on : latestStep (inBucket m (bucketOf m (get_or ds i 0))) ds s ≡ s
+  pub same : latest_step (eqb (get_or ds i 0)) ds i ≡ latest_step (eqb (get_or ds i 0)) ds s
+  pub on : latest_step (in_bucket m (bucket_of m (get_or ds i 0))) ds s ≡ s
 
 module _ (m : ℕ) (ds : List ℕ) (i : ℕ) (far : m ≤ get_or ds i 0) where
-  same-inBucket : (x : ℕ) → eqb (get_or ds i 0) x ≡ true → inBucket m (bucketOf m (get_or ds i 0)) x ≡ true
-  unfolding inBucket
-  same-inBucket x t =
+  same_in_bucket : (x : ℕ) → eqb (get_or ds i 0) x ≡ true → in_bucket m (bucket_of m (get_or ds i 0)) x ≡ true
+  unfolding in_bucket
+  same_in_bucket x t =
       let e : get_or ds i 0 ≡ x = eqb-true (get_or ds i 0) x t in
-      rw (← e) (and_intro (le-leb m (get_or ds i 0) far) (eq-eqb (bucketOf m (get_or ds i 0)) (bucketOf m (get_or ds i 0)) refl))
+      rw (← e) (and_intro (le-leb m (get_or ds i 0) far) (eq-eqb (bucket_of m (get_or ds i 0)) (bucket_of m (get_or ds i 0)) refl))
 
   -- the last step before j that is on the chain
-  walk-to : (j s : ℕ) → j ≤ i → latestStep (eqb (get_or ds i 0)) ds i ≡ latestStep (eqb (get_or ds i 0)) ds j → s ≡ latestStep (inBucket m (bucketOf m (get_or ds i 0))) ds j → Walked m ds i s
-  walk-to j s h p e =
-      let l = latestStep-le (inBucket m (bucketOf m (get_or ds i 0))) ds j in
+  walk_to : (j s : ℕ) → j ≤ i → latest_step (eqb (get_or ds i 0)) ds i ≡ latest_step (eqb (get_or ds i 0)) ds j → s ≡ latest_step (in_bucket m (bucket_of m (get_or ds i 0))) ds j → Walked m ds i s
+  walk_to j s h p e =
+      let l = latest_step_le (in_bucket m (bucket_of m (get_or ds i 0))) ds j in
       record {
         early = omega arith;
-        same = rw e (p ∙ latestStep-among (eqb (get_or ds i 0)) (inBucket m (bucketOf m (get_or ds i 0))) same-inBucket ds j);
-        on = rw e (sym (latestStep-among (inBucket m (bucketOf m (get_or ds i 0))) (inBucket m (bucketOf m (get_or ds i 0))) (λ x t. t) ds j));
+        same = rw e (p ∙ latest_step_among (eqb (get_or ds i 0)) (in_bucket m (bucket_of m (get_or ds i 0))) same_in_bucket ds j);
+        on = rw e (sym (latest_step_among (in_bucket m (bucket_of m (get_or ds i 0))) (in_bucket m (bucket_of m (get_or ds i 0))) (λ x t. t) ds j));
       }
 
   -- a step on the chain has a draw from m on, in the same bucket
-  on_chain : (t : ℕ) → latestStep (inBucket m (bucketOf m (get_or ds i 0))) ds (suc t) ≡ suc t → (m ≤ get_or ds t 0) × (bucketOf m (get_or ds t 0) ≡ bucketOf m (get_or ds i 0))
-  unfolding inBucket
+  on_chain : (t : ℕ) → latest_step (in_bucket m (bucket_of m (get_or ds i 0))) ds (suc t) ≡ suc t → (m ≤ get_or ds t 0) × (bucket_of m (get_or ds t 0) ≡ bucket_of m (get_or ds i 0))
+  unfolding in_bucket
   on_chain t q =
-      let p = latestStep-passes (inBucket m (bucketOf m (get_or ds i 0))) ds t q in
+      let p = latest_step-passes (in_bucket m (bucket_of m (get_or ds i 0))) ds t q in
       let x = leb m (get_or ds t 0) in
-      let y = eqb (bucketOf m (get_or ds t 0)) (bucketOf m (get_or ds i 0)) in
-      (leb-true m (get_or ds t 0) (and_left x y p), eqb-true (bucketOf m (get_or ds t 0)) (bucketOf m (get_or ds i 0)) (and_right x y p))
+      let y = eqb (bucket_of m (get_or ds t 0)) (bucket_of m (get_or ds i 0)) in
+      (leb-true m (get_or ds t 0) (and_left x y p), eqb-true (bucket_of m (get_or ds t 0)) (bucket_of m (get_or ds i 0)) (and_right x y p))
 
   module _ (s : List ℕ) (linked : Linked m ds s) (h : i < length ds) where
     pub walk_begins : Walked m ds i (get_or s (m + i) 0)
-    walk_begins = walk-to i (get_or s (m + i) 0) (omega arith) refl (linked.link i h far)
+    walk_begins = walk_to i (get_or s (m + i) 0) (omega arith) refl (linked.link i h far)
 
-    pub walk-goes-on : (t : ℕ) → Walked m ds i t → 0 < t → (get_or ds (t - 1) 0 ≡ get_or ds i 0 → ⊥) → (get_or s (m + (t - 1)) 0 < t) × Walked m ds i (get_or s (m + (t - 1)) 0)
-    walk-goes-on zero w k n = absurd (not-suc-le-zero k)
-    walk-goes-on (suc t) w k n =
+    pub walk_goes_on : (t : ℕ) → Walked m ds i t → 0 < t → (get_or ds (t - 1) 0 ≡ get_or ds i 0 → ⊥) → (get_or s (m + (t - 1)) 0 < t) × Walked m ds i (get_or s (m + (t - 1)) 0)
+    walk_goes_on zero w k n = absurd (not-suc-le-zero k)
+    walk_goes_on (suc t) w k n =
         let p : suc t - 1 ≡ t = omega arith in
         let c = on_chain t w.on in
         let l = w.early in
-        let e : get_or s (m + t) 0 ≡ latestStep (inBucket m (bucketOf m (get_or ds i 0))) ds t = rw c.1 at (linked.link t (omega arith) c.0) in
-        let b = latestStep-le (inBucket m (bucketOf m (get_or ds i 0))) ds t in
-        let no = latestStep-no (eqb (get_or ds i 0)) ds t (ne_eqb (get_or ds i 0) (get_or ds t 0) (λ x. n (rw p (sym x)))) in
-        rw p (omega arith, walk-to t (get_or s (m + t) 0) (omega arith) (w.same ∙ no) e)
+        let e : get_or s (m + t) 0 ≡ latest_step (in_bucket m (bucket_of m (get_or ds i 0))) ds t = rw c.1 at (linked.link t (omega arith) c.0) in
+        let b = latest_step_le (in_bucket m (bucket_of m (get_or ds i 0))) ds t in
+        let no = latest_step_no (eqb (get_or ds i 0)) ds t (ne_eqb (get_or ds i 0) (get_or ds t 0) (λ x. n (rw p (sym x)))) in
+        rw p (omega arith, walk_to t (get_or s (m + t) 0) (omega arith) (w.same ∙ no) e)
 
-pub walk-finds : (m : ℕ) (ds : List ℕ) (i s : ℕ) → Walked m ds i s → 0 < s → get_or ds (s - 1) 0 ≡ get_or ds i 0 → s ≡ latestStep (eqb (get_or ds i 0)) ds i
-walk-finds m ds i zero w h q = absurd (not-suc-le-zero h)
-walk-finds m ds i (suc t) w h q =
+pub walk_finds : (m : ℕ) (ds : List ℕ) (i s : ℕ) → Walked m ds i s → 0 < s → get_or ds (s - 1) 0 ≡ get_or ds i 0 → s ≡ latest_step (eqb (get_or ds i 0)) ds i
+walk_finds m ds i zero w h q = absurd (not-suc-le-zero h)
+walk_finds m ds i (suc t) w h q =
     let p : suc t - 1 ≡ t = omega arith in
-    sym (w.same ∙ latestStep-yes (eqb (get_or ds i 0)) ds t (eq-eqb (get_or ds i 0) (get_or ds t 0) (sym (rw p at q))))
+    sym (w.same ∙ latest_step_yes (eqb (get_or ds i 0)) ds t (eq-eqb (get_or ds i 0) (get_or ds t 0) (sym (rw p at q))))
 
-pub walk_ends : (m : ℕ) (ds : List ℕ) (i s : ℕ) → Walked m ds i s → s ≡ 0 → 0 ≡ latestStep (eqb (get_or ds i 0)) ds i
-unfolding latestStep
-walk_ends m ds i s w e = sym (w.same ∙ ap (latestStep (eqb (get_or ds i 0)) ds) e)
+pub walk_ends : (m : ℕ) (ds : List ℕ) (i s : ℕ) → Walked m ds i s → s ≡ 0 → 0 ≡ latest_step (eqb (get_or ds i 0)) ds i
+unfolding latest_step
+walk_ends m ds i s w e = sym (w.same ∙ ap (latest_step (eqb (get_or ds i 0)) ds) e)
 
 -- ---- building the chains
 
 -- the heads and the links after the first i steps
 pub record Chains (ds : List ℕ) (i : ℕ) (s : List ℕ) : Type 0 where
-  pub heads : (b : ℕ) → b < length ds → get_or s b 0 ≡ latestStep (inBucket (length ds) b) ds i
-  pub links : (j : ℕ) → j < i → length ds ≤ get_or ds j 0 → get_or s (length ds + j) 0 ≡ latestStep (inBucket (length ds) (bucketOf (length ds) (get_or ds j 0))) ds j
+  pub heads : (b : ℕ) → b < length ds → get_or s b 0 ≡ latest_step (in_bucket (length ds) b) ds i
+  pub links : (j : ℕ) → j < i → length ds ≤ get_or ds j 0 → get_or s (length ds + j) 0 ≡ latest_step (in_bucket (length ds) (bucket_of (length ds) (get_or ds j 0))) ds j
 
-pub chains-first : (ds s : List ℕ) → Chains ds 0 (tabulate (multiple 0) (length ds) ++ drop (length ds) s)
-unfolding latestStep
-chains-first ds s =
+pub chains_first : (ds s : List ℕ) → Chains ds 0 (tabulate (multiple 0) (length ds) ++ drop (length ds) s)
+unfolding latest_step
+chains_first ds s =
     record {
-      heads = λ b h. get_or-append (tabulate (multiple 0) (length ds)) (drop (length ds) s) 0 b (rw length-tabulate h) ∙ get_d_tabulate (multiple 0) (length ds) b 0 h ∙ mul-zero b;
+      heads = λ b h. get_or-append (tabulate (multiple 0) (length ds)) (drop (length ds) s) 0 b (rw length-tabulate h) ∙ get_or-tabulate (multiple 0) (length ds) b 0 h ∙ mul-zero b;
       links = λ j h k. absurd (not-suc-le-zero h);
     }
 
@@ -127,77 +127,77 @@ length-chained z i d s = case (leb z d) (λ t. rw (t, length-set, length-set)) (
 drop-chained : (z i d : ℕ) (s : List ℕ) → i < z → drop (2 * z) (chained z i d s) ≡ drop (2 * z) s
 unfolding chained
 drop-chained z i d s h =
-    let b = bucket-below z d (omega arith) in
+    let b = bucket_below z d (omega arith) in
     case (leb z d)
-    (λ t. rw t (drop-set-lt (2 * z) (set s (z + i) (get_or s (bucketOf z d) 0)) (bucketOf z d) (i + 1) (omega arith) ∙ drop-set-lt (2 * z) s (z + i) (get_or s (bucketOf z d) 0) (omega arith)))
+    (λ t. rw t (drop-set-lt (2 * z) (set s (z + i) (get_or s (bucket_of z d) 0)) (bucket_of z d) (i + 1) (omega arith) ∙ drop-set-lt (2 * z) s (z + i) (get_or s (bucket_of z d) 0) (omega arith)))
     (λ t. rw t)
 
 -- what stands at k after a step was chained: the head of its bucket, its link, and everything else as before
 module _ (z i d : ℕ) (s : List ℕ) (h : i < z) (l : 2 * z ≤ length s) where
-  chained-near : d < z → chained z i d s ≡ s
+  chained_near : d < z → chained z i d s ≡ s
   unfolding chained
-  chained-near a = rw (lt-leb z d a)
+  chained_near a = rw (lt-leb z d a)
 
-  chained-head : z ≤ d → get_or (chained z i d s) (bucketOf z d) 0 ≡ i + 1
+  chained_head : z ≤ d → get_or (chained z i d s) (bucket_of z d) 0 ≡ i + 1
   unfolding chained
-  chained-head a =
-      let b = bucket-below z d (omega arith) in
-      rw (le-leb z d a) (get_or-set_same (set s (z + i) (get_or s (bucketOf z d) 0)) (bucketOf z d) (i + 1) 0 (rw length-set (omega arith)))
+  chained_head a =
+      let b = bucket_below z d (omega arith) in
+      rw (le-leb z d a) (get_or-set_same (set s (z + i) (get_or s (bucket_of z d) 0)) (bucket_of z d) (i + 1) 0 (rw length-set (omega arith)))
 
-  chained-link : z ≤ d → get_or (chained z i d s) (z + i) 0 ≡ get_or s (bucketOf z d) 0
+  chained_link : z ≤ d → get_or (chained z i d s) (z + i) 0 ≡ get_or s (bucket_of z d) 0
   unfolding chained
-  chained-link a =
-      let b = bucket-below z d (omega arith) in
-      rw (le-leb z d a) (get_or-set_other (set s (z + i) (get_or s (bucketOf z d) 0)) (bucketOf z d) (z + i) (i + 1) 0 (λ e. omega arith)
-      ∙ get_or-set_same s (z + i) (get_or s (bucketOf z d) 0) 0 (omega arith))
+  chained_link a =
+      let b = bucket_below z d (omega arith) in
+      rw (le-leb z d a) (get_or-set_other (set s (z + i) (get_or s (bucket_of z d) 0)) (bucket_of z d) (z + i) (i + 1) 0 (λ e. omega arith)
+      ∙ get_or-set_same s (z + i) (get_or s (bucket_of z d) 0) 0 (omega arith))
 
-  chained-other : (k : ℕ) → (z ≤ d → k ≢ bucketOf z d) → k ≢ z + i → get_or (chained z i d s) k 0 ≡ get_or s k 0
+  chained_other : (k : ℕ) → (z ≤ d → k ≢ bucket_of z d) → k ≢ z + i → get_or (chained z i d s) k 0 ≡ get_or s k 0
   unfolding chained
-  chained-other k p q =
+  chained_other k p q =
       case (leb z d)
-      (λ t. rw t (get_or-set_other (set s (z + i) (get_or s (bucketOf z d) 0)) (bucketOf z d) k (i + 1) 0 (p (leb-true z d t)) ∙ get_or-set_other s (z + i) k (get_or s (bucketOf z d) 0) 0 q))
+      (λ t. rw t (get_or-set_other (set s (z + i) (get_or s (bucket_of z d) 0)) (bucket_of z d) k (i + 1) 0 (p (leb-true z d t)) ∙ get_or-set_other s (z + i) k (get_or s (bucket_of z d) 0) 0 q))
       (λ t. rw t)
 
-inBucket-yes : (m d : ℕ) → m ≤ d → inBucket m (bucketOf m d) d ≡ true
-unfolding inBucket
-inBucket-yes m d h = and_intro (le-leb m d h) (eq-eqb (bucketOf m d) (bucketOf m d) refl)
+in_bucket_yes : (m d : ℕ) → m ≤ d → in_bucket m (bucket_of m d) d ≡ true
+unfolding in_bucket
+in_bucket_yes m d h = and_intro (le-leb m d h) (eq-eqb (bucket_of m d) (bucket_of m d) refl)
 
 -- one step more
-module _ (z : ℕ) (ds s : List ℕ) (i : ℕ) (h : i < z) (l : 2 * z ≤ length s) (heads : (b : ℕ) → b < z → get_or s b 0 ≡ latestStep (inBucket z b) ds i) where
-  heads-more : (b : ℕ) → b < z → get_or (chained z i (get_or ds i 0) s) b 0 ≡ latestStep (inBucket z b) ds (suc i)
-  unfolding inBucket
-  heads-more b k = case (inBucket z b (get_or ds i 0)) yes-inBucket no-inBucket
+module _ (z : ℕ) (ds s : List ℕ) (i : ℕ) (h : i < z) (l : 2 * z ≤ length s) (heads : (b : ℕ) → b < z → get_or s b 0 ≡ latest_step (in_bucket z b) ds i) where
+  heads_more : (b : ℕ) → b < z → get_or (chained z i (get_or ds i 0) s) b 0 ≡ latest_step (in_bucket z b) ds (suc i)
+  unfolding in_bucket
+  heads_more b k = case (in_bucket z b (get_or ds i 0)) yes_in_bucket no_in_bucket
     where
-      yes-inBucket : inBucket z b (get_or ds i 0) ≡ true → get_or (chained z i (get_or ds i 0) s) b 0 ≡ latestStep (inBucket z b) ds (suc i)
-      yes-inBucket t =
-          let far : z ≤ get_or ds i 0 = leb-true z (get_or ds i 0) (and_left (leb z (get_or ds i 0)) (eqb (bucketOf z (get_or ds i 0)) b) t) in
-          let same : bucketOf z (get_or ds i 0) ≡ b = eqb-true (bucketOf z (get_or ds i 0)) b (and_right (leb z (get_or ds i 0)) (eqb (bucketOf z (get_or ds i 0)) b) t) in
-          ap (λ (x : ℕ). get_or (chained z i (get_or ds i 0) s) x 0) (sym same) ∙ chained-head z i (get_or ds i 0) s h l far ∙ add-one i ∙ sym (latestStep-yes (inBucket z b) ds i t)
+      yes_in_bucket : in_bucket z b (get_or ds i 0) ≡ true → get_or (chained z i (get_or ds i 0) s) b 0 ≡ latest_step (in_bucket z b) ds (suc i)
+      yes_in_bucket t =
+          let far : z ≤ get_or ds i 0 = leb-true z (get_or ds i 0) (and_left (leb z (get_or ds i 0)) (eqb (bucket_of z (get_or ds i 0)) b) t) in
+          let same : bucket_of z (get_or ds i 0) ≡ b = eqb-true (bucket_of z (get_or ds i 0)) b (and_right (leb z (get_or ds i 0)) (eqb (bucket_of z (get_or ds i 0)) b) t) in
+          ap (λ (x : ℕ). get_or (chained z i (get_or ds i 0) s) x 0) (sym same) ∙ chained_head z i (get_or ds i 0) s h l far ∙ add-one i ∙ sym (latest_step_yes (in_bucket z b) ds i t)
 
-      no-inBucket : inBucket z b (get_or ds i 0) ≡ false → get_or (chained z i (get_or ds i 0) s) b 0 ≡ latestStep (inBucket z b) ds (suc i)
-      no-inBucket t =
-          chained-other z i (get_or ds i 0) s h l b (λ f e. contra (ap (λ (x : ℕ). inBucket z x (get_or ds i 0)) e ∙ inBucket-yes z (get_or ds i 0) f) t) (λ e. omega arith)
+      no_in_bucket : in_bucket z b (get_or ds i 0) ≡ false → get_or (chained z i (get_or ds i 0) s) b 0 ≡ latest_step (in_bucket z b) ds (suc i)
+      no_in_bucket t =
+          chained_other z i (get_or ds i 0) s h l b (λ f e. contra (ap (λ (x : ℕ). in_bucket z x (get_or ds i 0)) e ∙ in_bucket_yes z (get_or ds i 0) f) t) (λ e. omega arith)
           ∙ heads b k
-          ∙ sym (latestStep-no (inBucket z b) ds i t)
+          ∙ sym (latest_step_no (in_bucket z b) ds i t)
 
-  link-new : z ≤ get_or ds i 0 → get_or (chained z i (get_or ds i 0) s) (z + i) 0 ≡ latestStep (inBucket z (bucketOf z (get_or ds i 0))) ds i
-  link-new far = chained-link z i (get_or ds i 0) s h l far ∙ heads (bucketOf z (get_or ds i 0)) (bucket-below z (get_or ds i 0) (omega arith))
+  link_new : z ≤ get_or ds i 0 → get_or (chained z i (get_or ds i 0) s) (z + i) 0 ≡ latest_step (in_bucket z (bucket_of z (get_or ds i 0))) ds i
+  link_new far = chained_link z i (get_or ds i 0) s h l far ∙ heads (bucket_of z (get_or ds i 0)) (bucket_below z (get_or ds i 0) (omega arith))
 
-  link-old : (j : ℕ) → j < i → get_or (chained z i (get_or ds i 0) s) (z + j) 0 ≡ get_or s (z + j) 0
-  link-old j k =
-      let b = bucket-below z (get_or ds i 0) (omega arith) in
-      chained-other z i (get_or ds i 0) s h l (z + j) (λ f e. omega arith) (λ e. omega arith)
+  link_old : (j : ℕ) → j < i → get_or (chained z i (get_or ds i 0) s) (z + j) 0 ≡ get_or s (z + j) 0
+  link_old j k =
+      let b = bucket_below z (get_or ds i 0) (omega arith) in
+      chained_other z i (get_or ds i 0) s h l (z + j) (λ f e. omega arith) (λ e. omega arith)
 
-pub chains-more : (ds s : List ℕ) (i : ℕ) → i < length ds → 2 * length ds ≤ length s → Chains ds i s → Chains ds (i + 1) (chained (length ds) i (get_or ds i 0) s)
-chains-more ds s i h l c = rw (add-one i) (record { heads = heads-more (length ds) ds s i h l c.heads; links = λ j k f. link j (eq-or-lt_of_le (le_of_suc-le-suc k)) f })
+pub chains_more : (ds s : List ℕ) (i : ℕ) → i < length ds → 2 * length ds ≤ length s → Chains ds i s → Chains ds (i + 1) (chained (length ds) i (get_or ds i 0) s)
+chains_more ds s i h l c = rw (add-one i) (record { heads = heads_more (length ds) ds s i h l c.heads; links = λ j k f. link j (eq-or-lt_of_le (le_of_suc-le-suc k)) f })
   where
     link : (j : ℕ) → (j ≡ i) ⊎ (j < i) → length ds ≤ get_or ds j 0
-        → get_or (chained (length ds) i (get_or ds i 0) s) (length ds + j) 0 ≡ latestStep (inBucket (length ds) (bucketOf (length ds) (get_or ds j 0))) ds j
-    link j (inl e) f = rw e (link-new (length ds) ds s i h l c.heads (rw e at f))
-    link j (inr k) f = link-old (length ds) ds s i h l c.heads j k ∙ c.links j k f
+        → get_or (chained (length ds) i (get_or ds i 0) s) (length ds + j) 0 ≡ latest_step (in_bucket (length ds) (bucket_of (length ds) (get_or ds j 0))) ds j
+    link j (inl e) f = rw e (link_new (length ds) ds s i h l c.heads (rw e at f))
+    link j (inr k) f = link_old (length ds) ds s i h l c.heads j k ∙ c.links j k f
 
-pub chains-linked : (ds s : List ℕ) → 2 * length ds ≤ length s → Chains ds (length ds) s → Linked (length ds) ds s
-chains-linked ds s l c = record { room = λ i h f. omega arith; link = λ i h f. c.links i h f }
+pub chains_linked : (ds s : List ℕ) → 2 * length ds ≤ length s → Chains ds (length ds) s → Linked (length ds) ds s
+chains_linked ds s l c = record { room = λ i h f. omega arith; link = λ i h f. c.links i h f }
 
 -- ---- links are kept
 
@@ -255,7 +255,7 @@ ready-all n ds s a b v =
     }
   where
     none : (i : ℕ) → i < length ds → n ≤ get_or ds i 0 → ⊥
-    none i h f = let r = (valid-at n 0 ds v i h).1 in omega arith
+    none i h f = let r = (valid_at n 0 ds v i h).1 in omega arith
 
 pub ready-counted : (m : ℕ) (ds s : List ℕ) → Prepared m ds s → Prepared m ds (tabulate (multiple 1) m ++ drop m s)
 ready-counted m ds s r =

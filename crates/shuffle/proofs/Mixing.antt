@@ -1,14 +1,14 @@
 -- A bucket is one of z. Why: what is scaled is below 2^32 times z, or times 2^32 where that is less. Assumes nothing.
 use Rattle.std.proofs.Common.{ℕ, ◌*◌, ◌/◌, ◌%◌, ◌^◌, ◌<◌, ◌≤◌, min, mul-lt-mul_of_pos_right, arith}
-use Rattle.shuffle.specs.Buckets.{spread, bucketOf}
+use Rattle.shuffle.specs.Buckets.{spread, bucket_of}
 
 pub spread-fits : (x : ℕ) → spread x < 2 ^ 64
 unfolding spread
 spread-fits x = omega arith
 
-pub bucket-below : (z d : ℕ) → 0 < z → bucketOf z d < z
-unfolding bucketOf
-bucket-below z d h =
+pub bucket_below : (z d : ℕ) → 0 < z → bucket_of z d < z
+unfolding bucket_of
+bucket_below z d h =
     scaled (spread (spread d / 2 ^ 32 * (spread d % 2 ^ 32)) / 2 ^ 32) (min z (2 ^ 32)) (upper (spread-fits (spread d / 2 ^ 32 * (spread d % 2 ^ 32)))) (omega arith) (omega arith)
   where
     upper : {x : ℕ} → x < 2 ^ 64 → x / 2 ^ 32 < 2 ^ 32

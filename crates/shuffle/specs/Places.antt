@@ -1,8 +1,8 @@
 -- What the scratch holds while valid draws are served. ds are the draws; the scratch s holds the places below m by themselves.
 --   arranged ds i     == the arrangement after the first i draws: from a place to its number
 --   drawn ds i        == the number at draw i when step i comes: output i
---   latestStep f ds i == one more than the last of the first i steps whose draw passes the test f, or 0
---   inBucket m b      == the test for a draw from m on that falls into bucket b
+--   latest_step f ds i == one more than the last of the first i steps whose draw passes the test f, or 0
+--   in_bucket m b      == the test for a draw from m on that falls into bucket b
 --   multiple step k   == k × step: 0 for a scratch that is cleared, k for one that begins with each place's own number
 --   chained z i d s   == s after step i, with draw d, became the head of its bucket's chain
 --   moved m i d s     == s after the number at i was moved to d, if d is below m
@@ -15,7 +15,7 @@
 use Rattle.std.specs.Prelude.{◌≡◌, ℕ, zero, suc, ◌+◌, ◌*◌, ◌<◌, ◌≤◌, min, Bool, ◌&&◌, List, length, drop, ◌==◌, nat_le, nat_lt, slice_index, slice_set}
 use Rattle.lists.specs.Lists.{pick}
 use Rattle.automaton.specs.Shuffle.{swap}
-use Rattle.shuffle.specs.Buckets.{bucketOf}
+use Rattle.shuffle.specs.Buckets.{bucket_of}
 
 -- 'Begin with 0 to n−1 in order. For i from 0, swap the numbers at i and at draw i'
 unfoldable pub arranged : List ℕ → ℕ → ℕ → ℕ
@@ -26,25 +26,25 @@ arranged ds (suc i) = swap (arranged ds i) i (slice_index ds i)
 unfoldable pub drawn : List ℕ → ℕ → ℕ
 drawn ds i = arranged ds i (slice_index ds i)
 
-unfoldable pub latestStep : (ℕ → Bool) → List ℕ → ℕ → ℕ
-latestStep f ds zero = 0
-latestStep f ds (suc i) = pick (f (slice_index ds i)) (suc i) (latestStep f ds i)
+unfoldable pub latest_step : (ℕ → Bool) → List ℕ → ℕ → ℕ
+latest_step f ds zero = 0
+latest_step f ds (suc i) = pick (f (slice_index ds i)) (suc i) (latest_step f ds i)
 
-unfoldable pub inBucket : ℕ → ℕ → ℕ → Bool
-inBucket m b d = nat_le m d && bucketOf m d == b
+unfoldable pub in_bucket : ℕ → ℕ → ℕ → Bool
+in_bucket m b d = nat_le m d && bucket_of m d == b
 
 abbrev pub multiple : ℕ → ℕ → ℕ
 multiple step k = k * step
 
 unfoldable pub chained : ℕ → ℕ → ℕ → List ℕ → List ℕ
-chained z i d s = pick (nat_le z d) (slice_set (slice_set s (z + i) (slice_index s (bucketOf z d))) (bucketOf z d) (i + 1)) s
+chained z i d s = pick (nat_le z d) (slice_set (slice_set s (z + i) (slice_index s (bucket_of z d))) (bucket_of z d) (i + 1)) s
 
 unfoldable pub moved : ℕ → ℕ → ℕ → List ℕ → List ℕ
 moved m i d s = pick (nat_lt d m) (slice_set s d (slice_index s i)) s
 
 pub record Linked (m : ℕ) (ds s : List ℕ) : Type 0 where
   pub room : (i : ℕ) → i < length ds → m ≤ slice_index ds i → m + length ds ≤ length s
-  pub link : (i : ℕ) → i < length ds → m ≤ slice_index ds i → slice_index s (m + i) ≡ latestStep (inBucket m (bucketOf m (slice_index ds i))) ds i
+  pub link : (i : ℕ) → i < length ds → m ≤ slice_index ds i → slice_index s (m + i) ≡ latest_step (in_bucket m (bucket_of m (slice_index ds i))) ds i
 
 abbrev pub Walkable : ℕ → List ℕ → ℕ → List ℕ → Type 0
 Walkable m ds i s = (i < length ds) × (m ≤ slice_index ds i) × (m + length ds ≤ length s) × Linked m ds s

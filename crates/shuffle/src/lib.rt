@@ -7,10 +7,10 @@
 ghost use Rattle.std.specs.Prelude.{◌≡◌, ℕ, ◌+◌, ◌*◌, ◌^◌, ◌<◌, ◌≤◌, min, ◌++◌, length, drop, nat_eq, slice_index};
 ghost use Rattle.lists.specs.Lists.{tabulate};
 ghost use Rattle.automaton.specs.Shuffle.{Valid, shuffle as swapped};
-ghost use Rattle.promises.specs.Calls.{firstBad, badDraw, shuffle as promised, shuffled as promisedOutput, ShuffleKeeps};
+ghost use Rattle.promises.specs.Calls.{first_bad, bad_draw, shuffle as promised, shuffled as promisedOutput, ShuffleKeeps};
 ghost use Rattle.shuffle.specs.Outcome.{answer_of};
-ghost use Rattle.shuffle.specs.Buckets.{spread, bucketOf};
-ghost use Rattle.shuffle.specs.Places.{drawn, latestStep, multiple, chained, moved, Linked, Walkable, Held, Prepared, Kept};
+ghost use Rattle.shuffle.specs.Buckets.{spread, bucket_of};
+ghost use Rattle.shuffle.specs.Places.{drawn, latest_step, multiple, chained, moved, Linked, Walkable, Held, Prepared, Kept};
 
 // Served, or refused with a number and a place.
 #[derive(Drop)]
@@ -43,7 +43,7 @@ pub fn shuffle(n: u64, draws: &[u64], scratch: &mut [u64], out: &mut [u64]) -> A
 
 // The position of the first draw that is out of range, or the number of draws.
 fn first_bad(n: u64, draws: &[u64]) -> usize
-    ensures { result ≡ firstBad (badDraw n) draws.now }
+    ensures { result ≡ first_bad (bad_draw n) draws.now }
 {
     for i in 0..draws.len() {
         let d = draws[i];
@@ -112,7 +112,7 @@ fn chain(scratch: &mut [u64], z: usize, i: usize, d: u64)
 // The bucket of a draw, one of z.
 fn bucket(z: usize, d: u64) -> usize
     requires { 0 < z }
-    ensures { (result ≡ bucketOf z d) × (result < z) }
+    ensures { (result ≡ bucket_of z d) × (result < z) }
 {
     let m = spread_bits(d);
     let h = spread_bits((m / 4294967296) * (m % 4294967296));
@@ -177,7 +177,7 @@ fn number_at(draws: &[u64], scratch: &[u64], reach: usize, i: usize) -> u64
 // One more than the last step before step i that has the same draw, or 0 where there is none.
 fn last_step(draws: &[u64], scratch: &[u64], reach: usize, i: usize) -> usize
     requires { Walkable reach draws.now i scratch.now }
-    ensures { result ≡ latestStep (nat_eq (slice_index draws.now i)) draws.now i }
+    ensures { result ≡ latest_step (nat_eq (slice_index draws.now i)) draws.now i }
 {
     let d = draws[i];
     let mut s = scratch[reach + i] as usize;

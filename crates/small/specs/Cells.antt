@@ -4,12 +4,12 @@
 use Rattle.std.specs.Prelude.{◌≡◌, List, ℕ, ◌*◌, ◌/◌, min}
 use Rattle.automaton.specs.Automaton.{Automaton}
 use Rattle.automaton.specs.Counting.{N, most}
-use Rattle.promises.specs.Small.{smallRows}
+use Rattle.promises.specs.Small.{small_rows}
 use Rattle.counting.specs.Tabled.{Tabled}
 use Rattle.keeping.specs.Keeping.{Sixteenths, Past}
 
 pub record CellsBy (A : Automaton) (p x h n : ℕ) (cells left table : List ℕ) : Type 0 where
   pub counted : n ≡ min (N A h x) most
   pub kept : Sixteenths A p (h / 16) left
-  pub past : Past (smallRows h * p) cells left
+  pub past : Past (small_rows h * p) cells left
   pub tabled : Tabled A p table

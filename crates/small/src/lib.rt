@@ -1,11 +1,11 @@
 // Scenarios on the small bench: the call that keeps every sixteenth row of cells and works the others out when they are wanted. It reads what it is lent,
 // refuses what it can't serve, and ends; it asks nothing of its caller.
 ghost use Rattle.std.specs.Prelude.{◌≡◌, ◌*◌, ◌≤◌, length};
-ghost use Rattle.rig.specs.Record.{recordAutomaton};
+ghost use Rattle.rig.specs.Record.{record_automaton};
 ghost use Rattle.promises.specs.Calls.{Freed};
-ghost use Rattle.promises.specs.Small.{smallRows, small, smallOutput, SmallKeeps};
+ghost use Rattle.promises.specs.Small.{small_rows, small, small_output, SmallKeeps};
 ghost use Rattle.checks.specs.Loading.{FitsFor};
-ghost use Rattle.generator.specs.Outcomes.{listAnswer, list_from, outputFrom};
+ghost use Rattle.generator.specs.Outcomes.{list_answer, list_from, output_from};
 ghost use Rattle.small.specs.Cells.{CellsBy};
 
 use checks::{Checked, Rows};
@@ -21,8 +21,8 @@ fn keep_cells(
     cells: &mut [u64],
     table: &mut [u16],
 ) -> u64
-    requires { FitsFor rig states start (smallRows h) h (length cells.old) × (length table.old ≡ 16384) }
-    ensures { CellsBy (recordAutomaton rig) states start h result cells.old cells.new table.new }
+    requires { FitsFor rig states start (small_rows h) h (length cells.old) × (length table.old ≡ 16384) }
+    ensures { CellsBy (record_automaton rig) states start h result cells.old cells.new table.new }
 {
     let mut live = [0u8; 1024];
     pruning::prune(rig, &mut live, table);
@@ -40,10 +40,10 @@ fn list_cells(
     cells: &mut [u64],
     out: &mut [u8],
 ) -> Listed
-    requires { FitsFor rig states start (smallRows h) h (length cells.old) × (length list.now * h ≤ length out.old) }
-    ensures result_value { listAnswer result ≡ list_from (recordAutomaton rig) h start list.now }
-    ensures freed { Freed (smallRows h * states) cells.old cells.new }
-    ensures out_after { out.new ≡ outputFrom (recordAutomaton rig) h start (listAnswer result) list.now out.old }
+    requires { FitsFor rig states start (small_rows h) h (length cells.old) × (length list.now * h ≤ length out.old) }
+    ensures result_value { list_answer result ≡ list_from (record_automaton rig) h start list.now }
+    ensures freed { Freed (small_rows h * states) cells.old cells.new }
+    ensures out_after { out.new ≡ output_from (record_automaton rig) h start (list_answer result) list.now out.old }
 {
     let mut table = [0u16; 16384];
     let count = keep_cells(rig, states, start, h, cells, &mut table);
@@ -69,9 +69,9 @@ pub fn scenarios_small(
     cells: &mut [u64],
     out: &mut [u8],
 ) -> Listed
-    ensures result_value { listAnswer result ≡ small text.now h list.now cells.old out.old }
+    ensures result_value { list_answer result ≡ small text.now h list.now cells.old out.old }
     ensures small_keeps { SmallKeeps text.now h list.now cells.old out.old cells.new }
-    ensures out_after { out.new ≡ smallOutput text.now h list.now cells.old out.old }
+    ensures out_after { out.new ≡ small_output text.now h list.now cells.old out.old }
 {
     let o = checks::load(text, h, Rows::Sixteenths, cells.len());
     let checked = o.checked;

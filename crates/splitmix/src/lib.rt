@@ -1,10 +1,10 @@
 // SplitMix64: a state that is added to, and the mixing that makes a raw number of a copy of it.
 ghost use Rattle.std.specs.Prelude.{◌≡◌, ◌*◌, ◌%◌, ◌^◌};
-ghost use Rattle.promises.specs.SplitMix.{nextState, mix as mixed};
+ghost use Rattle.promises.specs.SplitMix.{next_state, mix as mixed};
 
 // The state that follows s: 'adds 9E3779B97F4A7C15 (hexadecimal) and drops the carry'.
 pub fn next_state(s: u64) -> u64
-    ensures { result ≡ nextState s }
+    ensures { result ≡ next_state s }
 {
     std::num::wrapping_add_u64(s, 0x9E3779B97F4A7C15)
 }

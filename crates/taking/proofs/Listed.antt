@@ -9,23 +9,23 @@ use lib.Seq.{drop-cons, length-take-le}
 use lib.Dec.{ltb, leb}
 use borrow.Author.Tests.{lt-ltb, le-ltb}
 use Rattle.lists.specs.Lists.{any, index_of}
-use Rattle.lists.proofs.Permutations.{indexOf-any}
+use Rattle.lists.proofs.Permutations.{index_of-any}
 use Rattle.promises.specs.Reading.{repeats}
-use Rattle.promises.specs.Calls.{notBelow, firstBad}
-use Rattle.promises.proofs.Checks.{bad-any}
+use Rattle.promises.specs.Calls.{not_below, first_bad}
+use Rattle.promises.proofs.Checks.{bad_any}
 use Rattle.decoding.proofs.Numbers.{rest-whole}
 
 -- ---- the numbers that are no events
 
-module _ (os : List ℕ) (n k : ℕ) (room : n ≤ length os) (q : k ≡ firstBad (notBelow n) (take n os)) where
-  front-test : ltb k n ≡ any (leb n) (take n os)
-  front-test = ap₂ ltb q (sym (length-take-le n os room)) ∙ bad-any n (take n os)
+module _ (os : List ℕ) (n k : ℕ) (room : n ≤ length os) (q : k ≡ first_bad (not_below n) (take n os)) where
+  front_test : ltb k n ≡ any (leb n) (take n os)
+  front_test = ap₂ ltb q (sym (length-take-le n os room)) ∙ bad_any n (take n os)
 
-  pub front-bad : k < n → any (leb n) (take n os) ≡ true
-  front-bad h = sym front-test ∙ lt-ltb k n h
+  pub front_bad : k < n → any (leb n) (take n os) ≡ true
+  front_bad h = sym front_test ∙ lt-ltb k n h
 
-  pub front-good : n ≤ k → any (leb n) (take n os) ≡ false
-  front-good h = sym front-test ∙ le-ltb k n h
+  pub front_good : n ≤ k → any (leb n) (take n os) ≡ false
+  front_good h = sym front_test ∙ le-ltb k n h
 
 -- ---- repeats, byte by byte
 
@@ -34,14 +34,14 @@ module _ (l : List ℕ) (k : ℕ) where
   abbrev rest : List ℕ
   rest = take (length l - (k + 1)) (drop (k + 1) l)
 
-  repeats-step : k < length l → repeats (drop k l) ≡ (ltb (index_of rest (get_or l k 0)) (length rest) || repeats (drop (k + 1) l))
-  repeats-step h = rw (rest-whole l (k + 1), drop-cons l k 0 h, indexOf-any (drop (k + 1) l) (get_or l k 0), add-one)
+  repeats_step : k < length l → repeats (drop k l) ≡ (ltb (index_of rest (get_or l k 0)) (length rest) || repeats (drop (k + 1) l))
+  repeats_step h = rw (rest-whole l (k + 1), drop-cons l k 0 h, index_of-any (drop (k + 1) l) (get_or l k 0), add-one)
 
-  pub repeats-here : k < length l → index_of rest (get_or l k 0) < length rest → repeats (drop k l) ≡ true
-  repeats-here h lt = repeats-step h ∙ rw (lt-ltb _ _ lt)
+  pub repeats_here : k < length l → index_of rest (get_or l k 0) < length rest → repeats (drop k l) ≡ true
+  repeats_here h lt = repeats_step h ∙ rw (lt-ltb _ _ lt)
 
-  pub repeats-later : k < length l → length rest ≤ index_of rest (get_or l k 0) → repeats (drop k l) ≡ repeats (drop (k + 1) l)
-  repeats-later h le = repeats-step h ∙ rw (le-ltb _ _ le)
+  pub repeats_later : k < length l → length rest ≤ index_of rest (get_or l k 0) → repeats (drop k l) ≡ repeats (drop (k + 1) l)
+  repeats_later h le = repeats_step h ∙ rw (le-ltb _ _ le)
 
-  pub repeats-end : length l ≤ k → repeats (drop k l) ≡ false
-  repeats-end h = ap repeats (drop_of_length-le l {i = k} h)
+  pub repeats_end : length l ≤ k → repeats (drop k l) ≡ false
+  repeats_end h = ap repeats (drop_of_length-le l {i = k} h)

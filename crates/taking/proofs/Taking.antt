@@ -15,11 +15,11 @@ use Rattle.taking.specs.Taking.{Allowed, only_if}
 there : (n k : ℕ) → (n ≡ 0 → k ≡ 0) → (k ≡ 0 → ⊥) → 1 ≤ n
 there n k none h = case (eqb n 0) (λ q. absurd (h (none (eqb-true n 0 q)))) (λ q. omega (arith, eqb-false n 0 q))
 
-pub some-monitor : (z : Sizes) → Allowed z → (z.latest ≡ 0 → ⊥) → 1 ≤ z.monitors
-some-monitor z a h = there z.monitors z.latest a.none-latest h
+pub some_monitor : (z : Sizes) → Allowed z → (z.latest ≡ 0 → ⊥) → 1 ≤ z.monitors
+some_monitor z a h = there z.monitors z.latest a.none_latest h
 
 pub some-day : (z : Sizes) → Allowed z → (z.day ≡ 0 → ⊥) → 1 ≤ z.monitors
-some-day z a h = there z.monitors z.day a.none-day h
+some-day z a h = there z.monitors z.day a.none_day h
 
 -- a table that a line leaves as it is
 pub kept : (n : ℕ) (l : List ℕ) → l ≡ only_if n l l

@@ -1,8 +1,8 @@
 // What a line comes to, after the lines before it: the number of the first case that holds of it, or what it changes in the sizes and the tables.
 ghost use Rattle.std.specs.Prelude.{◌≡◌, length};
 ghost use Rattle.promises.specs.Reading as promised;
-ghost use Rattle.kinds.specs.Kinds.{asKind, kindMoves, kindStops};
-ghost use Rattle.taking.specs.Taking.{Allowed, taken, rigCase, rigSizes, ordCase, kindCase, kindSizes, kindCounts, kindStarts, goCase, goMoves, stopCase, stopStops, ampCase, ampMoves, openCase, openMoves, withGiven, partCase, partMoves, partStops, partGiven, case_of, outcome, movesAfter, stopsAfter, givenAfter, countsAfter, startsAfter, only_if};
+ghost use Rattle.kinds.specs.Kinds.{as_kind, kind_moves, kind_stops};
+ghost use Rattle.taking.specs.Taking.{Allowed, taken, rig_case, rig_sizes, ord_case, kind_case, kind_sizes, kind_counts, kind_starts, go_case, go_moves, stop_case, stop_stops, amp_case, amp_moves, open_case, open_moves, with_given, part_case, part_moves, part_stops, part_given, case_of, outcome, moves_after, stops_after, given_after, counts_after, starts_after, only_if};
 ghost use Rattle.taking.specs.declared.Taken.TheVariants.{Next, Same};
 
 use decoding::{Form, Kind, Part};
@@ -31,7 +31,7 @@ pub enum Taken {
 
 // `rig`, E: 'the first line and only there', 'E from 1 to 16'.
 fn take_rig(z: Sizes, e: usize) -> Taken
-    ensures { result ≡ taken (rigCase z e) (Next (rigSizes z e)) }
+    ensures { result ≡ taken (rig_case z e) (Next (rig_sizes z e)) }
 {
     if z.events != 0 {
         return Taken::Bad(5); // `rig` later
@@ -69,7 +69,7 @@ fn repeats(bytes: &[u8]) -> bool
 // `ord` and n events, which decoding has left in `order`: 'lists all E events', 'at most one and only second'.
 fn take_ord(order: &[u8], z: Sizes, line: u64, n: usize) -> Taken
     requires { (length order.now ≡ 16) × Allowed z }
-    ensures { result ≡ taken (ordCase order.now z line n) Same }
+    ensures { result ≡ taken (ord_case order.now z line n) Same }
 {
     if line != 2 {
         return Taken::Bad(5); // `ord` elsewhere
@@ -97,11 +97,11 @@ fn take_kind(
     k: Kind,
 ) -> Taken
     requires { (length moves.old ≡ 2048) × (length stops.old ≡ 128) × (length counts.old ≡ 4) × (length starts.old ≡ 4) × Allowed z }
-    ensures value { result ≡ taken (kindCase z k) (Next (kindSizes z k)) }
-    ensures moves_after { moves.new ≡ only_if (kindCase z k) (kindMoves moves.old z.monitors (asKind k)) moves.old }
-    ensures stops_after { stops.new ≡ only_if (kindCase z k) (kindStops stops.old z.monitors (asKind k)) stops.old }
-    ensures counts_after { counts.new ≡ only_if (kindCase z k) (kindCounts counts.old z k) counts.old }
-    ensures starts_after { starts.new ≡ only_if (kindCase z k) (kindStarts starts.old z k) starts.old }
+    ensures value { result ≡ taken (kind_case z k) (Next (kind_sizes z k)) }
+    ensures moves_after { moves.new ≡ only_if (kind_case z k) (kind_moves moves.old z.monitors (as_kind k)) moves.old }
+    ensures stops_after { stops.new ≡ only_if (kind_case z k) (kind_stops stops.old z.monitors (as_kind k)) stops.old }
+    ensures counts_after { counts.new ≡ only_if (kind_case z k) (kind_counts counts.old z k) counts.old }
+    ensures starts_after { starts.new ≡ only_if (kind_case z k) (kind_starts starts.old z k) starts.old }
 {
     if z.events == 0 {
         return Taken::Bad(5); // first line not `rig`
@@ -137,8 +137,8 @@ fn take_kind(
 // `go`, s, e, t: 'the latest monitor moves from s to t on event e'. A move that stands already is seen in the table.
 fn take_go(moves: &mut [u8], z: Sizes, s: usize, e: usize, t: usize) -> Taken
     requires { (length moves.old ≡ 2048) × Allowed z }
-    ensures value { result ≡ taken (goCase moves.old z s e t) Same }
-    ensures moves_after { moves.new ≡ only_if (goCase moves.old z s e t) (goMoves moves.old z s e t) moves.old }
+    ensures value { result ≡ taken (go_case moves.old z s e t) Same }
+    ensures moves_after { moves.new ≡ only_if (go_case moves.old z s e t) (go_moves moves.old z s e t) moves.old }
 {
     if z.latest == 0 {
         return Taken::Bad(5); // the latest monitor is no `mon`, or there is none
@@ -163,8 +163,8 @@ fn take_go(moves: &mut [u8], z: Sizes, s: usize, e: usize, t: usize) -> Taken
 // `stop`, s: 'marks a state of the latest monitor'. A state that is marked already is seen in the list.
 fn take_stop(stops: &mut [u8], z: Sizes, s: usize) -> Taken
     requires { (length stops.old ≡ 128) × Allowed z }
-    ensures value { result ≡ taken (stopCase stops.old z s) Same }
-    ensures stops_after { stops.new ≡ only_if (stopCase stops.old z s) (stopStops stops.old z s) stops.old }
+    ensures value { result ≡ taken (stop_case stops.old z s) Same }
+    ensures stops_after { stops.new ≡ only_if (stop_case stops.old z s) (stop_stops stops.old z s) stops.old }
 {
     if z.latest == 0 {
         return Taken::Bad(5); // the latest monitor is no `mon`, or there is none
@@ -184,9 +184,9 @@ fn take_stop(stops: &mut [u8], z: Sizes, s: usize) -> Taken
 // list.
 fn take_amp(moves: &mut [u8], given: &mut [u8], z: Sizes, e: usize, d: i64) -> Taken
     requires { (length moves.old ≡ 2048) × (length given.old ≡ 64) × Allowed z }
-    ensures value { result ≡ taken (ampCase given.old z e d) Same }
-    ensures moves_after { moves.new ≡ only_if (ampCase given.old z e d) (ampMoves moves.old z e d) moves.old }
-    ensures given_after { given.new ≡ only_if (ampCase given.old z e d) (withGiven given.old z e) given.old }
+    ensures value { result ≡ taken (amp_case given.old z e d) Same }
+    ensures moves_after { moves.new ≡ only_if (amp_case given.old z e d) (amp_moves moves.old z e d) moves.old }
+    ensures given_after { given.new ≡ only_if (amp_case given.old z e d) (with_given given.old z e) given.old }
 {
     let band = z.band;
     if band.hi < band.lo {
@@ -212,9 +212,9 @@ fn take_amp(moves: &mut [u8], given: &mut [u8], z: Sizes, e: usize, d: i64) -> T
 // list.
 fn take_open(moves: &mut [u8], given: &mut [u8], z: Sizes, e: usize, a: usize, b: usize) -> Taken
     requires { (length moves.old ≡ 2048) × (length given.old ≡ 64) × Allowed z }
-    ensures value { result ≡ taken (openCase z e a b) Same }
-    ensures moves_after { moves.new ≡ only_if (openCase z e a b) (openMoves moves.old given.old z e a b) moves.old }
-    ensures given_after { given.new ≡ only_if (openCase z e a b) (withGiven given.old z e) given.old }
+    ensures value { result ≡ taken (open_case z e a b) Same }
+    ensures moves_after { moves.new ≡ only_if (open_case z e a b) (open_moves moves.old given.old z e a b) moves.old }
+    ensures given_after { given.new ≡ only_if (open_case z e a b) (with_given given.old z e) given.old }
 {
     let t = z.day;
     if t == 0 {
@@ -239,10 +239,10 @@ fn take_open(moves: &mut [u8], given: &mut [u8], z: Sizes, e: usize, a: usize, b
 // A line of the latest monitor.
 fn take_part(moves: &mut [u8], stops: &mut [u8], given: &mut [u8], z: Sizes, p: Part) -> Taken
     requires { (length moves.old ≡ 2048) × (length stops.old ≡ 128) × (length given.old ≡ 64) × Allowed z }
-    ensures value { result ≡ taken (partCase moves.old stops.old given.old z p) Same }
-    ensures moves_after { moves.new ≡ only_if (partCase moves.old stops.old given.old z p) (partMoves moves.old given.old z p) moves.old }
-    ensures stops_after { stops.new ≡ only_if (partCase moves.old stops.old given.old z p) (partStops stops.old z p) stops.old }
-    ensures given_after { given.new ≡ only_if (partCase moves.old stops.old given.old z p) (partGiven given.old z p) given.old }
+    ensures value { result ≡ taken (part_case moves.old stops.old given.old z p) Same }
+    ensures moves_after { moves.new ≡ only_if (part_case moves.old stops.old given.old z p) (part_moves moves.old given.old z p) moves.old }
+    ensures stops_after { stops.new ≡ only_if (part_case moves.old stops.old given.old z p) (part_stops stops.old z p) stops.old }
+    ensures given_after { given.new ≡ only_if (part_case moves.old stops.old given.old z p) (part_given given.old z p) given.old }
 {
     match p {
         Part::Go(s, e, t) => take_go(moves, z, s, e, t),
@@ -266,11 +266,11 @@ pub fn take_line(
 ) -> Taken
     requires { (length moves.old ≡ 2048) × (length stops.old ≡ 128) × (length given.old ≡ 64) × (length counts.old ≡ 4) × (length starts.old ≡ 4) × (length order.now ≡ 16) × Allowed z }
     ensures value { result ≡ taken (case_of moves.old stops.old given.old order.now z line form) (outcome z form) }
-    ensures moves_after { moves.new ≡ only_if (case_of moves.old stops.old given.old order.now z line form) (movesAfter moves.old given.old z form) moves.old }
-    ensures stops_after { stops.new ≡ only_if (case_of moves.old stops.old given.old order.now z line form) (stopsAfter stops.old z form) stops.old }
-    ensures given_after { given.new ≡ only_if (case_of moves.old stops.old given.old order.now z line form) (givenAfter given.old z form) given.old }
-    ensures counts_after { counts.new ≡ only_if (case_of moves.old stops.old given.old order.now z line form) (countsAfter counts.old z form) counts.old }
-    ensures starts_after { starts.new ≡ only_if (case_of moves.old stops.old given.old order.now z line form) (startsAfter starts.old z form) starts.old }
+    ensures moves_after { moves.new ≡ only_if (case_of moves.old stops.old given.old order.now z line form) (moves_after moves.old given.old z form) moves.old }
+    ensures stops_after { stops.new ≡ only_if (case_of moves.old stops.old given.old order.now z line form) (stops_after stops.old z form) stops.old }
+    ensures given_after { given.new ≡ only_if (case_of moves.old stops.old given.old order.now z line form) (given_after given.old z form) given.old }
+    ensures counts_after { counts.new ≡ only_if (case_of moves.old stops.old given.old order.now z line form) (counts_after counts.old z form) counts.old }
+    ensures starts_after { starts.new ≡ only_if (case_of moves.old stops.old given.old order.now z line form) (starts_after starts.old z form) starts.old }
 {
     match form {
         Form::Rig(e) => take_rig(z, e),

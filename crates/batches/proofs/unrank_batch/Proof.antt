@@ -1,5 +1,5 @@
--- The invariant: of each scenario `rest` events are left, which are as many as the rows of the blocks left. At the start all are left (`begun-none`), at the
--- end none (`all-written`).
+-- The invariant: of each scenario `rest` events are left, which are as many as the rows of the blocks left. At the start all are left (`begun_none`), at the
+-- end none (`all_written`).
 use mathlib.Core.Path.{◌≡◌, refl, sym, subst}
 use Prim.Native.Nat.{ℕ, ◌+◌, ◌-◌, ◌*◌, ◌/◌, ◌≤◌, ◌<◌}
 use native.Mathlib.Omega.{arith}
@@ -10,8 +10,8 @@ use Rattle.counting.specs.Tabled.{Tabled}
 use Rattle.ranking.specs.Ranks.{IndicesBelow}
 use Rattle.keeping.specs.Keeping.{Past, Sixteenths}
 use Rattle.batches.specs.Batches.{StatesBelow, AllBegun}
-use Rattle.keeping.proofs.Places.{past-refl, past-trans}
-use Rattle.batches.proofs.Lists.{begun-none, all-written}
+use Rattle.keeping.proofs.Places.{past_refl, past_trans}
+use Rattle.batches.proofs.Lists.{begun_none, all_written}
 use borrow.Author.Rules.{rules}
 use Rattle.batches.proofs.unrank_batch.Statement.{statement}
 use Rattle.batches.proofs.unrank_batch.Tie as tie
@@ -50,7 +50,7 @@ loop-holds c =
       refl,
       refl,
       λ k lt. subst (λ (s : ℕ). s < a.p) (sym (here k lt)) st.requires.0.1,
-      λ A tabled kept few below. (begun-none A a.x a.h a.list.now below _ _ a.out.now few here c.before.copy-indices.ensures, past-refl _ a.out.now, kept, past-refl _ a.cells.now),
+      λ A tabled kept few below. (begun_none A a.x a.h a.list.now below _ _ a.out.now few here c.before.copy-indices.ensures, past_refl _ a.out.now, kept, past_refl _ a.cells.now),
     )
 
 sub-q : tie.Need-overflow-sub-q invariant-loop decreases-loop
@@ -95,7 +95,7 @@ loop-again c =
       λ A tabled kept few below.
           let (begun, past, sixteenths, past-cells) = lp.invariant.9 A tabled kept few below in
           let (begun', past', sixteenths', past-cells') = u.ensures.1 A a.x a.list.now tabled sixteenths refl begun in
-          (begun', past-trans _ a.out.now lp.out _ past past', sixteenths', past-trans _ a.cells.now lp.cells _ past-cells past-cells'),
+          (begun', past_trans _ a.out.now lp.out _ past past', sixteenths', past_trans _ a.cells.now lp.cells _ past-cells past-cells'),
     )
 
 same_length : tie.Need-same-length invariant-loop decreases-loop
@@ -115,7 +115,7 @@ returns c =
     let all : AllBegun A a.x a.h a.list.now (a.h - 0) 0 lp.states lp.left lp.out =
     subst (λ (n : ℕ). AllBegun A a.x a.h a.list.now (a.h - n) n lp.states lp.left lp.out) z begun in
     record {
-      written = all-written A a.x a.h a.list.now below lp.states lp.left a.out.now lp.out all past lp.invariant.7 st.requires.0.3;
+      written = all_written A a.x a.h a.list.now below lp.states lp.left a.out.now lp.out all past lp.invariant.7 st.requires.0.3;
       kept = sixteenths;
       past = past-cells;
     }

@@ -1,4 +1,4 @@
--- The invariant: the scenarios of the first n indices stand at the front, and every sixteenth row is kept. The batch's scenarios follow them (`batch-more`).
+-- The invariant: the scenarios of the first n indices stand at the front, and every sixteenth row is kept. The batch's scenarios follow them (`batch_more`).
 use mathlib.Core.Path.{◌≡◌, refl, ap, ◌∙◌}
 use mathlib.Core.List.{List, ◌++◌}
 use Prim.Native.Nat.{ℕ, ◌+◌, ◌-◌, ◌*◌, ◌/◌, ◌≤◌, ◌<◌}
@@ -6,15 +6,15 @@ use native.Mathlib.Omega.{arith}
 use native.Mathlib.Nat.{zero-mul, add-mul, mul-le-mul_right}
 use lib.ListN.{length, take, drop, length-take, length-drop}
 use lib.Seq.{take-length}
-use Rattle.lists.specs.Lists.{concatMap}
+use Rattle.lists.specs.Lists.{concat_map}
 use Rattle.automaton.specs.Automaton.{Automaton}
 use Rattle.automaton.specs.Counting.{N, most}
 use Rattle.automaton.specs.Ranking.{unrank}
 use Rattle.counting.specs.Tabled.{Tabled}
-use Rattle.ranking.specs.Ranks.{IndicesBelow, withScenarios}
+use Rattle.ranking.specs.Ranks.{IndicesBelow, with_scenarios}
 use Rattle.keeping.specs.Keeping.{Past, Sixteenths}
-use Rattle.keeping.proofs.Places.{past-refl, past-trans}
-use Rattle.batches.proofs.Lists.{batch-below, batch-more}
+use Rattle.keeping.proofs.Places.{past_refl, past_trans}
+use Rattle.batches.proofs.Lists.{batch_below, batch_more}
 use borrow.Author.Rules.{rules}
 use Rattle.batches.proofs.unrank_batches.Statement.{statement}
 use Rattle.batches.proofs.unrank_batches.Tie as tie
@@ -23,7 +23,7 @@ abbrev invariant-loop : tie.invariant-loop
 invariant-loop cells₀ table p x h list out₀ n₀ cells out n =
     (n ≤ length list) × (length cells ≡ length cells₀) × (length out ≡ length out₀)
     × ((A : Automaton) → Tabled A p table → Sixteenths A p (h / 16) cells₀ → N A h x < most → IndicesBelow (N A h x) list
-    → (out ≡ concatMap (unrank A h x) (take n list) ++ drop (n * h) out₀) × Sixteenths A p (h / 16) cells × Past ((h / 16 + 16) * p) cells₀ cells)
+    → (out ≡ concat_map (unrank A h x) (take n list) ++ drop (n * h) out₀) × Sixteenths A p (h / 16) cells × Past ((h / 16 + 16) * p) cells₀ cells)
 
 abbrev decreases-loop : tie.decreases-loop
 decreases-loop cells₀ table p x h list out₀ n₀ cells out n = length list - n
@@ -31,7 +31,7 @@ decreases-loop cells₀ table p x h list out₀ n₀ cells out n = length list -
 loop-holds : tie.Need-loop-init invariant-loop decreases-loop
 loop-holds c =
     let a = c.before.before.before.args in
-    (omega arith, refl, refl, λ A tabled kept few below. (rw zero-mul, kept, past-refl _ a.cells.now))
+    (omega arith, refl, refl, λ A tabled kept few below. (rw zero-mul, kept, past_refl _ a.cells.now))
 
 sub-smaller : tie.Need-overflow-sub-smaller invariant-loop decreases-loop
 sub-smaller c = search rules
@@ -108,10 +108,10 @@ loop-again c =
       c.before.out.given.1 ∙ lp.invariant.2,
       λ A tabled kept few below.
           let (now, sixteenths, past) = lp.invariant.3 A tabled kept few below in
-          let listed = u.ensures A tabled sixteenths few (batch-below A a.x a.h a.list.now below lp.n to (omega arith) (omega (arith, c.before.before.before.before.before.before.before.before.smaller.ensures))) in (
-            batch-more A a.x a.h a.list.now below lp.n to (omega arith) (omega (arith, c.before.before.before.before.before.before.before.before.smaller.ensures)) a.out.now lp.out _ (omega arith) now listed.written,
+          let listed = u.ensures A tabled sixteenths few (batch_below A a.x a.h a.list.now below lp.n to (omega arith) (omega (arith, c.before.before.before.before.before.before.before.before.smaller.ensures))) in (
+            batch_more A a.x a.h a.list.now below lp.n to (omega arith) (omega (arith, c.before.before.before.before.before.before.before.before.smaller.ensures)) a.out.now lp.out _ (omega arith) now listed.written,
             listed.kept,
-            past-trans _ a.cells.now lp.cells _ past listed.past,
+            past_trans _ a.cells.now lp.cells _ past listed.past,
           ),
     )
 
@@ -122,7 +122,7 @@ same-length-2 : tie.Need-same-length-2 invariant-loop decreases-loop
 same-length-2 c = search rules
 
 returns : tie.Need-returns invariant-loop decreases-loop
-unfolding withScenarios
+unfolding with_scenarios
 returns c =
     let a = c.before.before.before.before.before.args in
     let lp = c.before.loop in
@@ -131,8 +131,8 @@ returns c =
     let (now, sixteenths, past) = lp.invariant.3 A tabled kept few below in
     record {
       written =
-          now ∙ ap (λ (n : ℕ). concatMap (unrank A a.h a.x) (take n a.list.now) ++ drop (n * a.h) a.out.now) e
-          ∙ ap (λ (l : List ℕ). concatMap (unrank A a.h a.x) l ++ drop (length a.list.now * a.h) a.out.now) (take-length a.list.now);
+          now ∙ ap (λ (n : ℕ). concat_map (unrank A a.h a.x) (take n a.list.now) ++ drop (n * a.h) a.out.now) e
+          ∙ ap (λ (l : List ℕ). concat_map (unrank A a.h a.x) l ++ drop (length a.list.now * a.h) a.out.now) (take-length a.list.now);
       kept = sixteenths;
       past = past;
     }

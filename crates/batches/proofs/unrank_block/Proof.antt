@@ -1,13 +1,13 @@
--- The rows behind the place of the last kept row are those of the block (`block-rows`); once the two rows change back, every sixteenth row is kept again
--- (`block-kept`).
+-- The rows behind the place of the last kept row are those of the block (`block_rows`); once the two rows change back, every sixteenth row is kept again
+-- (`block_kept`).
 use mathlib.Core.Path.{◌≡◌, subst}
 use Prim.Native.Nat.{ℕ, ◌+◌, ◌-◌, ◌*◌, ◌/◌, ◌≤◌}
 use native.Mathlib.Omega.{arith}
 use native.Mathlib.Nat.{mul-le-mul_right}
 use lib.ListN.{length, length-take, length-drop}
 use Rattle.batches.specs.Batches.{AllBegun}
-use Rattle.keeping.proofs.Places.{place-room, places-apart, past-trans, block-rows, block-kept, block-past}
-use Rattle.batches.proofs.Parts.{begun-at}
+use Rattle.keeping.proofs.Places.{place_room, places_apart, past_trans, block_rows, block_kept, block_past}
+use Rattle.batches.proofs.Parts.{begun_at}
 use borrow.Author.Rules.{rules}
 use Rattle.batches.proofs.unrank_block.Statement.{statement}
 use Rattle.batches.proofs.unrank_block.Tie as tie
@@ -43,7 +43,7 @@ unrank-parts-requires : tie.Need-unrank-parts-requires
 unrank-parts-requires c κs =
     let st = c.before.before.before.before.before.before.before.before.before.before.before.before.before.before in
     let a = st.args in
-    let last : a.h / 16 * a.p + 16 * a.p ≤ length a.cells.now = place-room (a.h / 16) (a.h / 16) 16 a.p (length a.cells.now) (omega arith) st.requires.1.0.0 in
+    let last : a.h / 16 * a.p + 16 * a.p ≤ length a.cells.now = place_room (a.h / 16) (a.h / 16) 16 a.p (length a.cells.now) (omega arith) st.requires.1.0.0 in
     let few : (a.rest - 16 * a.q) * a.p ≤ 16 * a.p = mul-le-mul_right a.p (omega arith) in
     ((omega arith, simp (length-take, length-drop) (omega arith), omega arith, omega arith), st.requires.1.1)
 
@@ -51,16 +51,16 @@ mul-swap-rows : tie.Need-overflow-mul-swap-rows
 mul-swap-rows c =
     let st = c.before.before.before.before.before.before.before.before.before.before.before.before.before.before.before.before.before.before.before.before.before.before in
     let a = st.args in
-    let own : a.q * a.p + 1 * a.p ≤ length a.cells.now = place-room a.q (a.h / 16) 1 a.p (length a.cells.now) (omega arith) st.requires.1.0.0 in
+    let own : a.q * a.p + 1 * a.p ≤ length a.cells.now = place_room a.q (a.h / 16) 1 a.p (length a.cells.now) (omega arith) st.requires.1.0.0 in
     omega arith
 
 swap-rows-requires : tie.Need-swap-rows-requires
 swap-rows-requires c κs =
     let st = c.before.before.before.before.before.before.before.before.before.before.before.before.before.before.before.before.before.before.before.before.before.before in
     let a = st.args in
-    let own : a.q * a.p + 1 * a.p ≤ length a.cells.now = place-room a.q (a.h / 16) 1 a.p (length a.cells.now) (omega arith) st.requires.1.0.0 in
-    let last : a.h / 16 * a.p + 16 * a.p ≤ length a.cells.now = place-room (a.h / 16) (a.h / 16) 16 a.p (length a.cells.now) (omega arith) st.requires.1.0.0 in
-    (omega arith, omega arith, places-apart a.q (a.h / 16) a.p (omega arith))
+    let own : a.q * a.p + 1 * a.p ≤ length a.cells.now = place_room a.q (a.h / 16) 1 a.p (length a.cells.now) (omega arith) st.requires.1.0.0 in
+    let last : a.h / 16 * a.p + 16 * a.p ≤ length a.cells.now = place_room (a.h / 16) (a.h / 16) 16 a.p (length a.cells.now) (omega arith) st.requires.1.0.0 in
+    (omega arith, omega arith, places_apart a.q (a.h / 16) a.p (omega arith))
 
 same_length : tie.Need-same-length
 same_length c = search rules
@@ -79,21 +79,21 @@ returns c =
     let st = c.before.before.before.before.before.before.before.before.before.before.before.before.before.before.before.before.before.before.before.before.before.before.before.before.before in
     let a = st.args in
     let T = a.h / 16 in
-    let last : a.h / 16 * a.p + 16 * a.p ≤ length a.cells.now = place-room (a.h / 16) (a.h / 16) 16 a.p (length a.cells.now) (omega arith) st.requires.1.0.0 in
+    let last : a.h / 16 * a.p + 16 * a.p ≤ length a.cells.now = place_room (a.h / 16) (a.h / 16) 16 a.p (length a.cells.now) (omega arith) st.requires.1.0.0 in
     let len : length c.before.before.before.before.before.before.before.before.before.before.before.before.before.before.before.before.before.before.fill-block.new.0 ≡ length a.cells.now = search rules in
     let back = c.before.before.swap-rows.ensures in
     let u = c.before.before.before.before.before.before.before.before.before.before.unrank-parts in (
       u.ensures.0,
       λ A x is tabled kept e all.
           let (block, past) = c.before.before.before.before.before.before.before.before.before.before.before.before.before.before.before.before.before.before.fill-block.ensures A tabled kept in
-          let rows = block-rows A a.p tabled.states T a.q st.requires.0.1 _ block (a.rest - 16 * a.q) (omega arith) (omega arith) in
+          let rows = block_rows A a.p tabled.states T a.q st.requires.0.1 _ block (a.rest - 16 * a.q) (omega arith) (omega arith) in
           let b : a.rest ≡ 16 * a.q + (a.rest - 16 * a.q) = omega arith in
           let d : a.h - a.rest + (a.rest - 16 * a.q) ≡ a.h - 16 * a.q = omega arith in
           let parts = u.ensures.1 A (16 * a.q) x is tabled rows e (subst (λ (n : ℕ). AllBegun A x a.h is (a.h - a.rest) n a.states.now a.left.now a.out.now) b all) in (
-            begun-at A x a.h is (16 * a.q) _ _ _ d parts.0,
+            begun_at A x a.h is (16 * a.q) _ _ _ d parts.0,
             parts.1,
-            block-kept A a.p tabled.states T a.q st.requires.0.1 _ block _ back,
-            past-trans _ a.cells.now _ _ past (block-past A a.p tabled.states T a.q st.requires.0.1 _ block _ back),
+            block_kept A a.p tabled.states T a.q st.requires.0.1 _ block _ back,
+            past_trans _ a.cells.now _ _ past (block_past A a.p tabled.states T a.q st.requires.0.1 _ block _ back),
           ),
     )
 

@@ -1,5 +1,5 @@
 -- The invariant: the first k scenarios have their next n events, the others are as they were (`Passed`). The part lent is that of scenario k, and lies in its
--- own h bytes (`passed-more`).
+-- own h bytes (`passed_more`).
 use mathlib.Core.Path.{◌≡◌, refl, sym, ◌∙◌, subst}
 use mathlib.Core.List.{List}
 use Prim.Native.Nat.{ℕ, ◌+◌, ◌-◌, ◌*◌, ◌≤◌, ◌<◌}
@@ -12,8 +12,8 @@ use Rattle.ranking.specs.Ranks.{HoldsRows, Exact}
 use Rattle.ranking.proofs.Walk.{length_part}
 use Rattle.keeping.specs.Keeping.{Past}
 use Rattle.batches.specs.Batches.{StatesBelow, AllBegun}
-use Rattle.keeping.proofs.Places.{place-below, past-refl}
-use Rattle.batches.proofs.Parts.{Passed, passed_none, passed-all, passed-more, states-set}
+use Rattle.keeping.proofs.Places.{place_below, past_refl}
+use Rattle.batches.proofs.Parts.{Passed, passed_none, passed_all, passed_more, states-set}
 use borrow.Author.Rules.{rules}
 use Rattle.batches.proofs.unrank_parts.Statement.{statement}
 use Rattle.batches.proofs.unrank_parts.Tie as tie
@@ -36,18 +36,18 @@ loop-holds c =
       refl,
       refl,
       st.requires.1.2,
-      λ A b x is tabled holds e all. (passed_none A x a.h is a.at a.n b a.states.now a.left.now a.out.now all, past-refl _ a.out.now),
+      λ A b x is tabled holds e all. (passed_none A x a.h is a.at a.n b a.states.now a.left.now a.out.now all, past_refl _ a.out.now),
     )
 
 mul-from : tie.Need-overflow-mul-from invariant-loop decreases-loop
 mul-from c =
     let st = c.before.before.before.before.before.before in
-    omega (arith, place-below c.before.loop.k st.args.m st.args.h c.loop-test.true)
+    omega (arith, place_below c.before.loop.k st.args.m st.args.h c.loop-test.true)
 
 add-from : tie.Need-overflow-add-from invariant-loop decreases-loop
 add-from c =
     let st = c.before.before.before.before.before.before in
-    omega (arith, place-below c.before.loop.k st.args.m st.args.h c.loop-test.true)
+    omega (arith, place_below c.before.loop.k st.args.m st.args.h c.loop-test.true)
 
 mul-i : tie.Need-overflow-mul-i invariant-loop decreases-loop
 mul-i c = search rules
@@ -64,7 +64,7 @@ slice-read-unrank c = search rules
 add-unrank : tie.Need-overflow-add-unrank invariant-loop decreases-loop
 add-unrank c =
     let st = c.before.before.before.before.before.before.before.before.before in
-    omega (arith, place-below c.before.before.before.before.loop.k st.args.m st.args.h c.before.before.before.loop-test.true)
+    omega (arith, place_below c.before.before.before.before.loop.k st.args.m st.args.h c.before.before.before.loop-test.true)
 
 sub-unrank : tie.Need-overflow-sub-unrank invariant-loop decreases-loop
 sub-unrank c = search rules
@@ -75,7 +75,7 @@ part-unrank-start c = search rules
 part-unrank-end : tie.Need-slice-bounds-unrank-end invariant-loop decreases-loop
 part-unrank-end c =
     let st = c.before.before.before.before.before.before.before.before.before in
-    omega (arith, place-below c.before.before.before.before.loop.k st.args.m st.args.h c.before.before.before.loop-test.true)
+    omega (arith, place_below c.before.before.before.before.loop.k st.args.m st.args.h c.before.before.before.loop-test.true)
 
 unrank-requires : tie.Need-unrank-requires invariant-loop decreases-loop
 unfolding StatesBelow
@@ -83,7 +83,7 @@ unrank-requires c κs =
     let st = c.before.before.before.before.before.before.before.before.before.before in
     let lp = c.before.before.before.before.before.loop in
     let lt = c.before.before.before.before.loop-test.true in
-    let own = place-below lp.k st.args.m st.args.h lt in
+    let own = place_below lp.k st.args.m st.args.h lt in
     (omega arith, lp.invariant.4 lp.k lt, rw (length_part lp.out (lp.k * st.args.h + st.args.at) st.args.n (omega arith)) (omega arith))
 
 mul-states : tie.Need-overflow-mul-states invariant-loop decreases-loop
@@ -110,7 +110,7 @@ loop-again c =
     let a = st.args in
     let lp = c.before.before.before.before.before.before.before.before.loop in
     let lt : lp.k < a.m = c.before.before.before.before.before.before.before.loop-test.true in
-    let own = place-below lp.k a.m a.h lt in
+    let own = place_below lp.k a.m a.h lt in
     let u = c.before.before.unrank in
     let from = lp.k * a.h + a.at in
     let w : from + a.n - from ≡ a.n = omega arith in
@@ -123,9 +123,9 @@ loop-again c =
       λ A b x is tabled holds e all.
           let (passed, past) = lp.invariant.5 A b x is tabled holds e all in
           let here = passed.ahead lp.k (omega arith) (omega arith) in
-          let exact : Exact A a.p b a.n (get_or lp.states lp.k 0) a.table.now a.rows.now = record { tabled = tabled; holds = holds; not-cut-off = here.not-cut-off } in
+          let exact : Exact A a.p b a.n (get_or lp.states lp.k 0) a.table.now a.rows.now = record { tabled = tabled; holds = holds; not_cut_off = here.not_cut_off } in
           let told = u.ensures.1 A b (subst (λ (r : ℕ). Exact A a.p b r (get_or lp.states lp.k 0) a.table.now a.rows.now) (sym q) exact) (subst (λ (r : ℕ). get_or lp.left lp.k 0 < N A (b + r) (get_or lp.states lp.k 0)) (sym q) here.is_below) in
-          passed-more A x a.h is a.at a.n b lp.k lp.states lp.left lp.out _ u.result _ (omega arith) (omega arith) (rw e (omega arith)) (omega arith) (omega arith) passed q w told a.out.now past,
+          passed_more A x a.h is a.at a.n b lp.k lp.states lp.left lp.out _ u.result _ (omega arith) (omega arith) (rw e (omega arith)) (omega arith) (omega arith) passed q w told a.out.now past,
     )
 
 same_length : tie.Need-same-length invariant-loop decreases-loop
@@ -144,7 +144,7 @@ returns c =
       lp.invariant.4,
       λ A b x is tabled holds e all.
           let (passed, past) = lp.invariant.5 A b x is tabled holds e all in
-          (passed-all A x a.h is a.at a.n b lp.k lp.states lp.left lp.out (omega arith) passed, subst (λ (j : ℕ). Past (j * a.h) a.out.now lp.out) e past),
+          (passed_all A x a.h is a.at a.n b lp.k lp.states lp.left lp.out (omega arith) passed, subst (λ (j : ℕ). Past (j * a.h) a.out.now lp.out) e past),
     )
 
 pub unrank-parts-spec : {M : Type 1} → statement M

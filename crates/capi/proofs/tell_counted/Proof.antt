@@ -1,6 +1,6 @@
 -- Each arm tells that answer's number and words.
 use mathlib.Core.Path.{ap, sym}
-use Rattle.generator.specs.Outcomes.{countAnswer}
+use Rattle.generator.specs.Outcomes.{count_answer}
 use Rattle.capi.specs.Words.{number_of, words_of}
 use borrow.Author.Rules.{rules}
 use Rattle.capi.proofs.tell_counted.Statement.{statement}
@@ -14,12 +14,12 @@ enum-known-counted-2 c = search rules
 
 returns : tie.Need-returns
 returns c =
-    let q = ap countAnswer c.before.before.counted.given.1 in
+    let q = ap count_answer c.before.before.counted.given.1 in
     (sym (ap number_of q), sym (ap words_of q))
 
 returns-2 : tie.Need-returns-2
 returns-2 c =
-    let q = ap countAnswer c.before.before.counted2.given.1 in
+    let q = ap count_answer c.before.before.counted2.given.1 in
     (sym (ap number_of q), sym (ap words_of q))
 
 pub tell-counted-spec : {M : Type 1} → statement M

@@ -3,8 +3,8 @@
 use mathlib.Core.Path.{sym, ap, ◌∙◌}
 use borrow.Author.Rules.{rules}
 use Rattle.reader.specs.Reading.{answer_of}
-use Rattle.checks.specs.Loading.{rowsFor}
-use Rattle.checks.proofs.Laws.{loads-refused, loads-readable, read-well-formed}
+use Rattle.checks.specs.Loading.{rows_for}
+use Rattle.checks.proofs.Laws.{loads-refused, loads-readable, read_well_formed}
 use Rattle.checks.proofs.load.Statement.{statement}
 use Rattle.checks.proofs.load.Tie as tie
 use Rattle.checks.proofs.load.Reads as reads
@@ -25,20 +25,20 @@ check-sizes-requires : tie.Need-check-sizes-requires
 check-sizes-requires c κs =
     let st = c.before.before.before.before.before.args in
     let r = c.before.before.before.read in
-    read-well-formed st.text.now r.result.rig (sym (ap answer_of c.enum_told.given.1) ∙ r.ensures.0) r.ensures.1
+    read_well_formed st.text.now r.result.rig (sym (ap answer_of c.enum_told.given.1) ∙ r.ensures.0) r.ensures.1
 
 returns : tie.Need-returns
 returns c =
     let st = c.before.before.before.before.before.before.args in
     let r = c.before.before.before.before.read in
     let v = c.before.verdict.given in
-    loads-refused st.text.now (rowsFor st.rows st.h) st.h st.room v.0.0 v.0.1.0 r.result.rig (sym (ap answer_of v.1) ∙ r.ensures.0) r.ensures.1
+    loads-refused st.text.now (rows_for st.rows st.h) st.h st.room v.0.0 v.0.1.0 r.result.rig (sym (ap answer_of v.1) ∙ r.ensures.0) r.ensures.1
 
 returns-2 : tie.Need-returns-2
 returns-2 c =
     let st = c.before.before.before.before.before.before.args in
     let r = c.before.before.before.before.read in
-    loads-readable st.text.now (rowsFor st.rows st.h) st.h st.room r.result.rig c.check-sizes.result (sym (ap answer_of c.before.enum_told.given.1) ∙ r.ensures.0) r.ensures.1 c.check-sizes.ensures
+    loads-readable st.text.now (rows_for st.rows st.h) st.h st.room r.result.rig c.check-sizes.result (sym (ap answer_of c.before.enum_told.given.1) ∙ r.ensures.0) r.ensures.1 c.check-sizes.ensures
 
 pub load_spec : {M : Type 1} → statement M
 load_spec =

@@ -1,6 +1,6 @@
 -- `needed_rows` meets its contract: each arm is a case of what is kept. Assumes nothing.
 use borrow.Author.Rules.{rules}
-use Rattle.checks.proofs.Laws.{rows_all, rows-sixteenths, rows-two}
+use Rattle.checks.proofs.Laws.{rows_all, rows_sixteenths, rows-two}
 use Rattle.checks.proofs.needed_rows.Statement.{statement}
 use Rattle.checks.proofs.needed_rows.Tie as tie
 use Rattle.checks.proofs.needed_rows.Reads as reads
@@ -25,7 +25,7 @@ returns : tie.Need-returns
 returns c = let st = c.before.before.args in rows_all st.rows st.h c.enum_told.given.1
 
 returns-2 : tie.Need-returns-2
-returns-2 c = let st = c.before.before.args in rows-sixteenths st.rows st.h c.enum-told2.given.1
+returns-2 c = let st = c.before.before.args in rows_sixteenths st.rows st.h c.enum-told2.given.1
 
 returns-3 : tie.Need-returns-3
 returns-3 c = let st = c.before.before.args in rows-two st.rows st.h c.enum-told3.given.1

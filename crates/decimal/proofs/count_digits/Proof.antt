@@ -6,7 +6,7 @@ use lib.ListN.{length}
 use Rattle.lists.specs.Decimal.{decimal}
 use Rattle.lists.proofs.Decimal.{decimal-some}
 use Rattle.decimal.proofs.Digits.{decimal-fits}
-use Rattle.decimal.proofs.Powers.{digits-below, digits_from}
+use Rattle.decimal.proofs.Powers.{digits_below, digits_from}
 use borrow.Author.Rules.{rules}
 use Rattle.decimal.proofs.count_digits.Statement.{statement}
 use Rattle.decimal.proofs.count_digits.Tie as tie
@@ -32,7 +32,7 @@ array-read-if1 c = search rules
 returns : tie.Need-returns invariant-loop decreases-loop
 returns c =
     let lp = c.before.before.loop in
-    omega (arith, digits-below _ c.before.before.before.powers-of-ten.ensures lp.k (omega arith) _ c.if1.true lp.invariant.0)
+    omega (arith, digits_below _ c.before.before.before.powers-of-ten.ensures lp.k (omega arith) _ c.if1.true lp.invariant.0)
 
 add-k : tie.Need-overflow-add-k invariant-loop decreases-loop
 add-k c = search rules

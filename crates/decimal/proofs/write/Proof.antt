@@ -1,5 +1,5 @@
 -- `decimal::write`: the digits of what is left, and after them what stands behind `at`, are the digits of n and what followed them at the start.
--- `last-put` is one digit less left and one more stored, `only-put` the end. Assumes nothing.
+-- `last_put` is one digit less left and one more stored, `only_put` the end. Assumes nothing.
 use mathlib.Core.Path.{◌≡◌, refl, ◌∙◌}
 use mathlib.Core.List.{◌++◌}
 use Prim.Native.Nat.{suc, ◌-◌, ◌<◌}
@@ -7,7 +7,7 @@ use native.Mathlib.Omega.{arith}
 use lib.ListN.{length, drop, length-set}
 use Rattle.lists.specs.Decimal.{decimal}
 use Rattle.lists.proofs.Decimal.{decimal-some}
-use Rattle.decimal.proofs.Digits.{only-put, last-later, last-put}
+use Rattle.decimal.proofs.Digits.{only_put, last_later, last_put}
 use Rattle.decimal.proofs.Powers.{power_at}
 use borrow.Author.Rules.{rules}
 use Rattle.decimal.proofs.write.Statement.{statement}
@@ -52,7 +52,7 @@ slice-write-out : tie.Need-slice-write-out invariant-loop decreases-loop
 slice-write-out c = search rules
 
 sub-at-2 : tie.Need-overflow-sub-at-2 invariant-loop decreases-loop
-sub-at-2 c = omega (arith, last-later c.before.loop.left c.before.loop.at (omega arith) (omega arith))
+sub-at-2 c = omega (arith, last_later c.before.loop.left c.before.loop.at (omega arith) (omega arith))
 
 div-left : tie.Need-nonzero-div-left invariant-loop decreases-loop
 div-left c = search rules
@@ -63,7 +63,7 @@ loop-less c = rw c.before.loop.invariant.0 (omega arith)
 loop-again : tie.Need-loop-preserved invariant-loop decreases-loop
 loop-again c =
     let lp = c.before.loop in
-    let put = last-put lp.left lp.at lp.invariant.3 lp.out lp.invariant.2 _ lp.invariant.0 c.loop-test.true in
+    let put = last_put lp.left lp.at lp.invariant.3 lp.out lp.invariant.2 _ lp.invariant.0 c.loop-test.true in
     (lp.invariant.0, simp length-set lp.invariant.1, simp length-set (omega arith), put.0, put.1 ∙ lp.invariant.4)
 
 cast-out-2 : tie.Need-overflow-cast-out-2 invariant-loop decreases-loop
@@ -81,7 +81,7 @@ same_length c = search rules
 returns : tie.Need-returns invariant-loop decreases-loop
 returns c =
     let lp = c.before.loop in
-    (c.before.before.before.count-digits.ensures, only-put lp.left lp.at lp.invariant.3 lp.out lp.invariant.2 (omega arith) ∙ lp.invariant.4)
+    (c.before.before.before.count-digits.ensures, only_put lp.left lp.at lp.invariant.3 lp.out lp.invariant.2 (omega arith) ∙ lp.invariant.4)
 
 pub write_spec : {M : Type 1} → statement M
 write_spec =

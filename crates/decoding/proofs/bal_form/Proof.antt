@@ -5,9 +5,9 @@ use lib.Seq.{length-take-le}
 use Rattle.promises.specs.Text.{begins, bal}
 use Rattle.decoding.specs.declared.Form.TheVariants.{Begins}
 use Rattle.decoding.specs.declared.Kind.TheVariants.{Bal}
-use Rattle.decoding.specs.Forms.{signed_of, signedOr, form_of}
-use Rattle.decoding.proofs.Parts.{indexOf-le}
-use Rattle.decoding.proofs.Signs.{two-signed-last, two-signed-none, two-signed-next}
+use Rattle.decoding.specs.Forms.{signed_of, signed_or, form_of}
+use Rattle.decoding.proofs.Parts.{index_of_le}
+use Rattle.decoding.proofs.Signs.{two_signed_last, two_signed_none, two_signed_next}
 use borrow.Author.Rules.{rules}
 use Rattle.decoding.proofs.bal_form.Statement.{statement}
 use Rattle.decoding.proofs.bal_form.Tie as tie
@@ -16,10 +16,10 @@ until-requires : tie.Need-until-requires
 until-requires c κs = search rules
 
 returns : tie.Need-returns
-returns c = ap form_of (sym (two-signed-last c.before.before.before.args.rest.now c.before.until.result c.before.until.ensures (λ lo hi. begins (bal lo hi)) c.if1.true))
+returns c = ap form_of (sym (two_signed_last c.before.before.before.args.rest.now c.before.until.result c.before.until.ensures (λ lo hi. begins (bal lo hi)) c.if1.true))
 
 slice-aggregate-signed : tie.Need-slice-aggregate-signed
-slice-aggregate-signed c = sym (length-take-le c.before.before.until.result c.before.before.before.before.args.rest.now (rw c.before.before.until.ensures (indexOf-le c.before.before.before.before.args.rest.now 9)))
+slice-aggregate-signed c = sym (length-take-le c.before.before.until.result c.before.before.before.before.args.rest.now (rw c.before.before.until.ensures (index_of_le c.before.before.before.before.args.rest.now 9)))
 
 signed-requires : tie.Need-signed-requires
 signed-requires c κs = search rules
@@ -31,7 +31,7 @@ enum_told : tie.Need-enum-told
 enum_told c = search rules
 
 returns-2 : tie.Need-returns-2
-returns-2 c = ap form_of (sym (two-signed-none c.before.before.before.before.before.before.before.args.rest.now c.before.before.before.before.before.until.result c.before.before.before.before.before.until.ensures (λ lo hi. begins (bal lo hi)) c.before.before.before.before.if1.false (sym (ap signed_of c.enum_told.given.1) ∙ c.before.before.signed.ensures)))
+returns-2 c = ap form_of (sym (two_signed_none c.before.before.before.before.before.before.before.args.rest.now c.before.before.before.before.before.until.result c.before.before.before.before.before.until.ensures (λ lo hi. begins (bal lo hi)) c.before.before.before.before.if1.false (sym (ap signed_of c.enum_told.given.1) ∙ c.before.before.signed.ensures)))
 
 add-next : tie.Need-overflow-add-next
 add-next c = search rules
@@ -57,14 +57,14 @@ enum-told-2 c = search rules
 returns-3 : tie.Need-returns-3
 returns-3 c =
     let lo = c.before.before.before.before.before.before.lo.given in
-    ap₂ (λ x y. Begins (Bal x y)) (search rules) (search rules) ∙ ap form_of (sym (two-signed-next c.before.before.before.before.before.before.before.before.before.before.before.before.before.args.rest.now c.before.before.before.before.before.before.before.before.before.before.before.until.result c.before.before.before.before.before.before.before.before.before.before.before.until.ensures (λ lo hi. begins (bal lo hi)) c.before.before.before.before.before.before.before.before.before.before.if1.false lo.0.0 (sym (ap signed_of lo.1) ∙ c.before.before.before.before.before.before.before.before.signed.ensures)
-    ∙ c.before.before.before.only-signed.ensures (λ hi. begins (bal lo.0.0 hi)) ∙ ap (λ d. signedOr (λ hi. begins (bal lo.0.0 hi)) (signed_of d)) c.before.hi.given.1))
+    ap₂ (λ x y. Begins (Bal x y)) (search rules) (search rules) ∙ ap form_of (sym (two_signed_next c.before.before.before.before.before.before.before.before.before.before.before.before.before.args.rest.now c.before.before.before.before.before.before.before.before.before.before.before.until.result c.before.before.before.before.before.before.before.before.before.before.before.until.ensures (λ lo hi. begins (bal lo hi)) c.before.before.before.before.before.before.before.before.before.before.if1.false lo.0.0 (sym (ap signed_of lo.1) ∙ c.before.before.before.before.before.before.before.before.signed.ensures)
+    ∙ c.before.before.before.only-signed.ensures (λ hi. begins (bal lo.0.0 hi)) ∙ ap (λ d. signed_or (λ hi. begins (bal lo.0.0 hi)) (signed_of d)) c.before.hi.given.1))
 
 returns-4 : tie.Need-returns-4
 returns-4 c =
     let lo = c.before.before.before.before.before.lo.given in
-    ap form_of (sym (two-signed-next c.before.before.before.before.before.before.before.before.before.before.before.before.args.rest.now c.before.before.before.before.before.before.before.before.before.before.until.result c.before.before.before.before.before.before.before.before.before.before.until.ensures (λ lo hi. begins (bal lo hi)) c.before.before.before.before.before.before.before.before.before.if1.false lo.0.0 (sym (ap signed_of lo.1) ∙ c.before.before.before.before.before.before.before.signed.ensures)
-    ∙ c.before.before.only-signed.ensures (λ hi. begins (bal lo.0.0 hi)) ∙ ap (λ d. signedOr (λ hi. begins (bal lo.0.0 hi)) (signed_of d)) c.enum-told2.given.1))
+    ap form_of (sym (two_signed_next c.before.before.before.before.before.before.before.before.before.before.before.before.args.rest.now c.before.before.before.before.before.before.before.before.before.before.until.result c.before.before.before.before.before.before.before.before.before.before.until.ensures (λ lo hi. begins (bal lo hi)) c.before.before.before.before.before.before.before.before.before.if1.false lo.0.0 (sym (ap signed_of lo.1) ∙ c.before.before.before.before.before.before.before.signed.ensures)
+    ∙ c.before.before.only-signed.ensures (λ hi. begins (bal lo.0.0 hi)) ∙ ap (λ d. signed_or (λ hi. begins (bal lo.0.0 hi)) (signed_of d)) c.enum-told2.given.1))
 
 pub bal-form-spec : {M : Type 1} → statement M
 bal-form-spec =

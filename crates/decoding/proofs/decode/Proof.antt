@@ -3,8 +3,8 @@
 use mathlib.Core.Path.{sym, ◌∙◌}
 use lib.Seq.{length-take-le}
 use Rattle.decoding.specs.Forms.{over}
-use Rattle.decoding.proofs.Parts.{indexOf-le}
-use Rattle.decoding.proofs.Numbers.{decode-more, decode-ord, decode-alone, listed-ord, listed-none}
+use Rattle.decoding.proofs.Parts.{index_of_le}
+use Rattle.decoding.proofs.Numbers.{decode_more, decode_ord, decode_alone, listed_ord, listed_none}
 use borrow.Author.Rules.{rules}
 use Rattle.decoding.proofs.decode.Statement.{statement}
 use Rattle.decoding.proofs.decode.Tie as tie
@@ -15,7 +15,7 @@ until-requires c κs = search rules
 slice-aggregate-word : tie.Need-slice-aggregate-word
 slice-aggregate-word c =
     let l = c.before.before.before.before.args.line.now in
-    sym (length-take-le c.before.until.result l (rw c.before.until.ensures (indexOf-le l 9)))
+    sym (length-take-le c.before.until.result l (rw c.before.until.ensures (index_of_le l 9)))
 
 slice-aggregate-same : tie.Need-slice-aggregate-same
 slice-aggregate-same c = search rules
@@ -35,7 +35,7 @@ returns c =
     let u = c.before.before.before.before.before.before.before.before.until in
     let p = sym c.before.before.before.before.before.same.ensures ∙ c.before.before.before.before.if1.true in
     let f = c.before.before.ord-form.ensures in
-    (rw (decode-ord l u.result u.ensures p) f.0, rw (listed-ord l u.result u.ensures p) f.1)
+    (rw (decode_ord l u.result u.ensures p) f.0, rw (listed_ord l u.result u.ensures p) f.1)
 
 returns-2 : tie.Need-returns-2
 unfolding over
@@ -43,7 +43,7 @@ returns-2 c =
     let l = c.before.before.before.before.before.before.before.before.args.line.now in
     let u = c.before.before.before.before.before.until in
     let p = sym c.before.before.same.ensures ∙ c.before.if1.false in
-    (rw (decode-alone l u.result u.ensures c.if2.true p), rw (listed-none l u.result u.ensures p))
+    (rw (decode_alone l u.result u.ensures c.if2.true p), rw (listed_none l u.result u.ensures p))
 
 add-next : tie.Need-overflow-add-next
 add-next c = search rules
@@ -66,7 +66,7 @@ returns-3 c =
     let l = c.before.before.before.before.before.before.before.before.before.before.args.line.now in
     let u = c.before.before.before.before.before.before.before.until in
     let p = sym c.before.before.before.before.same.ensures ∙ c.before.before.before.if1.false in
-    (rw (decode-more l u.result u.ensures c.before.before.if2.false) c.word-form.ensures, rw (listed-none l u.result u.ensures p))
+    (rw (decode_more l u.result u.ensures c.before.before.if2.false) c.word-form.ensures, rw (listed_none l u.result u.ensures p))
 
 pub decode-spec : {M : Type 1} → statement M
 decode-spec =

@@ -6,14 +6,14 @@ use native.Mathlib.Omega.{arith}
 use lib.ListN.{length, drop}
 use native.Mathlib.Numerals.{add-one}
 use native.Mathlib.Nat.{pow-le-pow_right, pow-suc}
-use Rattle.promises.specs.Text.{digitsValue}
-use Rattle.decoding.proofs.Numbers.{digits_more, digits_low, digits-high, digits-end}
+use Rattle.promises.specs.Text.{digits_value}
+use Rattle.decoding.proofs.Numbers.{digits_more, digits_low, digits_high, digits_end}
 use borrow.Author.Rules.{rules}
 use Rattle.decoding.proofs.digits_value.Statement.{statement}
 use Rattle.decoding.proofs.digits_value.Tie as tie
 
 abbrev invariant-loop : tie.invariant-loop
-invariant-loop field n₀ i₀ n i = (i ≤ length field) × (n < 10 ^ i) × (digitsValue 0 field ≡ digitsValue n (drop i field))
+invariant-loop field n₀ i₀ n i = (i ≤ length field) × (n < 10 ^ i) × (digits_value 0 field ≡ digits_value n (drop i field))
 
 abbrev decreases-loop : tie.decreases-loop
 decreases-loop field n₀ i₀ n i = length field - i
@@ -34,7 +34,7 @@ returns-2 : tie.Need-returns-2 invariant-loop decreases-loop
 returns-2 c =
     let s = c.before.before.before.before.before.args.field.now in
     let lp = c.before.before.before.before.loop in
-    sym (lp.invariant.2 ∙ digits-high s lp.n lp.i c.before.before.before.loop-test.true c.before.if1.false c.if2.true)
+    sym (lp.invariant.2 ∙ digits_high s lp.n lp.i c.before.before.before.loop-test.true c.before.if1.false c.if2.true)
 
 mul-n : tie.Need-overflow-mul-n invariant-loop decreases-loop
 mul-n c =
@@ -73,7 +73,7 @@ returns-3 : tie.Need-returns-3 invariant-loop decreases-loop
 returns-3 c =
     let s = c.before.before.args.field.now in
     let lp = c.before.loop in
-    sym (lp.invariant.2 ∙ digits-end s lp.n lp.i c.loop-test.false)
+    sym (lp.invariant.2 ∙ digits_end s lp.n lp.i c.loop-test.false)
 
 pub digits-value-spec : {M : Type 1} → statement M
 digits-value-spec =

@@ -12,9 +12,9 @@ use denote.Enum.Declared.{tag_of}
 use Rattle.promises.specs.Text.{Line, continues, go}
 use Rattle.decoding.specs.declared.Field.{Field}
 use Rattle.decoding.specs.declared.Field.TheVariants.{Last, More, Bad}
-use Rattle.decoding.specs.Forms.{field_of, orOther, form_of}
+use Rattle.decoding.specs.Forms.{field_of, or_other, form_of}
 use Rattle.decoding.specs.contracts.Field as field
-use Rattle.decoding.proofs.Numbers.{next_le, only, only-by, short, two-short, two-next, three-short, three-next}
+use Rattle.decoding.proofs.Numbers.{next_le, only, only_by, short, two_short, two_next, three_short, three_next}
 use borrow.Author.Rules.{rules}
 use Rattle.decoding.proofs.go_form.Statement.{statement}
 use Rattle.decoding.proofs.go_form.Tie as tie
@@ -36,7 +36,7 @@ enum-known-s c = search rules
 returns : tie.Need-returns
 returns c =
     let l = c.before.before.before.args.rest.now in
-    ap form_of (sym (three-short line l _ c.before.read-field.ensures (short c.before.read-field.result c.match.keys2)))
+    ap form_of (sym (three_short line l _ c.before.read-field.ensures (short c.before.read-field.result c.match.keys2)))
 
 sub-second : tie.Need-overflow-sub-second
 sub-second c =
@@ -67,7 +67,7 @@ returns-2 c =
     let f1 = c.before.before.before.before.s.given in
     let q1 : More f1.0.0 f1.0.1.0 ≡ field_of l = sym f1.1 ∙ c.before.before.before.before.before.before.read-field.ensures in
     let l2 = take (length l - f1.0.1.0) (drop f1.0.1.0 l) in
-    ap form_of (sym (three-next line l _ _ q1 ∙ two-short (line f1.0.0) l2 _ c.before.read-field2.ensures (short c.before.read-field2.result c.match2.keys2)))
+    ap form_of (sym (three_next line l _ _ q1 ∙ two_short (line f1.0.0) l2 _ c.before.read-field2.ensures (short c.before.read-field2.result c.match2.keys2)))
 
 sub-third : tie.Need-overflow-sub-third
 sub-third c =
@@ -107,7 +107,7 @@ returns-3 c =
     let f2 = c.before.before.before.before.e.given in
     let q2 : More f2.0.0 f2.0.1.0 ≡ field_of l2 = sym f2.1 ∙ c.before.before.before.before.before.before.read-field2.ensures in
     let l3 = take (length l2 - f2.0.1.0) (drop f2.0.1.0 l2) in
-    ap form_of (sym (three-next line l _ _ q1 ∙ two-next (line f1.0.0) l2 _ _ q2 ∙ only-by l3 _ c.before.read-field3.ensures (line f1.0.0 f2.0.0) ∙ ap (orOther (line f1.0.0 f2.0.0)) (not_last c.before.read-field3.result c.match3.keys2)))
+    ap form_of (sym (three_next line l _ _ q1 ∙ two_next (line f1.0.0) l2 _ _ q2 ∙ only_by l3 _ c.before.read-field3.ensures (line f1.0.0 f2.0.0) ∙ ap (or_other (line f1.0.0 f2.0.0)) (not_last c.before.read-field3.result c.match3.keys2)))
 
 returns-4 : tie.Need-returns-4
 returns-4 c =
@@ -118,7 +118,7 @@ returns-4 c =
     let f2 = c.before.before.before.before.before.before.e.given in
     let q2 : More f2.0.0 f2.0.1.0 ≡ field_of l2 = sym f2.1 ∙ c.before.before.before.before.before.before.before.before.read-field2.ensures in
     let l3 = take (length l2 - f2.0.1.0) (drop f2.0.1.0 l2) in
-    ap form_of (sym (three-next line l _ _ q1 ∙ two-next (line f1.0.0) l2 _ _ q2 ∙ only-by l3 (Last c.before.t.given.0.0) (sym c.before.t.given.1 ∙ c.before.before.before.read-field3.ensures) (line f1.0.0 f2.0.0)))
+    ap form_of (sym (three_next line l _ _ q1 ∙ two_next (line f1.0.0) l2 _ _ q2 ∙ only_by l3 (Last c.before.t.given.0.0) (sym c.before.t.given.1 ∙ c.before.before.before.read-field3.ensures) (line f1.0.0 f2.0.0)))
 
 pub go-form-spec : {M : Type 1} → statement M
 go-form-spec =

@@ -3,8 +3,8 @@
 use mathlib.Core.Path.{sym, ap, ◌∙◌}
 use Prim.Native.Nat.{ℕ}
 use Rattle.promises.specs.Text.{Line, begins, mon}
-use Rattle.decoding.specs.Forms.{value_of, orOther, form_of}
-use Rattle.decoding.proofs.Numbers.{next_le, one_last, one-bad, one-next}
+use Rattle.decoding.specs.Forms.{value_of, or_other, form_of}
+use Rattle.decoding.proofs.Numbers.{next_le, one_last, one_bad, one_next}
 use borrow.Author.Rules.{rules}
 use Rattle.decoding.proofs.mon_form.Statement.{statement}
 use Rattle.decoding.proofs.mon_form.Tie as tie
@@ -51,15 +51,15 @@ returns c = ap form_of (sym (one_last alone started c.before.before.before.befor
 returns-2 : tie.Need-returns-2
 returns-2 c =
     let f = c.before.before.before.before.before.before.s2.given in
-    ap form_of (sym (one-next alone started c.before.before.before.before.before.before.before.before.before.before.args.rest.now f.0.0 _ (sym f.1 ∙ c.before.before.before.before.before.before.before.before.read-field.ensures) ∙ c.before.before.before.only-number.ensures (started f.0.0) ∙ ap (λ d. orOther (started f.0.0) (value_of d)) c.before.start.given.1))
+    ap form_of (sym (one_next alone started c.before.before.before.before.before.before.before.before.before.before.args.rest.now f.0.0 _ (sym f.1 ∙ c.before.before.before.before.before.before.before.before.read-field.ensures) ∙ c.before.before.before.only-number.ensures (started f.0.0) ∙ ap (λ d. or_other (started f.0.0) (value_of d)) c.before.start.given.1))
 
 returns-3 : tie.Need-returns-3
 returns-3 c =
     let f = c.before.before.before.before.before.s2.given in
-    ap form_of (sym (one-next alone started c.before.before.before.before.before.before.before.before.before.args.rest.now f.0.0 _ (sym f.1 ∙ c.before.before.before.before.before.before.before.read-field.ensures) ∙ c.before.before.only-number.ensures (started f.0.0) ∙ ap (λ d. orOther (started f.0.0) (value_of d)) c.enum_told.given.1))
+    ap form_of (sym (one_next alone started c.before.before.before.before.before.before.before.before.before.args.rest.now f.0.0 _ (sym f.1 ∙ c.before.before.before.before.before.before.before.read-field.ensures) ∙ c.before.before.only-number.ensures (started f.0.0) ∙ ap (λ d. or_other (started f.0.0) (value_of d)) c.enum_told.given.1))
 
 returns-4 : tie.Need-returns-4
-returns-4 c = ap form_of (sym (one-bad alone started c.before.before.before.before.args.rest.now (sym c.enum-told2.given.1 ∙ c.before.before.read-field.ensures)))
+returns-4 c = ap form_of (sym (one_bad alone started c.before.before.before.before.args.rest.now (sym c.enum-told2.given.1 ∙ c.before.before.read-field.ensures)))
 
 pub mon-form-spec : {M : Type 1} → statement M
 mon-form-spec =

@@ -2,7 +2,7 @@
 -- Assumes nothing.
 use mathlib.Core.Path.{sym, ◌∙◌}
 use native.Mathlib.Omega.{arith}
-use Rattle.decoding.proofs.Numbers.{number-empty, number-long, number-zero, number-one, number_digits}
+use Rattle.decoding.proofs.Numbers.{number-empty, number-long, number_zero, number-one, number_digits}
 use borrow.Author.Rules.{rules}
 use Rattle.decoding.proofs.number.Statement.{statement}
 use Rattle.decoding.proofs.number.Tie as tie
@@ -23,7 +23,7 @@ shared-slice-read-if4 : tie.Need-shared-slice-read-if4
 shared-slice-read-if4 c = search rules
 
 returns-4 : tie.Need-returns-4
-returns-4 c = sym (number-zero c.before.before.before.before.before.before.args.field.now (omega arith) c.if4.true)
+returns-4 c = sym (number_zero c.before.before.before.before.before.before.args.field.now (omega arith) c.if4.true)
 
 digits-value-requires-2 : tie.Need-digits-value-requires-2
 digits-value-requires-2 c κs = search rules

@@ -1,8 +1,8 @@
 -- A number that another follows, and that one the last; anything else is not two numbers.
 -- Assumes nothing.
 use mathlib.Core.Path.{sym, ap, ◌∙◌}
-use Rattle.decoding.specs.Forms.{value_of, orOther}
-use Rattle.decoding.proofs.Numbers.{next_le, short, two-short, two-next}
+use Rattle.decoding.specs.Forms.{value_of, or_other}
+use Rattle.decoding.proofs.Numbers.{next_le, short, two_short, two_next}
 use borrow.Author.Rules.{rules}
 use Rattle.decoding.proofs.only_pair.Statement.{statement}
 use Rattle.decoding.proofs.only_pair.Tie as tie
@@ -14,7 +14,7 @@ enum-known-a : tie.Need-enum-known-a
 enum-known-a c = search rules
 
 returns : tie.Need-returns
-returns c = λ f. two-short f c.before.before.before.args.rest.now _ c.before.read-field.ensures (short c.before.read-field.result c.match.keys2)
+returns c = λ f. two_short f c.before.before.before.args.rest.now _ c.before.read-field.ensures (short c.before.read-field.result c.match.keys2)
 
 sub-only-number : tie.Need-overflow-sub-only-number
 sub-only-number c = next_le c.before.before.before.before.before.args.rest.now _ _ (sym c.before.before.before.read-field.ensures ∙ c.before.a.given.1)
@@ -37,12 +37,12 @@ enum_told c = search rules
 returns-2 : tie.Need-returns-2
 returns-2 c =
     let n = c.before.before.before.before.before.before.a.given in
-    λ f. two-next f c.before.before.before.before.before.before.before.before.before.before.args.rest.now _ _ (sym n.1 ∙ c.before.before.before.before.before.before.before.before.read-field.ensures) ∙ c.before.before.before.only-number.ensures (f n.0.0) ∙ ap (λ d. orOther (f n.0.0) (value_of d)) c.before.b.given.1
+    λ f. two_next f c.before.before.before.before.before.before.before.before.before.before.args.rest.now _ _ (sym n.1 ∙ c.before.before.before.before.before.before.before.before.read-field.ensures) ∙ c.before.before.before.only-number.ensures (f n.0.0) ∙ ap (λ d. or_other (f n.0.0) (value_of d)) c.before.b.given.1
 
 returns-3 : tie.Need-returns-3
 returns-3 c =
     let n = c.before.before.before.before.before.a.given in
-    λ f. two-next f c.before.before.before.before.before.before.before.before.before.args.rest.now _ _ (sym n.1 ∙ c.before.before.before.before.before.before.before.read-field.ensures) ∙ c.before.before.only-number.ensures (f n.0.0) ∙ ap (λ d. orOther (f n.0.0) (value_of d)) c.enum_told.given.1
+    λ f. two_next f c.before.before.before.before.before.before.before.before.before.args.rest.now _ _ (sym n.1 ∙ c.before.before.before.before.before.before.before.read-field.ensures) ∙ c.before.before.only-number.ensures (f n.0.0) ∙ ap (λ d. or_other (f n.0.0) (value_of d)) c.enum_told.given.1
 
 pub only-pair-spec : {M : Type 1} → statement M
 only-pair-spec =

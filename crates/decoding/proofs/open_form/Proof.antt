@@ -3,8 +3,8 @@
 use mathlib.Core.Path.{sym, ap, ◌∙◌}
 use Prim.Native.Nat.{ℕ}
 use Rattle.promises.specs.Text.{Line, continues, opens}
-use Rattle.decoding.specs.Forms.{pairOr, form_of}
-use Rattle.decoding.proofs.Numbers.{next_le, short, three-short, three-next}
+use Rattle.decoding.specs.Forms.{pair_or, form_of}
+use Rattle.decoding.proofs.Numbers.{next_le, short, three_short, three_next}
 use borrow.Author.Rules.{rules}
 use Rattle.decoding.proofs.open_form.Statement.{statement}
 use Rattle.decoding.proofs.open_form.Tie as tie
@@ -19,7 +19,7 @@ enum-known-e : tie.Need-enum-known-e
 enum-known-e c = search rules
 
 returns : tie.Need-returns
-returns c = ap form_of (sym (three-short line c.before.before.before.args.rest.now _ c.before.read-field.ensures (short c.before.read-field.result c.match.keys2)))
+returns c = ap form_of (sym (three_short line c.before.before.before.args.rest.now _ c.before.read-field.ensures (short c.before.read-field.result c.match.keys2)))
 
 sub-only-pair : tie.Need-overflow-sub-only-pair
 sub-only-pair c = next_le c.before.before.before.before.before.args.rest.now _ _ (sym c.before.before.before.read-field.ensures ∙ c.before.e.given.1)
@@ -43,13 +43,13 @@ returns-2 : tie.Need-returns-2
 returns-2 c =
     let l = c.before.before.before.before.before.before.before.before.before.before.args.rest.now in
     let x = c.before.before.before.before.before.before.e.given in
-    ap form_of (sym (three-next line l _ _ (sym x.1 ∙ c.before.before.before.before.before.before.before.before.read-field.ensures) ∙ c.before.before.before.only-pair.ensures (line x.0.0) ∙ ap (pairOr (line x.0.0)) c.before.a.given.1))
+    ap form_of (sym (three_next line l _ _ (sym x.1 ∙ c.before.before.before.before.before.before.before.before.read-field.ensures) ∙ c.before.before.before.only-pair.ensures (line x.0.0) ∙ ap (pair_or (line x.0.0)) c.before.a.given.1))
 
 returns-3 : tie.Need-returns-3
 returns-3 c =
     let l = c.before.before.before.before.before.before.before.before.before.args.rest.now in
     let x = c.before.before.before.before.before.e.given in
-    ap form_of (sym (three-next line l _ _ (sym x.1 ∙ c.before.before.before.before.before.before.before.read-field.ensures) ∙ c.before.before.only-pair.ensures (line x.0.0) ∙ ap (pairOr (line x.0.0)) c.enum_told.given.1))
+    ap form_of (sym (three_next line l _ _ (sym x.1 ∙ c.before.before.before.before.before.before.before.read-field.ensures) ∙ c.before.before.only-pair.ensures (line x.0.0) ∙ ap (pair_or (line x.0.0)) c.enum_told.given.1))
 
 pub open-form-spec : {M : Type 1} → statement M
 open-form-spec =

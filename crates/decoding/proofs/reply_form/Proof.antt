@@ -4,8 +4,8 @@ use mathlib.Core.Path.{sym, ap, ◌∙◌}
 use Prim.Native.Nat.{ℕ, ◌-◌}
 use lib.ListN.{length, take, drop}
 use Rattle.promises.specs.Text.{Line, begins, reply}
-use Rattle.decoding.specs.Forms.{pairOr, form_of}
-use Rattle.decoding.proofs.Numbers.{next_le, short, three-short, three-next, four-short, four-next}
+use Rattle.decoding.specs.Forms.{pair_or, form_of}
+use Rattle.decoding.proofs.Numbers.{next_le, short, three_short, three_next, four_short, four_next}
 use borrow.Author.Rules.{rules}
 use Rattle.decoding.proofs.reply_form.Statement.{statement}
 use Rattle.decoding.proofs.reply_form.Tie as tie
@@ -20,7 +20,7 @@ enum-known-a : tie.Need-enum-known-a
 enum-known-a c = search rules
 
 returns : tie.Need-returns
-returns c = ap form_of (sym (four-short line c.before.before.before.args.rest.now _ c.before.read-field.ensures (short c.before.read-field.result c.match.keys2)))
+returns c = ap form_of (sym (four_short line c.before.before.before.args.rest.now _ c.before.read-field.ensures (short c.before.read-field.result c.match.keys2)))
 
 sub-second : tie.Need-overflow-sub-second
 sub-second c = next_le c.before.before.before.before.before.args.rest.now _ _ (sym c.before.before.before.read-field.ensures ∙ c.before.a.given.1)
@@ -42,7 +42,7 @@ returns-2 c =
     let l = c.before.before.before.before.before.before.before.before.args.rest.now in
     let x = c.before.before.before.before.a.given in
     let m = take (length l - x.0.1.0) (drop x.0.1.0 l) in
-    ap form_of (sym (four-next line l _ _ (sym x.1 ∙ c.before.before.before.before.before.before.read-field.ensures) ∙ three-short (line x.0.0) m _ c.before.read-field2.ensures (short c.before.read-field2.result c.match2.keys2)))
+    ap form_of (sym (four_next line l _ _ (sym x.1 ∙ c.before.before.before.before.before.before.read-field.ensures) ∙ three_short (line x.0.0) m _ c.before.read-field2.ensures (short c.before.read-field2.result c.match2.keys2)))
 
 sub-only-pair : tie.Need-overflow-sub-only-pair
 sub-only-pair c =
@@ -74,7 +74,7 @@ returns-3 c =
     let x = c.before.before.before.before.before.before.before.before.before.before.before.a.given in
     let m = take (length l - x.0.1.0) (drop x.0.1.0 l) in
     let y = c.before.before.before.before.before.before.b.given in
-    ap form_of (sym (four-next line l _ _ (sym x.1 ∙ c.before.before.before.before.before.before.before.before.before.before.before.before.before.read-field.ensures) ∙ three-next (line x.0.0) m _ _ (sym y.1 ∙ c.before.before.before.before.before.before.before.before.read-field2.ensures) ∙ c.before.before.before.only-pair.ensures (line x.0.0 y.0.0) ∙ ap (pairOr (line x.0.0 y.0.0)) c.before.lo.given.1))
+    ap form_of (sym (four_next line l _ _ (sym x.1 ∙ c.before.before.before.before.before.before.before.before.before.before.before.before.before.read-field.ensures) ∙ three_next (line x.0.0) m _ _ (sym y.1 ∙ c.before.before.before.before.before.before.before.before.read-field2.ensures) ∙ c.before.before.before.only-pair.ensures (line x.0.0 y.0.0) ∙ ap (pair_or (line x.0.0 y.0.0)) c.before.lo.given.1))
 
 returns-4 : tie.Need-returns-4
 returns-4 c =
@@ -82,7 +82,7 @@ returns-4 c =
     let x = c.before.before.before.before.before.before.before.before.before.before.a.given in
     let m = take (length l - x.0.1.0) (drop x.0.1.0 l) in
     let y = c.before.before.before.before.before.b.given in
-    ap form_of (sym (four-next line l _ _ (sym x.1 ∙ c.before.before.before.before.before.before.before.before.before.before.before.before.read-field.ensures) ∙ three-next (line x.0.0) m _ _ (sym y.1 ∙ c.before.before.before.before.before.before.before.read-field2.ensures) ∙ c.before.before.only-pair.ensures (line x.0.0 y.0.0) ∙ ap (pairOr (line x.0.0 y.0.0)) c.enum_told.given.1))
+    ap form_of (sym (four_next line l _ _ (sym x.1 ∙ c.before.before.before.before.before.before.before.before.before.before.before.before.read-field.ensures) ∙ three_next (line x.0.0) m _ _ (sym y.1 ∙ c.before.before.before.before.before.before.before.read-field2.ensures) ∙ c.before.before.only-pair.ensures (line x.0.0 y.0.0) ∙ ap (pair_or (line x.0.0 y.0.0)) c.enum_told.given.1))
 
 pub reply-form-spec : {M : Type 1} → statement M
 reply-form-spec =

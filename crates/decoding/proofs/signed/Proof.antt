@@ -11,7 +11,7 @@ use mir.Val.{to_z, of_z}
 use mir.ValLaws.{to_z_pos, to_z-of_z}
 use Rattle.promises.specs.Text.{plus, minus}
 use Rattle.decoding.specs.Forms.{value_of}
-use Rattle.decoding.proofs.Signs.{number_small, minus-fits, minus-some, signed-empty, signed-plus, signed-minus}
+use Rattle.decoding.proofs.Signs.{number_small, minus_fits, minus-some, signed-empty, signed-plus, signed-minus}
 use borrow.Author.Rules.{rules}
 use Rattle.decoding.proofs.signed.Statement.{statement}
 use Rattle.decoding.proofs.signed.Tie as tie
@@ -78,7 +78,7 @@ sub-t19 c =
     let n = c.before.before.n2.given in
     let q = sym (ap value_of n.1) ∙ c.before.before.before.before.number2.ensures in
     let small = number_small (take (length l - 1) (drop 1 l)) n.0.0 q in
-    rw (to_z_pos w64 n.0.0 (omega (arith, small))) (minus-fits n.0.0 small)
+    rw (to_z_pos w64 n.0.0 (omega (arith, small))) (minus_fits n.0.0 small)
 
 enum-told-2 : tie.Need-enum-told-2
 enum-told-2 c = search rules
@@ -97,7 +97,7 @@ returns-5 c =
     let n = c.before.before.n2.given in
     let q = sym (ap value_of n.1) ∙ c.before.before.before.before.number2.ensures in
     let small = number_small (take (length l - 1) (drop 1 l)) n.0.0 q in
-    ap some (ap (λ x. to_z w64 (of_z w64 (pos 0 -ℤ x))) (to_z_pos w64 n.0.0 (omega (arith, small))) ∙ to_z-of_z w64 (pos 0 -ℤ pos n.0.0) (minus-fits n.0.0 small))
+    ap some (ap (λ x. to_z w64 (of_z w64 (pos 0 -ℤ x))) (to_z_pos w64 n.0.0 (omega (arith, small))) ∙ to_z-of_z w64 (pos 0 -ℤ pos n.0.0) (minus_fits n.0.0 small))
     ∙ minus-some n.0.0 c.if3.false ∙ ap minus q ∙ sym (signed-minus l (omega (arith, c.before.before.before.before.before.before.before.before.if1.false)) c.before.before.before.before.before.before.if2.false)
 
 returns-6 : tie.Need-returns-6

@@ -5,7 +5,7 @@ use Prim.Native.Nat.{◌+◌, ◌-◌, ◌≤◌}
 use native.Mathlib.Omega.{arith}
 use lib.ListN.{length, drop}
 use Rattle.lists.specs.Lists.{index_of}
-use Rattle.decoding.proofs.Parts.{indexOf-here, indexOf-more, indexOf-end}
+use Rattle.decoding.proofs.Parts.{index_of_here, index_of_more, index_of_end}
 use borrow.Author.Rules.{rules}
 use Rattle.decoding.proofs.until.Statement.{statement}
 use Rattle.decoding.proofs.until.Tie as tie
@@ -26,7 +26,7 @@ returns : tie.Need-returns invariant-loop decreases-loop
 returns c =
     let s = c.before.before.before.before.args.s.now in
     let lp = c.before.before.before.loop in
-    omega (arith, indexOf-here s c.before.before.before.before.args.b lp.i c.before.before.loop-test.true c.if1.true)
+    omega (arith, index_of_here s c.before.before.before.before.args.b lp.i c.before.before.loop-test.true c.if1.true)
 
 add-i : tie.Need-overflow-add-i invariant-loop decreases-loop
 add-i c = search rules
@@ -38,12 +38,12 @@ loop-again : tie.Need-loop-preserved invariant-loop decreases-loop
 loop-again c =
     let s = c.before.before.before.before.args.s.now in
     let lp = c.before.before.before.loop in
-    (omega arith, omega (arith, indexOf-more s c.before.before.before.before.args.b lp.i c.before.before.loop-test.true c.if1.false))
+    (omega arith, omega (arith, index_of_more s c.before.before.before.before.args.b lp.i c.before.before.loop-test.true c.if1.false))
 
 returns-2 : tie.Need-returns-2 invariant-loop decreases-loop
 returns-2 c =
     let s = c.before.before.args.s.now in
-    omega (arith, indexOf-end s c.before.before.args.b c.before.loop.i c.loop-test.false)
+    omega (arith, index_of_end s c.before.before.args.b c.before.loop.i c.loop-test.false)
 
 pub until-spec : {M : Type 1} → statement M
 until-spec =

@@ -2,7 +2,7 @@
 -- Assumes nothing.
 use mathlib.Core.Path.{sym, ap, ◌∙◌}
 use Rattle.decoding.specs.Forms.{form_of}
-use Rattle.decoding.proofs.Numbers.{form-rig, form-mon, form-go, form-stop, form-gap, form-reply, form-bal, form-amp, form-day, form-open, form-other}
+use Rattle.decoding.proofs.Numbers.{form_rig, form_mon, form_go, form_stop, form_gap, form_reply, form_bal, form_amp, form_day, form_open, form_other}
 use borrow.Author.Rules.{rules}
 use Rattle.decoding.proofs.word_form.Statement.{statement}
 use Rattle.decoding.proofs.word_form.Tie as tie
@@ -17,7 +17,7 @@ go-form-requires : tie.Need-go-form-requires
 go-form-requires c κs = search rules
 
 returns : tie.Need-returns
-returns c = c.go-form.ensures ∙ ap form_of (sym (form-go _ _ (sym c.before.before.same.ensures ∙ c.before.if1.true)))
+returns c = c.go-form.ensures ∙ ap form_of (sym (form_go _ _ (sym c.before.before.same.ensures ∙ c.before.if1.true)))
 
 slice-aggregate-same-2 : tie.Need-slice-aggregate-same-2
 slice-aggregate-same-2 c = search rules
@@ -29,7 +29,7 @@ stop-form-requires : tie.Need-stop-form-requires
 stop-form-requires c κs = search rules
 
 returns-2 : tie.Need-returns-2
-returns-2 c = c.stop-form.ensures ∙ ap form_of (sym (form-stop _ _ (sym c.before.before.same2.ensures ∙ c.before.if2.true)))
+returns-2 c = c.stop-form.ensures ∙ ap form_of (sym (form_stop _ _ (sym c.before.before.same2.ensures ∙ c.before.if2.true)))
 
 slice-aggregate-same-3 : tie.Need-slice-aggregate-same-3
 slice-aggregate-same-3 c = search rules
@@ -41,7 +41,7 @@ amp-form-requires : tie.Need-amp-form-requires
 amp-form-requires c κs = search rules
 
 returns-3 : tie.Need-returns-3
-returns-3 c = c.amp-form.ensures ∙ ap form_of (sym (form-amp _ _ (sym c.before.before.same3.ensures ∙ c.before.if3.true)))
+returns-3 c = c.amp-form.ensures ∙ ap form_of (sym (form_amp _ _ (sym c.before.before.same3.ensures ∙ c.before.if3.true)))
 
 slice-aggregate-same-4 : tie.Need-slice-aggregate-same-4
 slice-aggregate-same-4 c = search rules
@@ -53,7 +53,7 @@ open-form-requires : tie.Need-open-form-requires
 open-form-requires c κs = search rules
 
 returns-4 : tie.Need-returns-4
-returns-4 c = c.open-form.ensures ∙ ap form_of (sym (form-open _ _ (sym c.before.before.same4.ensures ∙ c.before.if4.true)))
+returns-4 c = c.open-form.ensures ∙ ap form_of (sym (form_open _ _ (sym c.before.before.same4.ensures ∙ c.before.if4.true)))
 
 slice-aggregate-same-5 : tie.Need-slice-aggregate-same-5
 slice-aggregate-same-5 c = search rules
@@ -65,7 +65,7 @@ mon-form-requires : tie.Need-mon-form-requires
 mon-form-requires c κs = search rules
 
 returns-5 : tie.Need-returns-5
-returns-5 c = c.mon-form.ensures ∙ ap form_of (sym (form-mon _ _ (sym c.before.before.same5.ensures ∙ c.before.if5.true)))
+returns-5 c = c.mon-form.ensures ∙ ap form_of (sym (form_mon _ _ (sym c.before.before.same5.ensures ∙ c.before.if5.true)))
 
 slice-aggregate-same-6 : tie.Need-slice-aggregate-same-6
 slice-aggregate-same-6 c = search rules
@@ -77,7 +77,7 @@ gap-form-requires : tie.Need-gap-form-requires
 gap-form-requires c κs = search rules
 
 returns-6 : tie.Need-returns-6
-returns-6 c = c.gap-form.ensures ∙ ap form_of (sym (form-gap _ _ (sym c.before.before.same6.ensures ∙ c.before.if6.true)))
+returns-6 c = c.gap-form.ensures ∙ ap form_of (sym (form_gap _ _ (sym c.before.before.same6.ensures ∙ c.before.if6.true)))
 
 slice-aggregate-same-7 : tie.Need-slice-aggregate-same-7
 slice-aggregate-same-7 c = search rules
@@ -89,7 +89,7 @@ reply-form-requires : tie.Need-reply-form-requires
 reply-form-requires c κs = search rules
 
 returns-7 : tie.Need-returns-7
-returns-7 c = c.reply-form.ensures ∙ ap form_of (sym (form-reply _ _ (sym c.before.before.same7.ensures ∙ c.before.if7.true)))
+returns-7 c = c.reply-form.ensures ∙ ap form_of (sym (form_reply _ _ (sym c.before.before.same7.ensures ∙ c.before.if7.true)))
 
 slice-aggregate-same-8 : tie.Need-slice-aggregate-same-8
 slice-aggregate-same-8 c = search rules
@@ -101,7 +101,7 @@ bal-form-requires : tie.Need-bal-form-requires
 bal-form-requires c κs = search rules
 
 returns-8 : tie.Need-returns-8
-returns-8 c = c.bal-form.ensures ∙ ap form_of (sym (form-bal _ _ (sym c.before.before.same8.ensures ∙ c.before.if8.true)))
+returns-8 c = c.bal-form.ensures ∙ ap form_of (sym (form_bal _ _ (sym c.before.before.same8.ensures ∙ c.before.if8.true)))
 
 slice-aggregate-same-9 : tie.Need-slice-aggregate-same-9
 slice-aggregate-same-9 c = search rules
@@ -113,7 +113,7 @@ day-form-requires : tie.Need-day-form-requires
 day-form-requires c κs = search rules
 
 returns-9 : tie.Need-returns-9
-returns-9 c = c.day-form.ensures ∙ ap form_of (sym (form-day _ _ (sym c.before.before.same9.ensures ∙ c.before.if9.true)))
+returns-9 c = c.day-form.ensures ∙ ap form_of (sym (form_day _ _ (sym c.before.before.same9.ensures ∙ c.before.if9.true)))
 
 slice-aggregate-same-10 : tie.Need-slice-aggregate-same-10
 slice-aggregate-same-10 c = search rules
@@ -125,11 +125,11 @@ rig-form-requires : tie.Need-rig-form-requires
 rig-form-requires c κs = search rules
 
 returns-10 : tie.Need-returns-10
-returns-10 c = c.rig-form.ensures ∙ ap form_of (sym (form-rig _ _ (sym c.before.before.same10.ensures ∙ c.before.if10.true)))
+returns-10 c = c.rig-form.ensures ∙ ap form_of (sym (form_rig _ _ (sym c.before.before.same10.ensures ∙ c.before.if10.true)))
 
 returns-11 : tie.Need-returns-11
 returns-11 c =
-    ap form_of (sym (form-other _ _
+    ap form_of (sym (form_other _ _
     (sym c.before.same10.ensures ∙ c.if10.false)
     (sym c.before.before.before.before.before.before.before.before.before.before.before.before.before.before.before.before.same5.ensures ∙ c.before.before.before.before.before.before.before.before.before.before.before.before.before.before.before.if5.false)
     (sym c.before.before.before.before.before.before.before.before.before.before.before.before.before.before.before.before.before.before.before.before.before.before.before.before.before.before.before.before.same.ensures ∙ c.before.before.before.before.before.before.before.before.before.before.before.before.before.before.before.before.before.before.before.before.before.before.before.before.before.before.before.if1.false)

@@ -3,15 +3,15 @@ use mathlib.Core.Path.{◌≡◌, refl, sym, ap, ◌∙◌}
 use Prim.Native.Nat.{◌-◌, ◌≤◌}
 use native.Mathlib.Omega.{arith}
 use native.Mathlib.Nat.{sub-zero}
-use Rattle.promises.specs.Draws.{drawsFrom, outcome}
-use Rattle.draws.specs.Making.{firstFailed}
-use Rattle.draws.proofs.Laws.{from-failed, from_more, from_end, not_made, is_made, failed-onto}
+use Rattle.promises.specs.Draws.{draws_from, outcome}
+use Rattle.draws.specs.Making.{first_failed}
+use Rattle.draws.proofs.Laws.{from_failed, from_more, from_end, not_made, is_made, failed-onto}
 use borrow.Author.Rules.{rules}
 use Rattle.draws.proofs.first_failed.Statement.{statement}
 use Rattle.draws.proofs.first_failed.Tie as tie
 
 abbrev invariant-loop : tie.invariant-loop
-invariant-loop n z seed limit state₀ i₀ state i = (i ≤ z) × (firstFailed z (outcome n z seed limit) ≡ firstFailed z (drawsFrom limit n (z - i) i state))
+invariant-loop n z seed limit state₀ i₀ state i = (i ≤ z) × (first_failed z (outcome n z seed limit) ≡ first_failed z (draws_from limit n (z - i) i state))
 
 abbrev decreases-loop : tie.decreases-loop
 decreases-loop n z seed limit state₀ i₀ state i = z - i
@@ -31,7 +31,7 @@ returns c =
     let st = c.before.before.before.before.before.args in
     let lp = c.before.before.before.before.loop in
     let t = c.before.before.take.result in
-    sym (lp.invariant.1 ∙ ap (firstFailed st.z) (from-failed st.limit st.n st.z lp.i lp.state (omega arith) (not_made st.limit (st.n - lp.i) lp.state t c.before.before.take.ensures c.if1.true)))
+    sym (lp.invariant.1 ∙ ap (first_failed st.z) (from_failed st.limit st.n st.z lp.i lp.state (omega arith) (not_made st.limit (st.n - lp.i) lp.state t c.before.before.take.ensures c.if1.true)))
 
 add-i : tie.Need-overflow-add-i invariant-loop decreases-loop
 add-i c = search rules
@@ -44,13 +44,13 @@ loop-again c =
     let st = c.before.before.before.before.before.args in
     let lp = c.before.before.before.before.loop in
     let t = c.before.before.take.result in
-    (omega arith, lp.invariant.1 ∙ ap (firstFailed st.z) (from_more st.limit st.n st.z lp.i lp.state (omega arith) t.raw t.state (is_made st.limit (st.n - lp.i) lp.state t c.before.before.take.ensures c.if1.false)) ∙ failed-onto st.z _ _)
+    (omega arith, lp.invariant.1 ∙ ap (first_failed st.z) (from_more st.limit st.n st.z lp.i lp.state (omega arith) t.raw t.state (is_made st.limit (st.n - lp.i) lp.state t c.before.before.take.ensures c.if1.false)) ∙ failed-onto st.z _ _)
 
 returns-2 : tie.Need-returns-2 invariant-loop decreases-loop
 returns-2 c =
     let st = c.before.before.args in
     let lp = c.before.loop in
-    sym (lp.invariant.1 ∙ ap (firstFailed st.z) (from_end st.limit st.n st.z lp.i lp.state (omega arith)))
+    sym (lp.invariant.1 ∙ ap (first_failed st.z) (from_end st.limit st.n st.z lp.i lp.state (omega arith)))
 
 pub first-failed-spec : {M : Type 1} → statement M
 first-failed-spec =

@@ -4,7 +4,7 @@ use Prim.Native.Nat.{◌-◌, ◌≤◌}
 use native.Mathlib.Omega.{arith}
 use native.Mathlib.Nat.{sub-zero}
 use Rattle.promises.specs.Draws.{taken}
-use Rattle.draws.proofs.Laws.{taken_here, taken-later, taken-nowhere}
+use Rattle.draws.proofs.Laws.{taken_here, taken_later, taken_nowhere}
 use borrow.Author.Rules.{rules}
 use Rattle.draws.proofs.take.Statement.{statement}
 use Rattle.draws.proofs.take.Tie as tie
@@ -46,13 +46,13 @@ loop-again : tie.Need-loop-preserved invariant-loop decreases-loop
 loop-again c =
     let st = c.before.before.before.before.before.before.before in
     let lp = c.before.before.before.before.before.loop in
-    (omega arith, lp.invariant.1 ∙ taken-later st.args.limit lp.k st.args.w lp.state _ _ (omega arith) c.before.before.before.next-state.ensures c.before.before.mix.ensures (rw c.before.is-thrown.ensures at c.if1.false))
+    (omega arith, lp.invariant.1 ∙ taken_later st.args.limit lp.k st.args.w lp.state _ _ (omega arith) c.before.before.before.next-state.ensures c.before.before.mix.ensures (rw c.before.is-thrown.ensures at c.if1.false))
 
 returns-2 : tie.Need-returns-2 invariant-loop decreases-loop
 returns-2 c =
     let st = c.before.before.before in
     let lp = c.before.loop in
-    sym (lp.invariant.1 ∙ taken-nowhere st.args.limit lp.k st.args.w lp.state (omega arith))
+    sym (lp.invariant.1 ∙ taken_nowhere st.args.limit lp.k st.args.w lp.state (omega arith))
 
 pub take_spec : {M : Type 1} → statement M
 take_spec =

@@ -5,8 +5,8 @@ use native.Mathlib.Omega.{arith}
 use native.Mathlib.Nat.{mod-lt}
 use lib.ListN.{length, length-set}
 use Rattle.promises.specs.Draws.{outcome}
-use Rattle.promises.proofs.Draws.{drawn-served}
-use Rattle.draws.proofs.Laws.{Written, written-first, written-more, written_all}
+use Rattle.promises.proofs.Draws.{drawn_served}
+use Rattle.draws.proofs.Laws.{Written, written_first, written_more, written_all}
 use borrow.Author.Rules.{rules}
 use Rattle.draws.proofs.write_draws.Statement.{statement}
 use Rattle.draws.proofs.write_draws.Tie as tie
@@ -19,7 +19,7 @@ decreases-loop n z seed limit out₀ state₀ i₀ out state i = z - i
 
 loop-holds : tie.Need-loop-init invariant-loop decreases-loop
 unfolding outcome
-loop-holds c = let st = c.before.args in (omega arith, refl, written-first st.limit st.n st.z _ st.out.now st.seed refl c.before.requires.2)
+loop-holds c = let st = c.before.args in (omega arith, refl, written_first st.limit st.n st.z _ st.out.now st.seed refl c.before.requires.2)
 
 sub-w : tie.Need-overflow-sub-w invariant-loop decreases-loop
 sub-w c = search rules
@@ -49,7 +49,7 @@ loop-again : tie.Need-loop-preserved invariant-loop decreases-loop
 loop-again c =
     let st = c.before.before.before.before.before.args in
     let lp = c.before.before.before.loop in
-    (omega arith, simp length-set lp.invariant.1, written-more st.limit st.n st.z _ st.out.now lp.i lp.state lp.out lp.invariant.2 c.before.take.result (omega arith) (omega arith) c.before.take.ensures)
+    (omega arith, simp length-set lp.invariant.1, written_more st.limit st.n st.z _ st.out.now lp.i lp.state lp.out lp.invariant.2 c.before.take.result (omega arith) (omega arith) c.before.take.ensures)
 
 same_length : tie.Need-same-length invariant-loop decreases-loop
 same_length c = search rules
@@ -59,7 +59,7 @@ returns c =
     let st = c.before.before.before.args in
     let lp = c.before.loop in
     let w = lp.invariant.2 in
-    w.holds ∙ sym (drawn-served st.n st.z st.seed st.limit st.out.now (omega arith) (omega arith) w.front (written_all st.limit st.n st.z _ st.out.now lp.i lp.state lp.out w (omega arith))).1
+    w.holds ∙ sym (drawn_served st.n st.z st.seed st.limit st.out.now (omega arith) (omega arith) w.front (written_all st.limit st.n st.z _ st.out.now lp.i lp.state lp.out w (omega arith))).1
 
 pub write-draws-spec : {M : Type 1} → statement M
 write-draws-spec =

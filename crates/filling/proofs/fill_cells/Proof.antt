@@ -1,6 +1,6 @@
 -- `fill_cells` meets its contract: the cell of the start is N, cut off, so it tells rows 9 and 10 and else N itself. Assumes nothing.
 use borrow.Author.Rules.{rules}
-use Rattle.rig.specs.Record.{recordAutomaton}
+use Rattle.rig.specs.Record.{record_automaton}
 use Rattle.filling.proofs.Rows.{fills-told}
 use Rattle.filling.proofs.fill_cells.Statement.{statement}
 use Rattle.filling.proofs.fill_cells.Tie as tie
@@ -37,8 +37,8 @@ returns : tie.Need-returns
 returns c =
     let st = c.before.before.before.before.before.before.before.before.before.before.before in
     let f = c.before.before.before.before.before.before.prune-and-fill in
-    fills-told (recordAutomaton st.args.rig) st.args.states st.args.start st.args.h f.result c.check-count.result st.args.cells.now f.new.1.1.1.0 f.new.1.1.1.1.0
-    st.requires.0.joint st.requires.0.start-below f.ensures.1.0 c.check-count.ensures f.ensures.0 f.ensures.1.1
+    fills-told (record_automaton st.args.rig) st.args.states st.args.start st.args.h f.result c.check-count.result st.args.cells.now f.new.1.1.1.0 f.new.1.1.1.1.0
+    st.requires.0.joint st.requires.0.start_below f.ensures.1.0 c.check-count.ensures f.ensures.0 f.ensures.1.1
 
 pub fill-cells-spec : {M : Type 1} → statement M
 fill-cells-spec =

@@ -3,8 +3,8 @@
 use mathlib.Core.Path.{refl, ◌∙◌}
 use lib.ListN.{length}
 use borrow.Author.Rules.{rules}
-use Rattle.promises.specs.Calls.{count, countCells}
-use Rattle.filling.proofs.Rows.{early-answer, early-cells, count-is, count-cells-are}
+use Rattle.promises.specs.Calls.{count, count_cells}
+use Rattle.filling.proofs.Rows.{early_answer, early_cells, count_is, count_cells_are}
 use Rattle.generator.proofs.count.Statement.{statement}
 use Rattle.generator.proofs.count.Tie as tie
 use Rattle.generator.proofs.count.Reads as reads
@@ -27,13 +27,13 @@ count-cells-requires c κs =
     (o.ensures.ready c.before.enum_told.given.1).fits
 
 returns : tie.Need-returns
-unfolding count countCells
+unfolding count count_cells
 returns c =
     let st = c.before.before.before.before.before.before.before.args in
     let o = c.before.before.before.before.load in
     let k = c.before.checked.given in (
-      early-answer st.text.now st.h (length st.cells.now) o.result o.ensures st.cells.now refl k.0.0 k.0.1.0 k.1 _,
-      early-cells st.text.now st.h (length st.cells.now) o.result o.ensures st.cells.now refl k.0.0 k.0.1.0 k.1 _ _,
+      early_answer st.text.now st.h (length st.cells.now) o.result o.ensures st.cells.now refl k.0.0 k.0.1.0 k.1 _,
+      early_cells st.text.now st.h (length st.cells.now) o.result o.ensures st.cells.now refl k.0.0 k.0.1.0 k.1 _ _,
     )
 
 same_length : tie.Need-same-length
@@ -45,8 +45,8 @@ returns-2 c =
     let o = c.before.before.before.before.before.before.before.load in
     let e = c.before.before.before.before.enum_told.given.1 in
     let n = c.before.before.count-cells in (
-      n.ensures.0 ∙ count-is st.text.now st.h (length st.cells.now) o.result o.ensures st.cells.now refl e,
-      count-cells-are st.text.now st.h (length st.cells.now) o.result o.ensures st.cells.now refl e _ n.ensures.1,
+      n.ensures.0 ∙ count_is st.text.now st.h (length st.cells.now) o.result o.ensures st.cells.now refl e,
+      count_cells_are st.text.now st.h (length st.cells.now) o.result o.ensures st.cells.now refl e _ n.ensures.1,
     )
 
 pub count_spec : {M : Type 1} → statement M

@@ -1,7 +1,7 @@
 -- `count_cells` meets its contract: filling tells row 9 or 10, or N and the passes. Assumes nothing.
 use borrow.Author.Rules.{rules}
-use Rattle.rig.specs.Record.{recordAutomaton}
-use Rattle.filling.proofs.Rows.{told-refused, told-count}
+use Rattle.rig.specs.Record.{record_automaton}
+use Rattle.filling.proofs.Rows.{told_refused, told_count}
 use Rattle.generator.proofs.count_cells.Statement.{statement}
 use Rattle.generator.proofs.count_cells.Tie as tie
 use Rattle.generator.proofs.count_cells.Reads as reads
@@ -28,7 +28,7 @@ returns c =
     let st = c.before.before.before.before.before.before.before.before.before.before.args in
     let f = c.before.before.before.before.before.before.fill-cells in
     let k = c.before.checked.given in
-    (told-refused (recordAutomaton st.rig) st.states st.start st.h f.result _ _ _ f.ensures k.0.0 k.0.1.0 k.1 _, f.ensures.cells-filled)
+    (told_refused (record_automaton st.rig) st.states st.start st.h f.result _ _ _ f.ensures k.0.0 k.0.1.0 k.1 _, f.ensures.cells_filled)
 
 same-length-2 : tie.Need-same-length-2
 same-length-2 c = search rules
@@ -37,7 +37,7 @@ returns-2 : tie.Need-returns-2
 returns-2 c =
     let st = c.before.before.before.before.before.before.before.before.before.args in
     let f = c.before.before.before.before.before.fill-cells in
-    (told-count (recordAutomaton st.rig) st.states st.start st.h f.result _ _ _ f.ensures c.enum_told.given.1, f.ensures.cells-filled)
+    (told_count (record_automaton st.rig) st.states st.start st.h f.result _ _ _ f.ensures c.enum_told.given.1, f.ensures.cells_filled)
 
 pub count-cells-spec : {M : Type 1} → statement M
 count-cells-spec =

@@ -3,9 +3,9 @@
 use mathlib.Core.Path.{refl, ◌∙◌}
 use lib.ListN.{length}
 use borrow.Author.Rules.{rules}
-use Rattle.promises.specs.Calls.{index, indexCells}
-use Rattle.filling.proofs.Rows.{early-answer, early-cells}
-use Rattle.generator.proofs.Laws.{bad-index, bad-index-cells, index_is, index-cells-are}
+use Rattle.promises.specs.Calls.{index, index_cells}
+use Rattle.filling.proofs.Rows.{early_answer, early_cells}
+use Rattle.generator.proofs.Laws.{bad_index, bad_index_cells, index_is, index_cells_are}
 use Rattle.generator.proofs.index.Statement.{statement}
 use Rattle.generator.proofs.index.Tie as tie
 use Rattle.generator.proofs.index.Reads as reads
@@ -31,18 +31,18 @@ returns c =
     let o = c.before.before.before.before.before.load in
     let e = c.before.before.enum_told.given.1 in
     let g = c.before.first-not-event in
-    (bad-index st.text.now st.sequence.now (length st.cells.now) o.result o.ensures st.cells.now refl e g.result g.ensures c.if1.true, bad-index-cells st.text.now st.sequence.now (length st.cells.now) o.result o.ensures st.cells.now refl e g.result g.ensures c.if1.true)
+    (bad_index st.text.now st.sequence.now (length st.cells.now) o.result o.ensures st.cells.now refl e g.result g.ensures c.if1.true, bad_index_cells st.text.now st.sequence.now (length st.cells.now) o.result o.ensures st.cells.now refl e g.result g.ensures c.if1.true)
 
 index-cells-requires : tie.Need-index-cells-requires
 index-cells-requires c κs = (c.before.before.before.before.before.before.load.ensures.ready c.before.before.before.enum_told.given.1).fits
 
 returns-2 : tie.Need-returns-2
-unfolding index indexCells
+unfolding index index_cells
 returns-2 c =
     let st = c.before.before.before.before.before.before.before.before.args in
     let o = c.before.before.before.before.load in
     let k = c.before.checked.given in
-    (early-answer st.text.now (length st.sequence.now) (length st.cells.now) o.result o.ensures st.cells.now refl k.0.0 k.0.1.0 k.1 _, early-cells st.text.now (length st.sequence.now) (length st.cells.now) o.result o.ensures st.cells.now refl k.0.0 k.0.1.0 k.1 _ _)
+    (early_answer st.text.now (length st.sequence.now) (length st.cells.now) o.result o.ensures st.cells.now refl k.0.0 k.0.1.0 k.1 _, early_cells st.text.now (length st.sequence.now) (length st.cells.now) o.result o.ensures st.cells.now refl k.0.0 k.0.1.0 k.1 _ _)
 
 same_length : tie.Need-same-length
 same_length c = search rules
@@ -54,7 +54,7 @@ returns-3 c =
     let e = c.before.before.before.before.before.before.enum_told.given.1 in
     let g = c.before.before.before.before.before.first-not-event in
     let n = c.before.before.index-cells in
-    (n.ensures.0 ∙ index_is st.text.now st.sequence.now (length st.cells.now) o.result o.ensures st.cells.now refl e g.result g.ensures c.before.before.before.before.if1.false, index-cells-are st.text.now st.sequence.now (length st.cells.now) o.result o.ensures st.cells.now refl e g.result g.ensures c.before.before.before.before.if1.false _ n.ensures.1)
+    (n.ensures.0 ∙ index_is st.text.now st.sequence.now (length st.cells.now) o.result o.ensures st.cells.now refl e g.result g.ensures c.before.before.before.before.if1.false, index_cells_are st.text.now st.sequence.now (length st.cells.now) o.result o.ensures st.cells.now refl e g.result g.ensures c.before.before.before.before.if1.false _ n.ensures.1)
 
 pub index-spec : {M : Type 1} → statement M
 index-spec =

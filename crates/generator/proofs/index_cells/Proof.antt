@@ -3,11 +3,11 @@ use borrow.Author.Rules.{rules}
 use mathlib.Core.Path.{◌∙◌}
 use native.Mathlib.Omega.{arith}
 use lib.ListN.{length}
-use Rattle.rig.specs.Record.{recordAutomaton}
-use Rattle.joint.proofs.Digits.{states-few}
-use Rattle.ranking.proofs.Premises.{filled-exact}
-use Rattle.filling.proofs.Rows.{cell_room, told-refused, told-passed, told-few}
-use Rattle.generator.proofs.Laws.{ranked-index, ranked-violation}
+use Rattle.rig.specs.Record.{record_automaton}
+use Rattle.joint.proofs.Digits.{states_few}
+use Rattle.ranking.proofs.Premises.{filled_exact}
+use Rattle.filling.proofs.Rows.{cell_room, told_refused, told_passed, told_few}
+use Rattle.generator.proofs.Laws.{ranked_index, ranked_violation}
 use Rattle.generator.proofs.index_cells.Statement.{statement}
 use Rattle.generator.proofs.index_cells.Tie as tie
 use Rattle.generator.proofs.index_cells.Reads as reads
@@ -32,9 +32,9 @@ rank-requires c κs =
     let st = c.before.before.before.before.before.before.before.before.before.before.before.before in
     let f = c.before.before.before.before.before.before.before.fill-cells in
     let z = st.requires in (
-      omega (arith, states-few st.args.rig z.well-formed, z.joint),
-      omega (arith, z.start-below),
-      omega (arith, f.auto.1.1.1.0, cell_room (length st.args.sequence.now) st.args.states st.args.start (length st.args.cells.now) z.start-below z.enough),
+      omega (arith, states_few st.args.rig z.well_formed, z.joint),
+      omega (arith, z.start_below),
+      omega (arith, f.auto.1.1.1.0, cell_room (length st.args.sequence.now) st.args.states st.args.start (length st.args.cells.now) z.start_below z.enough),
     )
 
 enum-known-ranked : tie.Need-enum-known-ranked
@@ -51,7 +51,7 @@ returns c =
     let st = c.before.before.before.before.before.before.before.before.before.before.before.args in
     let f = c.before.before.before.before.before.before.fill-cells in
     let k = c.before.checked.given in
-    (told-refused (recordAutomaton st.rig) st.states st.start (length st.sequence.now) f.result _ _ _ f.ensures k.0.0 k.0.1.0 k.1 _, f.ensures.cells-filled)
+    (told_refused (record_automaton st.rig) st.states st.start (length st.sequence.now) f.result _ _ _ f.ensures k.0.0 k.0.1.0 k.1 _, f.ensures.cells_filled)
 
 same-length-2 : tie.Need-same-length-2
 same-length-2 c = search rules
@@ -64,9 +64,9 @@ returns-2 c =
     let r = c.before.before.before.rank in
     let e = c.before.before.before.before.before.before.enum_told.given.1 in
     let k = c.before.ranked.given in
-    let A = recordAutomaton st.rig in
-    let exact = filled-exact A st.states h st.start _ _ st.cells.now f.ensures.tabled f.ensures.cells-filled (told-few A st.states st.start h f.result _ _ _ f.ensures e) in
-    (ranked-index A st.start st.sequence.now r.result (r.ensures A exact) k.0.0 k.1 ∙ told-passed A st.states st.start h f.result _ _ _ f.ensures e _, f.ensures.cells-filled)
+    let A = record_automaton st.rig in
+    let exact = filled_exact A st.states h st.start _ _ st.cells.now f.ensures.tabled f.ensures.cells_filled (told_few A st.states st.start h f.result _ _ _ f.ensures e) in
+    (ranked_index A st.start st.sequence.now r.result (r.ensures A exact) k.0.0 k.1 ∙ told_passed A st.states st.start h f.result _ _ _ f.ensures e _, f.ensures.cells_filled)
 
 same-length-3 : tie.Need-same-length-3
 same-length-3 c = search rules
@@ -79,9 +79,9 @@ returns-3 c =
     let r = c.before.before.before.rank in
     let e = c.before.before.before.before.before.before.enum_told.given.1 in
     let k = c.before.ranked2.given in
-    let A = recordAutomaton st.rig in
-    let exact = filled-exact A st.states h st.start _ _ st.cells.now f.ensures.tabled f.ensures.cells-filled (told-few A st.states st.start h f.result _ _ _ f.ensures e) in
-    (ranked-violation A st.start st.sequence.now r.result (r.ensures A exact) k.0.0 k.1 ∙ told-passed A st.states st.start h f.result _ _ _ f.ensures e _, f.ensures.cells-filled)
+    let A = record_automaton st.rig in
+    let exact = filled_exact A st.states h st.start _ _ st.cells.now f.ensures.tabled f.ensures.cells_filled (told_few A st.states st.start h f.result _ _ _ f.ensures e) in
+    (ranked_violation A st.start st.sequence.now r.result (r.ensures A exact) k.0.0 k.1 ∙ told_passed A st.states st.start h f.result _ _ _ f.ensures e _, f.ensures.cells_filled)
 
 pub index-cells-spec : {M : Type 1} → statement M
 index-cells-spec =

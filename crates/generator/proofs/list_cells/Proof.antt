@@ -3,12 +3,12 @@ use borrow.Author.Rules.{rules}
 use mathlib.Core.Path.{refl, ◌∙◌}
 use native.Mathlib.Omega.{arith}
 use lib.ListN.{length}
-use Rattle.promises.specs.Calls.{outputAfter}
-use Rattle.rig.specs.Record.{recordAutomaton}
-use Rattle.joint.proofs.Digits.{states-few}
-use Rattle.ranking.proofs.Premises.{filled-exact}
-use Rattle.filling.proofs.Rows.{cell_room, told-refused, told-passed, told-exact, told-few}
-use Rattle.generator.proofs.Laws.{listed-bad, listed-good}
+use Rattle.promises.specs.Calls.{output_after}
+use Rattle.rig.specs.Record.{record_automaton}
+use Rattle.joint.proofs.Digits.{states_few}
+use Rattle.ranking.proofs.Premises.{filled_exact}
+use Rattle.filling.proofs.Rows.{cell_room, told_refused, told_passed, told_exact, told_few}
+use Rattle.generator.proofs.Laws.{listed_bad, listed_good}
 use Rattle.generator.proofs.list_cells.Statement.{statement}
 use Rattle.generator.proofs.list_cells.Tie as tie
 use Rattle.generator.proofs.list_cells.Reads as reads
@@ -33,9 +33,9 @@ unrank-list-requires c κs =
     let st = c.before.before.before.before.before.before.before.before.before.before.before.before.before.before in
     let f = c.before.before.before.before.before.before.before.before.fill-cells in
     let z = st.requires.0 in (
-      omega (arith, states-few st.args.rig z.well-formed, z.joint),
-      omega (arith, z.start-below),
-      omega (arith, f.auto.1.1.1.0, cell_room st.args.h st.args.states st.args.start (length st.args.cells.now) z.start-below z.enough),
+      omega (arith, states_few st.args.rig z.well_formed, z.joint),
+      omega (arith, z.start_below),
+      omega (arith, f.auto.1.1.1.0, cell_room st.args.h st.args.states st.args.start (length st.args.cells.now) z.start_below z.enough),
       st.requires.1,
     )
 
@@ -51,23 +51,23 @@ returns c =
     let f = c.before.before.before.before.before.before.before.before.before.before.before.before.fill-cells in
     let u = c.before.before.before.unrank-list in
     let e = c.before.before.before.before.before.before.before.enum_told.given.1 in
-    let A = recordAutomaton st.rig in
-    let x = told-exact A st.states st.start st.h f.result _ _ _ f.ensures e in
-    let exact = filled-exact A st.states st.h st.start _ _ st.cells.now f.ensures.tabled f.ensures.cells-filled (told-few A st.states st.start st.h f.result _ _ _ f.ensures e) in
+    let A = record_automaton st.rig in
+    let x = told_exact A st.states st.start st.h f.result _ _ _ f.ensures e in
+    let exact = filled_exact A st.states st.h st.start _ _ st.cells.now f.ensures.tabled f.ensures.cells_filled (told_few A st.states st.start st.h f.result _ _ _ f.ensures e) in
     let w = u.ensures.1 A exact x in
-    let a = listed-bad A st.h st.start f.result.count u.result st.list.now st.out.now u.new.1.1.1.1.1.1.1.0 x u.ensures.0 w c.if1.true in
-    (a.0 ∙ told-passed A st.states st.start st.h f.result _ _ _ f.ensures e _, (f.ensures.cells-filled, a.1))
+    let a = listed_bad A st.h st.start f.result.count u.result st.list.now st.out.now u.new.1.1.1.1.1.1.1.0 x u.ensures.0 w c.if1.true in
+    (a.0 ∙ told_passed A st.states st.start st.h f.result _ _ _ f.ensures e _, (f.ensures.cells_filled, a.1))
 
 same-length-3 : tie.Need-same-length-3
 same-length-3 c = search rules
 
 returns-2 : tie.Need-returns-2
-unfolding outputAfter
+unfolding output_after
 returns-2 c =
     let st = c.before.before.before.before.before.before.before.before.before.before.before.before.args in
     let f = c.before.before.before.before.before.before.fill-cells in
     let k = c.before.checked.given in
-    (told-refused (recordAutomaton st.rig) st.states st.start st.h f.result _ _ _ f.ensures k.0.0 k.0.1.0 k.1 _, (f.ensures.cells-filled, refl))
+    (told_refused (record_automaton st.rig) st.states st.start st.h f.result _ _ _ f.ensures k.0.0 k.0.1.0 k.1 _, (f.ensures.cells_filled, refl))
 
 same-length-4 : tie.Need-same-length-4
 same-length-4 c = search rules
@@ -81,12 +81,12 @@ returns-3 c =
     let f = c.before.before.before.before.before.before.before.before.before.before.before.before.fill-cells in
     let u = c.before.before.before.unrank-list in
     let e = c.before.before.before.before.before.before.before.enum_told.given.1 in
-    let A = recordAutomaton st.rig in
-    let x = told-exact A st.states st.start st.h f.result _ _ _ f.ensures e in
-    let exact = filled-exact A st.states st.h st.start _ _ st.cells.now f.ensures.tabled f.ensures.cells-filled (told-few A st.states st.start st.h f.result _ _ _ f.ensures e) in
+    let A = record_automaton st.rig in
+    let x = told_exact A st.states st.start st.h f.result _ _ _ f.ensures e in
+    let exact = filled_exact A st.states st.h st.start _ _ st.cells.now f.ensures.tabled f.ensures.cells_filled (told_few A st.states st.start st.h f.result _ _ _ f.ensures e) in
     let w = u.ensures.1 A exact x in
-    let a = listed-good A st.h st.start f.result.count u.result st.list.now st.out.now u.new.1.1.1.1.1.1.1.0 x u.ensures.0 w c.if1.false in
-    (a.0 ∙ told-passed A st.states st.start st.h f.result _ _ _ f.ensures e _, (f.ensures.cells-filled, a.1))
+    let a = listed_good A st.h st.start f.result.count u.result st.list.now st.out.now u.new.1.1.1.1.1.1.1.0 x u.ensures.0 w c.if1.false in
+    (a.0 ∙ told_passed A st.states st.start st.h f.result _ _ _ f.ensures e _, (f.ensures.cells_filled, a.1))
 
 pub list-cells-spec : {M : Type 1} → statement M
 list-cells-spec =

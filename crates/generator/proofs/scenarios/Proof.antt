@@ -4,9 +4,9 @@ use mathlib.Core.Path.{refl, ◌∙◌}
 use Prim.Native.Nat.{◌*◌}
 use lib.ListN.{length}
 use borrow.Author.Rules.{rules}
-use Rattle.promises.specs.Calls.{scenarios, scenariosCells, written}
-use Rattle.filling.proofs.Rows.{early-answer, early-cells, early-output}
-use Rattle.generator.proofs.Laws.{fits-true, fits-false, short-output, short-cells, short-written, scenarios-are, scenarios-cells-are, written-are}
+use Rattle.promises.specs.Calls.{scenarios, scenarios_cells, written}
+use Rattle.filling.proofs.Rows.{early_answer, early_cells, early_output}
+use Rattle.generator.proofs.Laws.{fits_true, fits_false, short_output, short_cells, short_written, scenarios_are, scenarios_cells_are, written_are}
 use Rattle.generator.proofs.scenarios.Statement.{statement}
 use Rattle.generator.proofs.scenarios.Tie as tie
 use Rattle.generator.proofs.scenarios.Reads as reads
@@ -32,7 +32,7 @@ list-cells-requires c κs =
     let st = c.before.before.before.before.before.before.before.before.before.before.before.before.args in
     let o = c.before.before.before.before.before.before.before.load in
     let g = c.before.before.before.fits2 in
-    ((o.ensures.ready c.before.before.before.before.enum_told.given.1).fits, fits-true g.result (length st.out.now) (length st.list.now * st.h) g.ensures c.before.before.if1.true)
+    ((o.ensures.ready c.before.before.before.before.enum_told.given.1).fits, fits_true g.result (length st.out.now) (length st.list.now * st.h) g.ensures c.before.before.if1.true)
 
 same_length : tie.Need-same-length
 same_length c = search rules
@@ -47,17 +47,17 @@ returns c =
     let e = c.before.before.before.before.before.before.before.before.before.enum_told.given.1 in
     let g = c.before.before.before.before.before.before.before.before.fits2 in
     let n = c.before.before.before.before.list-cells in
-    let fit = fits-true g.result (length st.out.now) (length st.list.now * st.h) g.ensures c.before.before.before.before.before.before.before.if1.true in
-    let a = n.ensures.0 ∙ scenarios-are st.text.now st.h (length st.cells.now) o.result o.ensures st.cells.now refl e st.list.now st.out.now fit in
-    (a, (scenarios-cells-are st.text.now st.h (length st.cells.now) o.result o.ensures st.cells.now refl e st.list.now st.out.now fit _ n.ensures.1.0, written-are st.text.now st.h (length st.cells.now) o.result o.ensures st.cells.now refl e st.list.now st.out.now fit _ _ a n.ensures.1.1))
+    let fit = fits_true g.result (length st.out.now) (length st.list.now * st.h) g.ensures c.before.before.before.before.before.before.before.if1.true in
+    let a = n.ensures.0 ∙ scenarios_are st.text.now st.h (length st.cells.now) o.result o.ensures st.cells.now refl e st.list.now st.out.now fit in
+    (a, (scenarios_cells_are st.text.now st.h (length st.cells.now) o.result o.ensures st.cells.now refl e st.list.now st.out.now fit _ n.ensures.1.0, written_are st.text.now st.h (length st.cells.now) o.result o.ensures st.cells.now refl e st.list.now st.out.now fit _ _ a n.ensures.1.1))
 
 returns-2 : tie.Need-returns-2
-unfolding scenarios scenariosCells written
+unfolding scenarios scenarios_cells written
 returns-2 c =
     let st = c.before.before.before.before.before.before.before.before.before.args in
     let o = c.before.before.before.before.load in
     let k = c.before.checked.given in
-    (early-answer st.text.now st.h (length st.cells.now) o.result o.ensures st.cells.now refl k.0.0 k.0.1.0 k.1 _, (early-cells st.text.now st.h (length st.cells.now) o.result o.ensures st.cells.now refl k.0.0 k.0.1.0 k.1 _ _, early-output st.text.now st.h (length st.cells.now) o.result o.ensures st.cells.now refl k.0.0 k.0.1.0 k.1 _ _ st.out.now))
+    (early_answer st.text.now st.h (length st.cells.now) o.result o.ensures st.cells.now refl k.0.0 k.0.1.0 k.1 _, (early_cells st.text.now st.h (length st.cells.now) o.result o.ensures st.cells.now refl k.0.0 k.0.1.0 k.1 _ _, early_output st.text.now st.h (length st.cells.now) o.result o.ensures st.cells.now refl k.0.0 k.0.1.0 k.1 _ _ st.out.now))
 
 returns-3 : tie.Need-returns-3
 returns-3 c =
@@ -65,8 +65,8 @@ returns-3 c =
     let o = c.before.before.before.before.before.load in
     let e = c.before.before.enum_told.given.1 in
     let g = c.before.fits2 in
-    let short = fits-false g.result (length st.out.now) (length st.list.now * st.h) g.ensures c.if1.false in
-    (short-output st.text.now st.h (length st.cells.now) o.result o.ensures st.cells.now refl e st.list.now st.out.now short, (short-cells st.text.now st.h (length st.cells.now) o.result o.ensures st.cells.now refl e st.list.now st.out.now short, short-written st.text.now st.h (length st.cells.now) o.result o.ensures st.cells.now refl e st.list.now st.out.now short))
+    let short = fits_false g.result (length st.out.now) (length st.list.now * st.h) g.ensures c.if1.false in
+    (short_output st.text.now st.h (length st.cells.now) o.result o.ensures st.cells.now refl e st.list.now st.out.now short, (short_cells st.text.now st.h (length st.cells.now) o.result o.ensures st.cells.now refl e st.list.now st.out.now short, short_written st.text.now st.h (length st.cells.now) o.result o.ensures st.cells.now refl e st.list.now st.out.now short))
 
 pub scenarios-spec : {M : Type 1} → statement M
 scenarios-spec =

@@ -4,8 +4,8 @@ use native.Mathlib.Omega.{arith}
 use lib.IntN.{◌-ℤ◌}
 use mir.Syntax.{w64}
 use mir.ValLaws.{to_z-of_z}
-use Rattle.lists.proofs.Integers.{less-nonNeg}
-use Rattle.promises.specs.Text.{bal, statesOf}
+use Rattle.lists.proofs.Integers.{less_non_neg}
+use Rattle.promises.specs.Text.{bal, states_of}
 use Rattle.kinds.proofs.Bands.{few, bounds, width_fits}
 use Rattle.kinds.proofs.band_states.Statement.{statement}
 use Rattle.kinds.proofs.band_states.Tie as tie
@@ -17,21 +17,21 @@ sub-result c =
     rw (to_z-of_z w64 c.args.hi c.ranges.hi, to_z-of_z w64 c.args.lo c.ranges.lo) f
 
 cast-result : tie.Need-overflow-cast-result
-unfolding statesOf
+unfolding states_of
 cast-result c =
     let b = bounds c.args.lo c.args.hi c.requires in
     let f = width_fits c.args.lo c.args.hi b in
-    rw (to_z-of_z w64 c.args.hi c.ranges.hi, to_z-of_z w64 c.args.lo c.ranges.lo, to_z-of_z w64 (c.args.hi -ℤ c.args.lo) f) (less-nonNeg c.args.lo c.args.hi b.not-over, record { fits = omega (arith, few (bal c.args.lo c.args.hi) c.requires) })
+    rw (to_z-of_z w64 c.args.hi c.ranges.hi, to_z-of_z w64 c.args.lo c.ranges.lo, to_z-of_z w64 (c.args.hi -ℤ c.args.lo) f) (less_non_neg c.args.lo c.args.hi b.not_over, record { fits = omega (arith, few (bal c.args.lo c.args.hi) c.requires) })
 
 add-result : tie.Need-overflow-add-result
-unfolding statesOf
+unfolding states_of
 add-result c =
     let b = bounds c.args.lo c.args.hi c.requires in
     let f = width_fits c.args.lo c.args.hi b in
     rw (to_z-of_z w64 c.args.hi c.ranges.hi, to_z-of_z w64 c.args.lo c.ranges.lo, to_z-of_z w64 (c.args.hi -ℤ c.args.lo) f) (record { fits = omega (arith, few (bal c.args.lo c.args.hi) c.requires) })
 
 returns : tie.Need-returns
-unfolding statesOf
+unfolding states_of
 returns c =
     let b = bounds c.args.lo c.args.hi c.requires in
     let f = width_fits c.args.lo c.args.hi b in

@@ -5,17 +5,17 @@ use mathlib.Core.List.{List}
 use Prim.Native.Nat.{ℕ, ◌-◌, ◌≤◌, ◌<◌}
 use native.Mathlib.Omega.{arith}
 use lib.ListN.{length, set, length-set}
-use Rattle.rig.specs.Record.{moveIndex, moveAt}
+use Rattle.rig.specs.Record.{move_index, move_at}
 use Rattle.lists.specs.Lists.{overwrite}
-use Rattle.lists.proofs.Tables.{overwrite-more}
-use Rattle.kinds.specs.Kinds.{withColumn, hourOf}
-use Rattle.kinds.proofs.Tables.{column-beside}
+use Rattle.lists.proofs.Tables.{overwrite_more}
+use Rattle.kinds.specs.Kinds.{with_column, hour_of}
+use Rattle.kinds.proofs.Tables.{column_beside}
 use borrow.Author.Rules.{rules}
 use Rattle.kinds.proofs.fill_hours.Statement.{statement}
 use Rattle.kinds.proofs.fill_hours.Tie as tie
 
 abbrev invariant-loop : tie.invariant-loop
-invariant-loop moves₀ m t e a b first s₀ moves s = (s ≤ t) × (length moves ≡ length moves₀) × (moves ≡ withColumn moves₀ m e (λ s. hourOf t a b first s (moveAt moves₀ m s e)) s)
+invariant-loop moves₀ m t e a b first s₀ moves s = (s ≤ t) × (length moves ≡ length moves₀) × (moves ≡ with_column moves₀ m e (λ s. hour_of t a b first s (move_at moves₀ m s e)) s)
 
 abbrev decreases-loop : tie.decreases-loop
 decreases-loop moves₀ m t e a b first s₀ moves s = t - s
@@ -56,16 +56,16 @@ loop-again c =
     let st = c.before.before.before.before.before in
     let lp = c.before.before.before.loop in
     let x = st.args in
-    let f : ℕ → ℕ = λ s. hourOf x.t x.a x.b x.first s (moveAt x.moves.now x.m s x.e) in
+    let f : ℕ → ℕ = λ s. hour_of x.t x.a x.b x.first s (move_at x.moves.now x.m s x.e) in
     let l : lp.s < 32 = omega (arith, st.requires.3) in
-    let old : moveAt lp.moves x.m lp.s x.e ≡ moveAt x.moves.now x.m lp.s x.e =
-    ap (λ (v : List ℕ). moveAt v x.m lp.s x.e) lp.invariant.2
-    ∙ column-beside x.moves.now x.m x.e f lp.s x.m lp.s x.e (omega arith) st.requires.2 l st.requires.2 (λ p q r. omega arith)
+    let old : move_at lp.moves x.m lp.s x.e ≡ move_at x.moves.now x.m lp.s x.e =
+    ap (λ (v : List ℕ). move_at v x.m lp.s x.e) lp.invariant.2
+    ∙ column_beside x.moves.now x.m x.e f lp.s x.m lp.s x.e (omega arith) st.requires.2 l st.requires.2 (λ p q r. omega arith)
     in (
       omega arith,
       simp length-set lp.invariant.1,
-      ap (λ (v : List ℕ). set v (moveIndex x.m lp.s x.e) c.hour.result) lp.invariant.2
-          ∙ overwrite-more x.moves.now (λ s. moveIndex x.m s x.e) f lp.s c.hour.result (c.hour.ensures ∙ ap (hourOf x.t x.a x.b x.first lp.s) old),
+      ap (λ (v : List ℕ). set v (move_index x.m lp.s x.e) c.hour.result) lp.invariant.2
+          ∙ overwrite_more x.moves.now (λ s. move_index x.m s x.e) f lp.s c.hour.result (c.hour.ensures ∙ ap (hour_of x.t x.a x.b x.first lp.s) old),
     )
 
 same_length : tie.Need-same-length invariant-loop decreases-loop
@@ -76,7 +76,7 @@ returns c =
     let x = c.before.before.before.args in
     let lp = c.before.loop in
     let e : lp.s ≡ x.t = omega arith in
-    lp.invariant.2 ∙ ap (withColumn x.moves.now x.m x.e (λ s. hourOf x.t x.a x.b x.first s (moveAt x.moves.now x.m s x.e))) e
+    lp.invariant.2 ∙ ap (with_column x.moves.now x.m x.e (λ s. hour_of x.t x.a x.b x.first s (move_at x.moves.now x.m s x.e))) e
 
 pub fill-hours-spec : {M : Type 1} → statement M
 fill-hours-spec =

@@ -6,11 +6,11 @@ use Prim.Native.Nat.{ℕ, ◌-◌, ◌≤◌, ◌<◌}
 use native.Mathlib.Omega.{arith}
 use lib.ListN.{length, set, length-set}
 use Rattle.lists.specs.Lists.{pick, overwrite}
-use Rattle.lists.proofs.Tables.{overwrite-more}
-use Rattle.promises.specs.Text.{statesOf}
-use Rattle.promises.specs.Rig.{markedOf}
-use Rattle.rig.specs.Record.{stopIndex}
-use Rattle.kinds.specs.Kinds.{asKind}
+use Rattle.lists.proofs.Tables.{overwrite_more}
+use Rattle.promises.specs.Text.{states_of}
+use Rattle.promises.specs.Rig.{marked_of}
+use Rattle.rig.specs.Record.{stop_index}
+use Rattle.kinds.specs.Kinds.{as_kind}
 use Rattle.kinds.proofs.Bands.{few}
 use borrow.Author.Rules.{rules}
 use Rattle.kinds.proofs.fill_marks.Statement.{statement}
@@ -18,7 +18,7 @@ use Rattle.kinds.proofs.fill_marks.Tie as tie
 
 abbrev invariant-loop : tie.invariant-loop
 invariant-loop stops₀ m k s₀ s-end stops s =
-    (s ≤ s-end) × (length stops ≡ length stops₀) × (stops ≡ overwrite stops₀ (stopIndex m) (λ s. pick (markedOf (asKind k) [] s) 1 0) s)
+    (s ≤ s-end) × (length stops ≡ length stops₀) × (stops ≡ overwrite stops₀ (stop_index m) (λ s. pick (marked_of (as_kind k) [] s) 1 0) s)
 
 abbrev decreases-loop : tie.decreases-loop
 decreases-loop stops₀ m k s₀ s-end stops s = s-end - s
@@ -34,13 +34,13 @@ mark-requires : tie.Need-mark-requires invariant-loop decreases-loop
 mark-requires c κs = search rules
 
 mul-stops : tie.Need-overflow-mul-stops invariant-loop decreases-loop
-mul-stops c = let l : c.before.before.loop.s < 32 = omega (arith, few (asKind c.before.before.before.before.before.args.k) c.before.before.before.before.before.requires.1, c.before.before.before.states.ensures) in search rules
+mul-stops c = let l : c.before.before.loop.s < 32 = omega (arith, few (as_kind c.before.before.before.before.before.args.k) c.before.before.before.before.before.requires.1, c.before.before.before.states.ensures) in search rules
 
 add-stops : tie.Need-overflow-add-stops invariant-loop decreases-loop
-add-stops c = let l : c.before.before.loop.s < 32 = omega (arith, few (asKind c.before.before.before.before.before.args.k) c.before.before.before.before.before.requires.1, c.before.before.before.states.ensures) in search rules
+add-stops c = let l : c.before.before.loop.s < 32 = omega (arith, few (as_kind c.before.before.before.before.before.args.k) c.before.before.before.before.before.requires.1, c.before.before.before.states.ensures) in search rules
 
 slice-write-stops : tie.Need-slice-write-stops invariant-loop decreases-loop
-slice-write-stops c = let l : c.before.before.loop.s < 32 = omega (arith, few (asKind c.before.before.before.before.before.args.k) c.before.before.before.before.before.requires.1, c.before.before.before.states.ensures) in search rules
+slice-write-stops c = let l : c.before.before.loop.s < 32 = omega (arith, few (as_kind c.before.before.before.before.before.args.k) c.before.before.before.before.before.requires.1, c.before.before.before.states.ensures) in search rules
 
 add-s : tie.Need-overflow-add-s invariant-loop decreases-loop
 add-s c = search rules
@@ -54,7 +54,7 @@ loop-again c =
     let lp = c.before.before.loop in (
       omega arith,
       simp length-set lp.invariant.1,
-      ap (λ (l : List ℕ). set l (stopIndex st.m lp.s) c.mark.result) lp.invariant.2 ∙ overwrite-more st.stops.now (stopIndex st.m) (λ s. pick (markedOf (asKind st.k) [] s) 1 0) lp.s c.mark.result c.mark.ensures,
+      ap (λ (l : List ℕ). set l (stop_index st.m lp.s) c.mark.result) lp.invariant.2 ∙ overwrite_more st.stops.now (stop_index st.m) (λ s. pick (marked_of (as_kind st.k) [] s) 1 0) lp.s c.mark.result c.mark.ensures,
     )
 
 same_length : tie.Need-same-length invariant-loop decreases-loop
@@ -64,8 +64,8 @@ returns : tie.Need-returns invariant-loop decreases-loop
 returns c =
     let st = c.before.before.before.before.args in
     let lp = c.before.loop in
-    let e : lp.s ≡ statesOf (asKind st.k) = omega (arith, c.before.before.states.ensures) in
-    lp.invariant.2 ∙ ap (overwrite st.stops.now (stopIndex st.m) (λ s. pick (markedOf (asKind st.k) [] s) 1 0)) e
+    let e : lp.s ≡ states_of (as_kind st.k) = omega (arith, c.before.before.states.ensures) in
+    lp.invariant.2 ∙ ap (overwrite st.stops.now (stop_index st.m) (λ s. pick (marked_of (as_kind st.k) [] s) 1 0)) e
 
 pub fill-marks-spec : {M : Type 1} → statement M
 fill-marks-spec =

@@ -6,9 +6,9 @@ use Prim.Native.Nat.{ℕ, ◌-◌, ◌≤◌}
 use native.Mathlib.Omega.{arith}
 use lib.ListN.{length}
 use Rattle.lists.specs.Lists.{overwrite}
-use Rattle.promises.specs.Text.{statesOf}
-use Rattle.rig.specs.Record.{moveIndex}
-use Rattle.kinds.specs.Kinds.{asKind, entry_of, withRows}
+use Rattle.promises.specs.Text.{states_of}
+use Rattle.rig.specs.Record.{move_index}
+use Rattle.kinds.specs.Kinds.{as_kind, entry_of, with_rows}
 use Rattle.kinds.proofs.Tables.{rows_more}
 use Rattle.kinds.proofs.Bands.{few}
 use borrow.Author.Rules.{rules}
@@ -16,7 +16,7 @@ use Rattle.kinds.proofs.fill_moves.Statement.{statement}
 use Rattle.kinds.proofs.fill_moves.Tie as tie
 
 abbrev invariant-loop : tie.invariant-loop
-invariant-loop moves₀ m k n s₀ moves s = (s ≤ n) × (n ≤ 32) × (length moves ≡ length moves₀) × (moves ≡ withRows moves₀ m (asKind k) s)
+invariant-loop moves₀ m k n s₀ moves s = (s ≤ n) × (n ≤ 32) × (length moves ≡ length moves₀) × (moves ≡ with_rows moves₀ m (as_kind k) s)
 
 abbrev decreases-loop : tie.decreases-loop
 decreases-loop moves₀ m k n s₀ moves s = n - s
@@ -25,10 +25,10 @@ states-requires : tie.Need-states-requires invariant-loop decreases-loop
 states-requires c κs = search rules
 
 loop-holds : tie.Need-loop-init invariant-loop decreases-loop
-unfolding withRows
+unfolding with_rows
 loop-holds c =
     let st = c.before.before in
-    (omega arith, omega (arith, few (asKind st.args.k) st.requires.1, c.states.ensures), refl, refl)
+    (omega arith, omega (arith, few (as_kind st.args.k) st.requires.1, c.states.ensures), refl, refl)
 
 mul_at : tie.Need-overflow-mul-at invariant-loop decreases-loop
 mul_at c = search rules
@@ -63,8 +63,8 @@ loop-again c =
       lp.invariant.1,
       fr.auto.0 ∙ lp.invariant.2,
       fr.ensures
-          ∙ ap₂ (λ (l : List ℕ) (f : ℕ → ℕ). overwrite l (moveIndex st.args.m lp.s) f 16) lp.invariant.3 (fun_ext (λ u. ap₂ entry_of n (c.before.before.before.row_in.ensures u)))
-          ∙ rows_more st.args.moves.now st.args.m (asKind st.args.k) lp.s,
+          ∙ ap₂ (λ (l : List ℕ) (f : ℕ → ℕ). overwrite l (move_index st.args.m lp.s) f 16) lp.invariant.3 (fun_ext (λ u. ap₂ entry_of n (c.before.before.before.row_in.ensures u)))
+          ∙ rows_more st.args.moves.now st.args.m (as_kind st.args.k) lp.s,
     )
 
 same_length : tie.Need-same-length invariant-loop decreases-loop
@@ -74,8 +74,8 @@ returns : tie.Need-returns invariant-loop decreases-loop
 returns c =
     let st = c.before.before.before.before in
     let lp = c.before.loop in
-    let e : lp.s ≡ statesOf (asKind st.args.k) = omega (arith, c.before.before.states.ensures) in
-    lp.invariant.3 ∙ ap (withRows st.args.moves.now st.args.m (asKind st.args.k)) e
+    let e : lp.s ≡ states_of (as_kind st.args.k) = omega (arith, c.before.before.states.ensures) in
+    lp.invariant.3 ∙ ap (with_rows st.args.moves.now st.args.m (as_kind st.args.k)) e
 
 pub fill-moves-spec : {M : Type 1} → statement M
 fill-moves-spec =

@@ -7,9 +7,9 @@ use native.Mathlib.Omega.{arith}
 use lib.ListN.{length, set, length-set}
 use lib.Dec.{eqb}
 use Rattle.lists.specs.Lists.{pick, overwrite}
-use Rattle.lists.proofs.Tables.{overwrite-more, overwrite-cong}
+use Rattle.lists.proofs.Tables.{overwrite_more, overwrite_cong}
 use Rattle.kinds.specs.Kinds.{row_at, entry_of}
-use Rattle.kinds.proofs.Tables.{put-entry, entry_row}
+use Rattle.kinds.proofs.Tables.{put_entry, entry_row}
 use borrow.Author.Rules.{rules}
 use Rattle.kinds.proofs.fill_row.Statement.{statement}
 use Rattle.kinds.proofs.fill_row.Tie as tie
@@ -46,7 +46,7 @@ loop-again c =
     let z = c.before.before.entry.result in (
       omega arith,
       simp length-set lp.invariant.1,
-      ap (λ (l : List ℕ). set l (g.at + lp.u) z) lp.invariant.2 ∙ overwrite-more g.moves.now (λ u. g.at + u) (λ u. z) lp.u z refl,
+      ap (λ (l : List ℕ). set l (g.at + lp.u) z) lp.invariant.2 ∙ overwrite_more g.moves.now (λ u. g.at + u) (λ u. z) lp.u z refl,
     )
 
 entry-requires-2 : tie.Need-entry-requires-2 invariant-loop decreases-loop
@@ -73,10 +73,10 @@ returns c =
     let x = c.before.before.before.entry3 in
     let e : lp.u ≡ 16 = omega (arith, c.before.before.before.before.before.before.before.before.before.before.loop-test.false) in
     let others = lp.invariant.2 ∙ ap (overwrite g.moves.now (λ u. g.at + u) (λ u. z.result)) e in
-    let with-b = c.before.before.before.before.before.before.before.put-move.ensures ∙ put-entry g.moves.now g.at (λ u. z.result) g.r.b y.result lp.moves others in
+    let with-b = c.before.before.before.before.before.before.before.put-move.ensures ∙ put_entry g.moves.now g.at (λ u. z.result) g.r.b y.result lp.moves others in
     c.before.before.put-move2.ensures
-    ∙ put-entry g.moves.now g.at (λ u. pick (eqb u g.r.b) y.result z.result) g.r.a x.result _ with-b
-    ∙ overwrite-cong g.moves.now (λ u. g.at + u) _ (λ u. entry_of g.n (row_at g.r u)) 16 (λ u h. rw (x.ensures, y.ensures, z.ensures) (entry_row g.n g.r u))
+    ∙ put_entry g.moves.now g.at (λ u. pick (eqb u g.r.b) y.result z.result) g.r.a x.result _ with-b
+    ∙ overwrite_cong g.moves.now (λ u. g.at + u) _ (λ u. entry_of g.n (row_at g.r u)) 16 (λ u h. rw (x.ensures, y.ensures, z.ensures) (entry_row g.n g.r u))
 
 pub fill-row-spec : {M : Type 1} → statement M
 fill-row-spec =

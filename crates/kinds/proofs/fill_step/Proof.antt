@@ -10,22 +10,22 @@ use mir.Syntax.{w64}
 use mir.Val.{to_z, of_z}
 use mir.ValLaws.{to_z-of_z}
 use Rattle.lists.specs.Lists.{overwrite}
-use Rattle.lists.proofs.Tables.{overwrite-more}
-use Rattle.promises.specs.Text.{bal, amp, statesOf}
+use Rattle.lists.proofs.Tables.{overwrite_more}
+use Rattle.promises.specs.Text.{bal, amp, states_of}
 use Rattle.promises.specs.Rig.{next_of}
-use Rattle.rig.specs.Record.{moveIndex}
-use Rattle.kinds.specs.Kinds.{entry_of, withColumn}
-use Rattle.kinds.proofs.Tables.{own-step}
+use Rattle.rig.specs.Record.{move_index}
+use Rattle.kinds.specs.Kinds.{entry_of, with_column}
+use Rattle.kinds.proofs.Tables.{own_step}
 use Rattle.kinds.proofs.Bands.{few}
 use borrow.Author.Rules.{rules}
 use Rattle.kinds.proofs.fill_step.Statement.{statement}
 use Rattle.kinds.proofs.fill_step.Tie as tie
 
 abbrev entryBy : ℤ → ℤ → ℕ → ℤ → ℕ → ℕ
-entryBy lo hi e d j = entry_of (statesOf (bal lo hi)) (next_of (bal lo hi) (amp e d ∷ []) j e)
+entryBy lo hi e d j = entry_of (states_of (bal lo hi)) (next_of (bal lo hi) (amp e d ∷ []) j e)
 
 abbrev invariant-loop : tie.invariant-loop
-invariant-loop moves₀ m lo hi e d n j₀ moves j = (j ≤ n) × (n ≤ 32) × (length moves ≡ length moves₀) × (moves ≡ withColumn moves₀ m e (entryBy (to_z w64 lo) (to_z w64 hi) e (to_z w64 d)) j)
+invariant-loop moves₀ m lo hi e d n j₀ moves j = (j ≤ n) × (n ≤ 32) × (length moves ≡ length moves₀) × (moves ≡ with_column moves₀ m e (entryBy (to_z w64 lo) (to_z w64 hi) e (to_z w64 d)) j)
 
 abbrev decreases-loop : tie.decreases-loop
 decreases-loop moves₀ m lo hi e d n j₀ moves j = n - j
@@ -79,9 +79,9 @@ loop-again c =
       omega arith,
       lp.invariant.1,
       simp length-set lp.invariant.2,
-      ap (λ (v : List ℕ). set v (moveIndex x.m lp.j x.e) c.entry.result) lp.invariant.3
-          ∙ overwrite-more x.moves.now (λ j. moveIndex x.m j x.e) (entryBy lo hi x.e d) lp.j c.entry.result
-          (c.entry.ensures ∙ ap₂ entry_of c.before.before.before.before.band-states.ensures (c.before.bal-next.ensures ∙ sym (own-step lo hi d x.e lp.j))),
+      ap (λ (v : List ℕ). set v (move_index x.m lp.j x.e) c.entry.result) lp.invariant.3
+          ∙ overwrite_more x.moves.now (λ j. move_index x.m j x.e) (entryBy lo hi x.e d) lp.j c.entry.result
+          (c.entry.ensures ∙ ap₂ entry_of c.before.before.before.before.band-states.ensures (c.before.bal-next.ensures ∙ sym (own_step lo hi d x.e lp.j))),
     )
 
 same_length : tie.Need-same-length invariant-loop decreases-loop
@@ -95,8 +95,8 @@ returns c =
     let lo = to_z-of_z w64 x.lo st.ranges.lo in
     let hi = to_z-of_z w64 x.hi st.ranges.hi in
     let n = rw (lo, hi) at c.before.before.band-states.ensures in
-    let e : lp.j ≡ statesOf (bal x.lo x.hi) = omega (arith, n) in
-    rw (lo, hi, to_z-of_z w64 x.d st.ranges.d) at (lp.invariant.3 ∙ ap (withColumn x.moves.now x.m x.e (entryBy (to_z w64 (of_z w64 x.lo)) (to_z w64 (of_z w64 x.hi)) x.e (to_z w64 (of_z w64 x.d)))) e)
+    let e : lp.j ≡ states_of (bal x.lo x.hi) = omega (arith, n) in
+    rw (lo, hi, to_z-of_z w64 x.d st.ranges.d) at (lp.invariant.3 ∙ ap (with_column x.moves.now x.m x.e (entryBy (to_z w64 (of_z w64 x.lo)) (to_z w64 (of_z w64 x.hi)) x.e (to_z w64 (of_z w64 x.d)))) e)
 
 pub fill-step-spec : {M : Type 1} → statement M
 fill-step-spec =

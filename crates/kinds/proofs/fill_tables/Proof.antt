@@ -1,7 +1,7 @@
 -- A `mon` line leaves the tables; any other fills its part of both.
 -- Assumes nothing.
 use mathlib.Core.Path.{sym, ◌∙◌}
-use Rattle.kinds.specs.Kinds.{kindMoves, kindStops}
+use Rattle.kinds.specs.Kinds.{kind_moves, kind_stops}
 use borrow.Author.Rules.{rules}
 use Rattle.kinds.proofs.fill_tables.Statement.{statement}
 use Rattle.kinds.proofs.fill_tables.Tie as tie
@@ -10,7 +10,7 @@ is-mon-requires : tie.Need-is-mon-requires
 is-mon-requires c κs = search rules
 
 returns : tie.Need-returns
-unfolding kindMoves kindStops
+unfolding kind_moves kind_stops
 returns c = let q = sym c.before.is-mon.ensures ∙ c.if1.true in (rw q, rw q)
 
 fill-moves-requires : tie.Need-fill-moves-requires
@@ -26,7 +26,7 @@ same-length-2 : tie.Need-same-length-2
 same-length-2 c = search rules
 
 returns-2 : tie.Need-returns-2
-unfolding kindMoves kindStops
+unfolding kind_moves kind_stops
 returns-2 c = let q = sym c.before.before.before.before.before.before.before.before.before.is-mon.ensures ∙ c.before.before.before.before.before.before.before.before.if1.false in (rw q c.before.before.before.before.before.before.fill-moves.ensures, rw q c.before.before.fill-marks.ensures)
 
 pub fill-tables-spec : {M : Type 1} → statement M

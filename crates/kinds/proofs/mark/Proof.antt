@@ -1,7 +1,7 @@
 -- By the kind; of `reply`, by the state.
 -- Assumes nothing.
 use borrow.Author.Tests.{eq-eqb, ne_eqb}
-use Rattle.promises.specs.Rig.{markedOf}
+use Rattle.promises.specs.Rig.{marked_of}
 use borrow.Author.Rules.{rules}
 use Rattle.kinds.proofs.mark.Statement.{statement}
 use Rattle.kinds.proofs.mark.Tie as tie
@@ -22,27 +22,27 @@ enum-told-5 : tie.Need-enum-told-5
 enum-told-5 c = search rules
 
 returns : tie.Need-returns
-unfolding markedOf
+unfolding marked_of
 returns c = rw c.enum_told.given.1
 
 returns-2 : tie.Need-returns-2
-unfolding markedOf
+unfolding marked_of
 returns-2 c = rw c.enum-told2.given.1
 
 returns-3 : tie.Need-returns-3
-unfolding markedOf
+unfolding marked_of
 returns-3 c = rw (c.before.enum-told3.given.1, eq-eqb _ _ c.if1.true)
 
 returns-4 : tie.Need-returns-4
-unfolding markedOf
+unfolding marked_of
 returns-4 c = rw (c.before.enum-told3.given.1, ne_eqb _ _ c.if1.false)
 
 returns-5 : tie.Need-returns-5
-unfolding markedOf
+unfolding marked_of
 returns-5 c = rw c.enum-told4.given.1
 
 returns-6 : tie.Need-returns-6
-unfolding markedOf
+unfolding marked_of
 returns-6 c = rw c.enum-told5.given.1
 
 pub mark_spec : {M : Type 1} → statement M

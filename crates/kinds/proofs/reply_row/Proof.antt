@@ -4,7 +4,7 @@ use mathlib.Core.Path.{◌∙◌}
 use lib.Dec.{eqb}
 use borrow.Author.Tests.{eq-eqb, ne_eqb, le-leb, lt-leb}
 use Rattle.lists.proofs.Tests.{case}
-use Rattle.promises.specs.Rig.{replyNext}
+use Rattle.promises.specs.Rig.{reply_next}
 use borrow.Author.Rules.{rules}
 use Rattle.kinds.proofs.reply_row.Statement.{statement}
 use Rattle.kinds.proofs.reply_row.Tie as tie
@@ -13,7 +13,7 @@ event-row-requires : tie.Need-event-row-requires
 event-row-requires c κs = search rules
 
 returns : tie.Need-returns
-unfolding replyNext
+unfolding reply_next
 returns c = λ u. c.event-row.ensures u ∙ rw (eq-eqb _ _ c.before.if1.true)
 
 add-barred : tie.Need-overflow-add-barred
@@ -26,14 +26,14 @@ event-row-requires-2 : tie.Need-event-row-requires-2
 event-row-requires-2 c κs = search rules
 
 returns-2 : tie.Need-returns-2
-unfolding replyNext
+unfolding reply_next
 returns-2 c =
     let x = c.before.before.before.args in
     let s = ne_eqb _ _ c.before.before.if1.false in
     λ u. c.event-row2.ensures u ∙ case (eqb u x.b) (λ p. rw (p, s, lt-leb x.lo x.s c.before.if2.true)) (λ p. rw (p, s))
 
 returns-3 : tie.Need-returns-3
-unfolding replyNext
+unfolding reply_next
 returns-3 c =
     let x = c.before.before.args in
     let s = ne_eqb _ _ c.before.if1.false in

@@ -6,11 +6,11 @@ use native.Mathlib.Omega.{arith}
 use mir.Syntax.{w64}
 use mir.Val.{to_z, of_z}
 use Rattle.lists.specs.Lists.{first_of}
-use Rattle.promises.specs.Text.{statesOf}
+use Rattle.promises.specs.Text.{states_of}
 use Rattle.promises.specs.Meaning.{step_of}
-use Rattle.promises.specs.Rig.{dayNext, next_of}
-use Rattle.kinds.specs.Kinds.{asKind, InRange}
-use Rattle.kinds.proofs.Bands.{few, some-state}
+use Rattle.promises.specs.Rig.{day_next, next_of}
+use Rattle.kinds.specs.Kinds.{as_kind, InRange}
+use Rattle.kinds.proofs.Bands.{few, some_state}
 use borrow.Author.Rules.{rules}
 use Rattle.kinds.proofs.row_in.Statement.{statement}
 use Rattle.kinds.proofs.row_in.Tie as tie
@@ -25,7 +25,7 @@ enum-known-k-2 : tie.Need-enum-known-k-2
 enum-known-k-2 c = search rules
 
 gap-row-requires : tie.Need-gap-row-requires
-gap-row-requires c κs = let k = c.before.k2.given in unfold statesOf in rw k.1 at (some-state (asKind c.before.before.before.args.k) c.before.before.before.requires.0)
+gap-row-requires c κs = let k = c.before.k2.given in unfold states_of in rw k.1 at (some_state (as_kind c.before.before.before.args.k) c.before.before.before.requires.0)
 
 enum-known-k-3 : tie.Need-enum-known-k-3
 enum-known-k-3 c = search rules
@@ -34,8 +34,8 @@ reply-row-requires : tie.Need-reply-row-requires
 reply-row-requires c κs =
     let st = c.before.before.before in
     let k = c.before.k3.given in
-    let f = few (asKind st.args.k) st.requires.0 in
-    let h : k.0.1.1.1.0 + 1 ≤ 32 = unfold statesOf in rw k.1 at f in
+    let f = few (as_kind st.args.k) st.requires.0 in
+    let h : k.0.1.1.1.0 + 1 ≤ 32 = unfold states_of in rw k.1 at f in
     (omega arith, omega (arith, f, st.requires.1))
 
 enum-known-k-4 : tie.Need-enum-known-k-4
@@ -47,7 +47,7 @@ bal-next-requires c κs =
     let k = c.before.k4.given in
     let lo : to_z w64 (of_z w64 k.0.0) ≡ k.0.0 = search rules in
     let hi : to_z w64 (of_z w64 k.0.1.0) ≡ k.0.1.0 = search rules in
-    rw (lo, hi) (subst (λ k. InRange (asKind k)) k.1 st.requires.0, refl, omega (arith, few (asKind st.args.k) st.requires.0, st.requires.1))
+    rw (lo, hi) (subst (λ k. InRange (as_kind k)) k.1 st.requires.0, refl, omega (arith, few (as_kind st.args.k) st.requires.0, st.requires.1))
 
 same-row-requires-2 : tie.Need-same-row-requires-2
 same-row-requires-2 c κs = search rules
@@ -59,7 +59,7 @@ day-next-requires : tie.Need-day-next-requires
 day-next-requires c κs =
     let st = c.before.before.before in
     let k = c.before.k5.given in
-    unfold statesOf in (rw k.1 at st.requires.1, rw k.1 at (few (asKind st.args.k) st.requires.0))
+    unfold states_of in (rw k.1 at st.requires.1, rw k.1 at (few (as_kind st.args.k) st.requires.0))
 
 same-row-requires-3 : tie.Need-same-row-requires-3
 same-row-requires-3 c κs = search rules
@@ -86,7 +86,7 @@ returns-4 c =
     λ u. rw k.1 (c.same-row2.ensures u ∙ (rw (lo, hi) at q))
 
 returns-5 : tie.Need-returns-5
-unfolding next_of dayNext
+unfolding next_of day_next
 returns-5 c = λ u. rw c.before.before.before.k5.given.1 (c.same-row3.ensures u ∙ c.before.day-next.ensures)
 
 pub row-in-spec : {M : Type 1} → statement M

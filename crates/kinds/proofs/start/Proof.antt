@@ -7,10 +7,10 @@ use mir.Syntax.{w64}
 use mir.Val.{to_z, of_z}
 use mir.ValLaws.{to_z-of_z}
 use lib.Signed.{nat_abs-le}
-use Rattle.lists.proofs.Integers.{less-nonNeg, minus-abs}
+use Rattle.lists.proofs.Integers.{less_non_neg, minus_abs}
 use Rattle.promises.specs.Text.{start_of}
-use Rattle.kinds.specs.Kinds.{asKind, InRange}
-use Rattle.kinds.proofs.Bands.{bounds, minus-fits}
+use Rattle.kinds.specs.Kinds.{as_kind, InRange}
+use Rattle.kinds.proofs.Bands.{bounds, minus_fits}
 use borrow.Author.Rules.{rules}
 use Rattle.kinds.proofs.start.Statement.{statement}
 use Rattle.kinds.proofs.start.Tie as tie
@@ -31,16 +31,16 @@ sub-result : tie.Need-overflow-sub-result
 sub-result c =
     let k = c.before.k2.given in
     let lo : to_z w64 (of_z w64 k.0.0) ≡ k.0.0 = search rules in
-    let b = bounds k.0.0 k.0.1.0 (subst (λ k. InRange (asKind k)) k.1 c.before.before.before.requires) in
-    rw lo (minus-fits k.0.0 k.0.1.0 b)
+    let b = bounds k.0.0 k.0.1.0 (subst (λ k. InRange (as_kind k)) k.1 c.before.before.before.requires) in
+    rw lo (minus_fits k.0.0 k.0.1.0 b)
 
 cast-result : tie.Need-overflow-cast-result
 cast-result c =
     let k = c.before.k2.given in
     let lo : to_z w64 (of_z w64 k.0.0) ≡ k.0.0 = search rules in
-    let b = bounds k.0.0 k.0.1.0 (subst (λ k. InRange (asKind k)) k.1 c.before.before.before.requires) in
-    let f = minus-fits k.0.0 k.0.1.0 b in
-    rw (lo, to_z-of_z w64 (pos 0 -ℤ k.0.0) f) (less-nonNeg k.0.0 (pos 0) b.with-zero, record { fits = omega (arith, nat_abs-le (pos 0 -ℤ k.0.0) f.sfits) })
+    let b = bounds k.0.0 k.0.1.0 (subst (λ k. InRange (as_kind k)) k.1 c.before.before.before.requires) in
+    let f = minus_fits k.0.0 k.0.1.0 b in
+    rw (lo, to_z-of_z w64 (pos 0 -ℤ k.0.0) f) (less_non_neg k.0.0 (pos 0) b.with_zero, record { fits = omega (arith, nat_abs-le (pos 0 -ℤ k.0.0) f.sfits) })
 
 enum-told-3 : tie.Need-enum-told-3
 enum-told-3 c = search rules
@@ -62,8 +62,8 @@ unfolding start_of
 returns-4 c =
     let k = c.before.k2.given in
     let lo : to_z w64 (of_z w64 k.0.0) ≡ k.0.0 = search rules in
-    let b = bounds k.0.0 k.0.1.0 (subst (λ k. InRange (asKind k)) k.1 c.before.before.before.requires) in
-    rw (lo, to_z-of_z w64 (pos 0 -ℤ k.0.0) (minus-fits k.0.0 k.0.1.0 b), k.1) (minus-abs k.0.0)
+    let b = bounds k.0.0 k.0.1.0 (subst (λ k. InRange (as_kind k)) k.1 c.before.before.before.requires) in
+    rw (lo, to_z-of_z w64 (pos 0 -ℤ k.0.0) (minus_fits k.0.0 k.0.1.0 b), k.1) (minus_abs k.0.0)
 
 returns-5 : tie.Need-returns-5
 unfolding start_of

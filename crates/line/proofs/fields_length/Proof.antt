@@ -5,15 +5,15 @@ use Prim.Native.Nat.{◌+◌, ◌-◌, ◌<◌, ◌≤◌}
 use native.Mathlib.Omega.{arith}
 use lib.ListN.{length, take}
 use lib.Seq.{take_all}
-use Rattle.lists.specs.Lists.{concatMap}
-use Rattle.line.specs.Line.{fieldBytes}
+use Rattle.lists.specs.Lists.{concat_map}
+use Rattle.line.specs.Line.{field_bytes}
 use Rattle.line.proofs.Pieces.{length_fields, fields_within, fields-short}
 use borrow.Author.Rules.{rules}
 use Rattle.line.proofs.fields_length.Statement.{statement}
 use Rattle.line.proofs.fields_length.Tie as tie
 
 abbrev invariant-loop : tie.invariant-loop
-invariant-loop events bytes₀ k₀ k-end bytes k = (k ≤ length events) × (bytes ≡ length (concatMap fieldBytes (take k events)))
+invariant-loop events bytes₀ k₀ k-end bytes k = (k ≤ length events) × (bytes ≡ length (concat_map field_bytes (take k events)))
 
 abbrev decreases-loop : tie.decreases-loop
 decreases-loop events bytes₀ k₀ k-end bytes k = length events - k

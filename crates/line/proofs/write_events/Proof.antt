@@ -2,8 +2,8 @@
 use mathlib.Core.List.{[], ◌∷◌, ◌++◌}
 use native.Mathlib.Omega.{arith}
 use lib.ListN.{length-append}
-use Rattle.lists.specs.Lists.{concatMap}
-use Rattle.line.specs.Line.{fieldBytes}
+use Rattle.lists.specs.Lists.{concat_map}
+use Rattle.line.specs.Line.{field_bytes}
 use Rattle.line.proofs.Pieces.{rest-written}
 use borrow.Author.Rules.{rules}
 use Rattle.line.proofs.write_events.Statement.{statement}
@@ -12,13 +12,13 @@ use Rattle.line.proofs.write_events.Tie as tie
 write-word-requires : tie.Need-write-word-requires
 write-word-requires c κs =
     let st = c.before.before.before.before in
-    let fields = concatMap fieldBytes st.args.events.now in
+    let fields = concat_map field_bytes st.args.events.now in
     omega (arith, length-append (st.args.word.now ++ fields) (10 ∷ []), length-append st.args.word.now fields)
 
 write-rest-requires : tie.Need-write-rest-requires
 write-rest-requires c κs =
     let st = c.before.before.before.before.before.before.before.before in
-    let fields = concatMap fieldBytes st.args.events.now in
+    let fields = concat_map field_bytes st.args.events.now in
     omega (arith, length-append (st.args.word.now ++ fields) (10 ∷ []), length-append st.args.word.now fields, length-append fields (10 ∷ []))
 
 same_length : tie.Need-same-length

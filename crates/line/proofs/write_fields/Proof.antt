@@ -1,13 +1,13 @@
--- `line::write_fields`: after k events their fields stand from `at` on. `fields-more` is one event more, and `fields_within` says that there is room for it.
+-- `line::write_fields`: after k events their fields stand from `at` on. `fields_more` is one event more, and `fields_within` says that there is room for it.
 -- Assumes nothing.
 use mathlib.Core.Path.{◌≡◌, refl, ◌∙◌}
 use Prim.Native.Nat.{◌+◌, ◌-◌, ◌<◌, ◌≤◌}
 use native.Mathlib.Omega.{arith}
 use lib.ListN.{length, take}
 use lib.Seq.{take_all}
-use Rattle.lists.specs.Lists.{concatMap}
-use Rattle.line.specs.Line.{fieldBytes, placed}
-use Rattle.line.proofs.Pieces.{placed-none, length_fields, fields_within, fields-more}
+use Rattle.lists.specs.Lists.{concat_map}
+use Rattle.line.specs.Line.{field_bytes, placed}
+use Rattle.line.proofs.Pieces.{placed-none, length_fields, fields_within, fields_more}
 use borrow.Author.Rules.{rules}
 use Rattle.line.proofs.write_fields.Statement.{statement}
 use Rattle.line.proofs.write_fields.Tie as tie
@@ -15,8 +15,8 @@ use Rattle.line.proofs.write_fields.Tie as tie
 abbrev invariant-loop : tie.invariant-loop
 invariant-loop events at out₀ end₀ k₀ k-end out end k =
     (k ≤ length events) × (length out ≡ length out₀)
-    × (end ≡ at + length (concatMap fieldBytes (take k events)))
-    × (out ≡ placed (concatMap fieldBytes (take k events)) at out₀)
+    × (end ≡ at + length (concat_map field_bytes (take k events)))
+    × (out ≡ placed (concat_map field_bytes (take k events)) at out₀)
 
 abbrev decreases-loop : tie.decreases-loop
 decreases-loop events at out₀ end₀ k₀ k-end out end k = length events - k
@@ -52,7 +52,7 @@ loop-again c =
       c.before.out.given ∙ lp.invariant.1,
       omega (arith, length_fields st.args.events.now lp.k lt),
       c.before.before.write-field.ensures.1
-          ∙ fields-more st.args.events.now lp.k lt st.args.out.now lp.out st.args.at lp.end (omega arith) lp.invariant.2 lp.invariant.3,
+          ∙ fields_more st.args.events.now lp.k lt st.args.out.now lp.out st.args.at lp.end (omega arith) lp.invariant.2 lp.invariant.3,
     )
 
 same_length : tie.Need-same-length invariant-loop decreases-loop

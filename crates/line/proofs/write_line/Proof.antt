@@ -2,10 +2,10 @@
 use mathlib.Core.List.{[], ◌∷◌}
 use native.Mathlib.Omega.{arith}
 use lib.ListN.{length-append}
-use Rattle.lists.specs.Lists.{concatMap}
+use Rattle.lists.specs.Lists.{concat_map}
 use Rattle.lists.specs.Decimal.{decimal}
 use Rattle.decimal.proofs.Digits.{decimal-fits}
-use Rattle.line.specs.Line.{fieldBytes, line_of}
+use Rattle.line.specs.Line.{field_bytes, line_of}
 use Rattle.line.proofs.Pieces.{fields-short, rest-written}
 use borrow.Author.Rules.{rules}
 use Rattle.line.proofs.write_line.Statement.{statement}
@@ -18,7 +18,7 @@ write-rest-requires : tie.Need-write-rest-requires
 write-rest-requires c κs =
     let st = c.before.before.before.before.before.before.before in
     let es = st.args.events.now in
-    omega (arith, decimal-fits st.args.index (omega arith), length-append (concatMap fieldBytes es) (10 ∷ []), fields-short es (λ k. omega (arith, c.before.before.before.before.before.before.shared-slice-known.given k)))
+    omega (arith, decimal-fits st.args.index (omega arith), length-append (concat_map field_bytes es) (10 ∷ []), fields-short es (λ k. omega (arith, c.before.before.before.before.before.before.shared-slice-known.given k)))
 
 same_length : tie.Need-same-length
 same_length c = search rules

@@ -2,21 +2,21 @@
 use native.Mathlib.Omega.{arith}
 use mathlib.Core.List.{[], ◌∷◌}
 use lib.ListN.{length-append}
-use Rattle.lists.specs.Lists.{concatMap}
-use Rattle.line.specs.Line.{fieldBytes}
+use Rattle.lists.specs.Lists.{concat_map}
+use Rattle.line.specs.Line.{field_bytes}
 use Rattle.line.proofs.Pieces.{ended-placed}
 use borrow.Author.Rules.{rules}
 use Rattle.line.proofs.write_rest.Statement.{statement}
 use Rattle.line.proofs.write_rest.Tie as tie
 
 write-fields-requires : tie.Need-write-fields-requires
-write-fields-requires c κs = omega (arith, length-append (concatMap fieldBytes c.before.before.before.args.events.now) (10 ∷ []))
+write-fields-requires c κs = omega (arith, length-append (concat_map field_bytes c.before.before.before.args.events.now) (10 ∷ []))
 
 slice-write-out : tie.Need-slice-write-out
-slice-write-out c = omega (arith, length-append (concatMap fieldBytes c.before.before.before.before.before.before.args.events.now) (10 ∷ []))
+slice-write-out c = omega (arith, length-append (concat_map field_bytes c.before.before.before.before.before.before.args.events.now) (10 ∷ []))
 
 add-result : tie.Need-overflow-add-result
-add-result c = omega (arith, length-append (concatMap fieldBytes c.before.before.before.before.before.before.args.events.now) (10 ∷ []))
+add-result c = omega (arith, length-append (concat_map field_bytes c.before.before.before.before.before.before.args.events.now) (10 ∷ []))
 
 same_length : tie.Need-same-length
 same_length c = search rules
@@ -25,7 +25,7 @@ returns : tie.Need-returns
 returns c =
     let st = c.before.before.before.before.before.before in
     let w = c.before.before.write-fields in
-    let fields = concatMap fieldBytes st.args.events.now in
+    let fields = concat_map field_bytes st.args.events.now in
     ended-placed fields st.args.out.now _ st.args.at _ (omega (arith, length-append fields (10 ∷ []))) w.ensures.0 w.ensures.1
 
 pub write-rest-spec : {M : Type 1} → statement M

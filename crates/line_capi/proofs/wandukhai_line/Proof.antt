@@ -1,4 +1,4 @@
--- `line_capi::wandukhai_line`: its two tests are the one of `lineWithin`, without a product that could leave 64 bits.
+-- `line_capi::wandukhai_line`: its two tests are the one of `line_within`, without a product that could leave 64 bits.
 -- Assumes nothing.
 use mathlib.Core.Path.{◌≡◌, refl}
 use mathlib.Core.List.{List, ◌++◌}
@@ -7,13 +7,13 @@ use native.Mathlib.Omega.{arith}
 use lib.ListN.{length, drop}
 use borrow.Author.Rules.{rules}
 use borrow.Author.Tests.{le-leb, lt-leb}
-use Rattle.line_capi.specs.Room.{lineWithin}
+use Rattle.line_capi.specs.Room.{line_within}
 use Rattle.line_capi.proofs.wandukhai_line.Statement.{statement}
 use Rattle.line_capi.proofs.wandukhai_line.Tie as tie
 
 -- what is too short stays as it is
 none_written : (index : ℕ) (events out : List ℕ) → length out < 21 + 4 * length events
-    → (0 ≡ length (lineWithin index events (length out))) × (out ≡ lineWithin index events (length out) ++ drop (length (lineWithin index events (length out))) out)
+    → (0 ≡ length (line_within index events (length out))) × (out ≡ line_within index events (length out) ++ drop (length (line_within index events (length out))) out)
 none_written index events out h = rw (lt-leb (21 + 4 * length events) (length out) h) (refl, refl)
 
 returns : tie.Need-returns

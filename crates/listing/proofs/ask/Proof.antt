@@ -2,8 +2,8 @@
 use mathlib.Core.Path.{sym}
 use native.Mathlib.Omega.{arith}
 use lib.Seq.{length-take-le}
-use Rattle.decoding.proofs.Parts.{indexOf-le}
-use Rattle.listing.proofs.Asking.{ask-good, ask-bad, ask-unended}
+use Rattle.decoding.proofs.Parts.{index_of_le}
+use Rattle.listing.proofs.Asking.{ask_good, ask_bad, ask_unended}
 use borrow.Author.Rules.{rules}
 use Rattle.listing.proofs.ask.Statement.{statement}
 use Rattle.listing.proofs.ask.Tie as tie
@@ -18,7 +18,7 @@ until-requires c κs = search rules
 slice-aggregate-asked-in : tie.Need-slice-aggregate-asked-in
 slice-aggregate-asked-in c =
     let s = c.before.before.before.before.args.input.now in
-    sym (length-take-le c.before.before.until.result s (rw c.before.before.until.ensures (indexOf-le s 10)))
+    sym (length-take-le c.before.before.until.result s (rw c.before.before.until.ensures (index_of_le s 10)))
 
 asked-in-requires : tie.Need-asked-in-requires
 asked-in-requires c κs = search rules
@@ -35,15 +35,15 @@ enum_told c = search rules
 returns : tie.Need-returns
 returns c =
     let u = c.before.before.before.before.before.before.until in
-    ask-good c.before.before.before.before.before.before.before.before.args.input.now u.result u.ensures (omega (arith, c.before.before.before.before.before.if1.true)) c.before.before.before.asked_in.result _ c.before.before.before.asked_in.ensures c.before.h.given.1
+    ask_good c.before.before.before.before.before.before.before.before.args.input.now u.result u.ensures (omega (arith, c.before.before.before.before.before.if1.true)) c.before.before.before.asked_in.result _ c.before.before.before.asked_in.ensures c.before.h.given.1
 
 returns-2 : tie.Need-returns-2
 returns-2 c =
     let u = c.before.before.before.before.before.until in
-    ask-bad c.before.before.before.before.before.before.before.args.input.now u.result u.ensures (omega (arith, c.before.before.before.before.if1.true)) c.before.before.asked_in.result c.before.before.asked_in.ensures c.enum_told.given.1
+    ask_bad c.before.before.before.before.before.before.before.args.input.now u.result u.ensures (omega (arith, c.before.before.before.before.if1.true)) c.before.before.asked_in.result c.before.before.asked_in.ensures c.enum_told.given.1
 
 returns-3 : tie.Need-returns-3
-returns-3 c = ask-unended c.before.before.before.args.input.now c.before.until.result c.before.until.ensures (omega (arith, c.if1.false))
+returns-3 c = ask_unended c.before.before.before.args.input.now c.before.until.result c.before.until.ensures (omega (arith, c.if1.false))
 
 pub ask-spec : {M : Type 1} → statement M
 ask-spec =

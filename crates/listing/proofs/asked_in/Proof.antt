@@ -1,6 +1,6 @@
 -- After the word and its byte 9 comes the number, to the end of the line. Assumes nothing.
 use mathlib.Core.Path.{sym, ◌∙◌}
-use Rattle.listing.proofs.Asking.{asks-long, asked-number, asked-nothing}
+use Rattle.listing.proofs.Asking.{asks_long, asked-number, asked-nothing}
 use borrow.Author.Rules.{rules}
 use Rattle.listing.proofs.asked_in.Statement.{statement}
 use Rattle.listing.proofs.asked_in.Tie as tie
@@ -13,10 +13,10 @@ asks-requires : tie.Need-asks-requires
 asks-requires c κs = search rules
 
 sub_number : tie.Need-overflow-sub-number
-sub_number c = asks-long c.before.before.before.args.line.now (sym c.before.asks.ensures ∙ c.if1.true)
+sub_number c = asks_long c.before.before.before.args.line.now (sym c.before.asks.ensures ∙ c.if1.true)
 
 part-number-start : tie.Need-slice-bounds-number-start
-part-number-start c = asks-long c.before.before.before.args.line.now (sym c.before.asks.ensures ∙ c.if1.true)
+part-number-start c = asks_long c.before.before.before.args.line.now (sym c.before.asks.ensures ∙ c.if1.true)
 
 part-number-end : tie.Need-slice-bounds-number-end
 part-number-end c = search rules

@@ -1,7 +1,7 @@
 -- A line of four bytes or more begins with the word where each of its first four bytes is the word's. Assumes nothing.
 use mathlib.Core.Path.{sym}
 use native.Mathlib.Omega.{arith}
-use Rattle.listing.proofs.Asking.{asks-short, asks-first, asks-second, asks-third, asks-last}
+use Rattle.listing.proofs.Asking.{asks_short, asks_first, asks_second, asks_third, asks_last}
 use borrow.Author.Rules.{rules}
 use Rattle.listing.proofs.asks.Statement.{statement}
 use Rattle.listing.proofs.asks.Tie as tie
@@ -9,20 +9,20 @@ use Rattle.listing.proofs.asks.Reads as reads
 use Rattle.listing.proofs.asks.Lts as lts
 
 returns : tie.Need-returns
-returns c = sym (asks-short c.before.args.line.now c.if1.true)
+returns c = sym (asks_short c.before.args.line.now c.if1.true)
 
 shared-slice-read-if2 : tie.Need-shared-slice-read-if2
 shared-slice-read-if2 c = search rules
 
 returns-2 : tie.Need-returns-2
-returns-2 c = asks-first c.before.before.before.args.line.now c.before.before.if1.false (λ q. c.if2.true (omega (arith, q)))
+returns-2 c = asks_first c.before.before.before.args.line.now c.before.before.if1.false (λ q. c.if2.true (omega (arith, q)))
 
 shared-slice-read-if3 : tie.Need-shared-slice-read-if3
 shared-slice-read-if3 c = search rules
 
 returns-3 : tie.Need-returns-3
 returns-3 c =
-    asks-second
+    asks_second
     c.before.before.before.before.before.args.line.now
     c.before.before.before.before.if1.false
     (omega (arith, c.before.before.if2.false))
@@ -33,7 +33,7 @@ shared-slice-read-if4 c = search rules
 
 returns-4 : tie.Need-returns-4
 returns-4 c =
-    asks-third
+    asks_third
     c.before.before.before.before.before.before.before.args.line.now
     c.before.before.before.before.before.before.if1.false
     (omega (arith, c.before.before.before.before.if2.false))
@@ -45,7 +45,7 @@ shared-slice-read-result c = search rules
 
 returns-5 : tie.Need-returns-5
 returns-5 c =
-    asks-last
+    asks_last
     c.before.before.before.before.before.before.before.before.args.line.now
     c.before.before.before.before.before.before.before.if1.false
     (omega (arith, c.before.before.before.before.before.if2.false))

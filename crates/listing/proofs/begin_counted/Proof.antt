@@ -1,8 +1,8 @@
 -- Filling tells row 9 or 10, whose refusal is the only line; or N and the passes, and the cells and the table then serve the lines. Assumes nothing.
 use mathlib.Core.Path.{refl}
-use Rattle.rig.specs.Record.{recordAutomaton}
-use Rattle.filling.proofs.Rows.{told-refused}
-use Rattle.listing.proofs.Beginning.{begins-as, begins-counted}
+use Rattle.rig.specs.Record.{record_automaton}
+use Rattle.filling.proofs.Rows.{told_refused}
+use Rattle.listing.proofs.Beginning.{begins_as, begins-counted}
 use borrow.Author.Rules.{rules}
 use Rattle.listing.proofs.begin_counted.Statement.{statement}
 use Rattle.listing.proofs.begin_counted.Tie as tie
@@ -48,9 +48,9 @@ returns c =
     let st = c.before.before.before.before.before.before.before.before.before.before.before.before.before.before.before.before.before.args in
     let f = c.before.before.before.before.before.before.before.before.before.before.before.fill-cells in
     let k = c.before.before.before.before.before.checked.given in
-    let A = recordAutomaton st.rig in
-    let a = told-refused A st.states st.start st.h f.result _ _ _ f.ensures k.0.0 k.0.1.0 k.1 _ in
-    (begins-as _ _ A A st.start st.start st.h st.h _ _ _ _ _ a refl refl refl (c.before.before.refuse.ensures A st.start st.h _ _), f.ensures.cells-filled)
+    let A = record_automaton st.rig in
+    let a = told_refused A st.states st.start st.h f.result _ _ _ f.ensures k.0.0 k.0.1.0 k.1 _ in
+    (begins_as _ _ A A st.start st.start st.h st.h _ _ _ _ _ a refl refl refl (c.before.before.refuse.ensures A st.start st.h _ _), f.ensures.cells_filled)
 
 same-length-4 : tie.Need-same-length-4
 same-length-4 c = search rules
@@ -67,7 +67,7 @@ returns-2 c =
     let f = c.before.before.before.before.before.before.before.before.before.before.before.before.fill-cells in
     let w = c.before.before.before.write-numbers in
     let e = c.before.before.before.before.before.before.enum_told.given.1 in
-    (begins-counted st.args.rig st.args.states st.args.start st.args.h w.result c.first-lines.result f.result st.args.cells.now st.args.line.now _ _ _ st.requires.0 st.requires.1.cells-long f.ensures e c.first-lines.ensures (record { told = w.ensures.0; written = w.ensures.1 }), f.ensures.cells-filled)
+    (begins-counted st.args.rig st.args.states st.args.start st.args.h w.result c.first-lines.result f.result st.args.cells.now st.args.line.now _ _ _ st.requires.0 st.requires.1.cells_long f.ensures e c.first-lines.ensures (record { told = w.ensures.0; written = w.ensures.1 }), f.ensures.cells_filled)
 
 pub begin-counted-spec : {M : Type 1} → statement M
 begin-counted-spec =

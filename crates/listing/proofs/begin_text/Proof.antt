@@ -2,8 +2,8 @@
 -- text. Assumes nothing.
 use mathlib.Core.Path.{refl}
 use lib.ListN.{length}
-use Rattle.filling.proofs.Rows.{early-count, early-count-cells, count-is, count-cells-are}
-use Rattle.listing.proofs.Beginning.{begins-as}
+use Rattle.filling.proofs.Rows.{early_count, early_count_cells, count_is, count_cells_are}
+use Rattle.listing.proofs.Beginning.{begins_as}
 use borrow.Author.Rules.{rules}
 use Rattle.listing.proofs.begin_text.Statement.{statement}
 use Rattle.listing.proofs.begin_text.Tie as tie
@@ -37,8 +37,8 @@ returns c =
     let st = c.before.before.before.before.before.before.before.before.before.before.before.before.before.args in
     let o = c.before.before.before.before.before.before.before.before.load in
     let k = c.before.before.before.before.before.checked.given in
-    let a = early-count st.text.now st.h (length st.cells.now) o.result o.ensures st.cells.now refl k.0.0 k.0.1.0 k.1 in
-    (begins-as _ _ _ _ _ _ _ _ _ _ _ _ _ a refl refl refl (c.before.before.refuse.ensures _ _ _ _ _), early-count-cells st.text.now st.h (length st.cells.now) o.result o.ensures st.cells.now refl k.0.0 k.0.1.0 k.1)
+    let a = early_count st.text.now st.h (length st.cells.now) o.result o.ensures st.cells.now refl k.0.0 k.0.1.0 k.1 in
+    (begins_as _ _ _ _ _ _ _ _ _ _ _ _ _ a refl refl refl (c.before.before.refuse.ensures _ _ _ _ _), early_count_cells st.text.now st.h (length st.cells.now) o.result o.ensures st.cells.now refl k.0.0 k.0.1.0 k.1)
 
 same-length-2 : tie.Need-same-length-2
 same-length-2 c = search rules
@@ -56,8 +56,8 @@ returns-2 c =
     let e = c.before.before.before.before.before.before.before.before.before.before.enum_told.given.1 in
     let n = c.before.before.before.before.before.before.begin-counted in
     let r = o.ensures.ready e in
-    let a = count-is st.text.now st.h (length st.cells.now) o.result o.ensures st.cells.now refl e in
-    (begins-as _ _ _ _ _ _ _ _ _ _ _ _ _ a r.automaton r.starts refl n.ensures.0, count-cells-are st.text.now st.h (length st.cells.now) o.result o.ensures st.cells.now refl e _ n.ensures.1)
+    let a = count_is st.text.now st.h (length st.cells.now) o.result o.ensures st.cells.now refl e in
+    (begins_as _ _ _ _ _ _ _ _ _ _ _ _ _ a r.automaton r.starts refl n.ensures.0, count_cells_are st.text.now st.h (length st.cells.now) o.result o.ensures st.cells.now refl e _ n.ensures.1)
 
 pub begin-text-spec : {M : Type 1} → statement M
 begin-text-spec =

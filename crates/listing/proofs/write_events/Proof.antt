@@ -4,7 +4,7 @@ use lib.ListN.{take}
 use lib.Seq.{length-take-le}
 use mathlib.Core.Path.{sym}
 use borrow.Author.Rules.{rules}
-use Rattle.listing.proofs.Beginning.{events-front}
+use Rattle.listing.proofs.Beginning.{events_front}
 use Rattle.listing.proofs.write_events.Statement.{statement}
 use Rattle.listing.proofs.write_events.Tie as tie
 
@@ -27,7 +27,7 @@ same_length c = search rules
 returns : tie.Need-returns
 returns c =
     let st = c.before.before.before.before.before.before in
-    events-front st.args.table.now st.args.cells.now st.args.states st.args.start st.args.h st.args.i (take st.args.h st.args.events.now) _ _ (length-take-le st.args.h st.args.events.now st.requires.3) c.before.before.unrank-whole.ensures
+    events_front st.args.table.now st.args.cells.now st.args.states st.args.start st.args.h st.args.i (take st.args.h st.args.events.now) _ _ (length-take-le st.args.h st.args.events.now st.requires.3) c.before.before.unrank-whole.ensures
 
 pub write-events-spec : {M : Type 1} → statement M
 write-events-spec =

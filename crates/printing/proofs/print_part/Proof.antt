@@ -6,7 +6,7 @@ use native.Mathlib.Omega.{arith}
 use lib.ListN.{length}
 use lib.Seq.{length-take-le}
 use Rattle.listing.specs.Printing.{StandsAt}
-use Rattle.listing.proofs.Lines.{line-within, nearer}
+use Rattle.listing.proofs.Lines.{line_within_lem, nearer}
 use borrow.Author.Rules.{rules}
 use Rattle.printing.proofs.print_part.Statement.{statement}
 use Rattle.printing.proofs.print_part.Tie as tie
@@ -43,12 +43,12 @@ returns c = search rules
 array-share-prefix-line : tie.Need-array-share-prefix-line invariant-loop decreases-loop
 array-share-prefix-line c =
     let lp = c.before.loop in
-    omega (arith, lp.invariant.0, line-within _ lp.cursor _ _ lp.invariant.1.0 lp.line lp.invariant.1.1)
+    omega (arith, lp.invariant.0, line_within_lem _ lp.cursor _ _ lp.invariant.1.0 lp.line lp.invariant.1.1)
 
 slice-aggregate-write-between : tie.Need-slice-aggregate-write-between invariant-loop decreases-loop
 slice-aggregate-write-between c =
     let lp = c.before.before.loop in
-    sym (length-take-le lp.cursor.length lp.line (line-within _ lp.cursor _ _ lp.invariant.1.0 lp.line lp.invariant.1.1))
+    sym (length-take-le lp.cursor.length lp.line (line_within_lem _ lp.cursor _ _ lp.invariant.1.0 lp.line lp.invariant.1.1))
 
 write-between-requires : tie.Need-write-between-requires invariant-loop decreases-loop
 write-between-requires c κs = search rules

@@ -1,13 +1,13 @@
 -- The invariant: what is left of the index, with the counts of the live events passed, is the index. The first count above what is left is that of the
--- event it falls in (`choose-here`); where no live event is left there is none (`choose-none`).
+-- event it falls in (`choose_here`); where no live event is left there is none (`choose_none`).
 use mathlib.Core.Path.{◌≡◌, subst}
 use Prim.Native.Nat.{ℕ, ◌+◌, ◌-◌, ◌%◌, ◌≤◌, ◌<◌}
 use native.Mathlib.Omega.{arith}
 use Rattle.automaton.specs.Automaton.{Automaton}
 use Rattle.automaton.specs.Counting.{N, most}
 use Rattle.counting.specs.Tabled.{Tabled, HoldsRow}
-use Rattle.counting.proofs.Sums.{up_to, upTo-none}
-use Rattle.ranking.proofs.Steps.{counted-state, past_all, past-last, step-over, choose-here, choose-none}
+use Rattle.counting.proofs.Sums.{up_to, up_to_none}
+use Rattle.ranking.proofs.Steps.{counted-state, past_all, past_last, step_over, choose_here, choose_none}
 use borrow.Author.Rules.{rules}
 use Rattle.ranking.proofs.choose_event.Statement.{statement}
 use Rattle.ranking.proofs.choose_event.Tie as tie
@@ -21,7 +21,7 @@ decreases-loop cells table p x i left₀ c₀ left c = 16 - c
 
 loop-holds : tie.Need-loop-init invariant-loop decreases-loop
 loop-holds c =
-    (omega arith, λ A r tabled holds le. omega (arith, upTo-none A r c.before.args.x))
+    (omega arith, λ A r tabled holds le. omega (arith, up_to_none A r c.before.args.x))
 
 mul_wide : tie.Need-overflow-mul-wide invariant-loop decreases-loop
 mul_wide c = search rules
@@ -56,7 +56,7 @@ returns c =
     let hc = c.before.before.before.before.before.loop-test.true in (
       counted-state (wd.result % 1024) a.p _ lp.left (subst (λ (n : ℕ). lp.left < n) c.before.count_at.ensures c.if2.true),
       λ A r tabled holds.
-          choose-here A a.p a.table.now tabled st.requires.0 a.x st.requires.1 lp.c wd.result hc wd.ensures.0 c.before.before.if1.false
+          choose_here A a.p a.table.now tabled st.requires.0 a.x st.requires.1 lp.c wd.result hc wd.ensures.0 c.before.before.if1.false
           r a.cells.now holds c.before.count_at.result c.before.count_at.ensures lp.left a.i (lp.invariant.1 A r tabled holds) (omega arith) c.if2.true,
     )
 
@@ -75,7 +75,7 @@ loop-again c =
     let hc = c.before.before.before.before.before.loop-test.true in (
       omega arith,
       λ A r tabled holds le.
-          step-over A a.p a.table.now tabled st.requires.0 a.x st.requires.1 lp.c wd.result hc wd.ensures.0 c.before.before.if1.false
+          step_over A a.p a.table.now tabled st.requires.0 a.x st.requires.1 lp.c wd.result hc wd.ensures.0 c.before.before.if1.false
           r a.cells.now holds c.before.count_at.result c.before.count_at.ensures lp.left a.i le (lp.invariant.1 A r tabled holds le) c.if2.false,
     )
 
@@ -86,7 +86,7 @@ returns-2 c =
     let lp = c.before.loop in (
       omega arith,
       λ A r tabled holds.
-          choose-none A a.p a.table.now tabled st.requires.0 a.x st.requires.1 lp.c
+          choose_none A a.p a.table.now tabled st.requires.0 a.x st.requires.1 lp.c
           (past_all A a.p a.table.now tabled st.requires.0 a.x st.requires.1 lp.c (omega arith)) r lp.left a.i (lp.invariant.1 A r tabled holds),
     )
 
@@ -98,8 +98,8 @@ returns-3 c =
     let wd = c.before.wide in (
       omega arith,
       λ A r tabled holds.
-          choose-none A a.p a.table.now tabled st.requires.0 a.x st.requires.1 lp.c
-          (past-last A a.p a.table.now tabled st.requires.0 a.x st.requires.1 lp.c wd.result c.before.before.before.loop-test.true wd.ensures.0 c.if1.true)
+          choose_none A a.p a.table.now tabled st.requires.0 a.x st.requires.1 lp.c
+          (past_last A a.p a.table.now tabled st.requires.0 a.x st.requires.1 lp.c wd.result c.before.before.before.loop-test.true wd.ensures.0 c.if1.true)
           r lp.left a.i (lp.invariant.1 A r tabled holds),
     )
 

@@ -6,10 +6,10 @@ use native.Mathlib.Omega.{arith}
 use lib.ListN.{get_or}
 use Rattle.automaton.specs.Automaton.{Automaton}
 use Rattle.automaton.specs.Counting.{N, most}
-use Rattle.automaton.specs.Table.{liveEvents}
+use Rattle.automaton.specs.Table.{live_events}
 use Rattle.counting.specs.Tabled.{Tabled, HoldsRow}
-use Rattle.counting.proofs.Sums.{up_to, upTo-none}
-use Rattle.ranking.proofs.Steps.{past_all, past-last, add-on, found_here, found-later, found_nowhere}
+use Rattle.counting.proofs.Sums.{up_to, up_to_none}
+use Rattle.ranking.proofs.Steps.{past_all, past_last, add_on, found_here, found_later, found_nowhere}
 use borrow.Author.Rules.{rules}
 use Rattle.ranking.proofs.find_event.Statement.{statement}
 use Rattle.ranking.proofs.find_event.Tie as tie
@@ -17,14 +17,14 @@ use Rattle.ranking.proofs.find_event.Tie as tie
 abbrev invariant-loop : tie.invariant-loop
 invariant-loop cells table p x e before₀ c₀ before c =
     (c ≤ 16) × ((A : Automaton) (r : ℕ) → Tabled A p table → HoldsRow A r cells → N A (r + 1) x < most → before ≡ up_to A r x c)
-    × ((A : Automaton) → Tabled A p table → (k : ℕ) → k < c → get_or (liveEvents A x) k 0 ≡ e → ⊥)
+    × ((A : Automaton) → Tabled A p table → (k : ℕ) → k < c → get_or (live_events A x) k 0 ≡ e → ⊥)
 
 abbrev decreases-loop : tie.decreases-loop
 decreases-loop cells table p x e before₀ c₀ before c = 16 - c
 
 loop-holds : tie.Need-loop-init invariant-loop decreases-loop
 loop-holds c =
-    (omega arith, (λ A r tabled holds lt. omega (arith, upTo-none A r c.before.args.x)), λ A tabled k lt q. omega arith)
+    (omega arith, (λ A r tabled holds lt. omega (arith, up_to_none A r c.before.args.x)), λ A tabled k lt q. omega arith)
 
 mul_wide : tie.Need-overflow-mul-wide invariant-loop decreases-loop
 mul_wide c = search rules
@@ -76,10 +76,10 @@ loop-again c =
     let ct = c.before.count_at in (
       omega arith,
       (λ A r tabled holds lt.
-          add-on A a.p a.table.now tabled st.requires.0 a.x st.requires.1 lp.c wd.result hc wd.ensures.0 c.before.before.before.if1.false
+          add_on A a.p a.table.now tabled st.requires.0 a.x st.requires.1 lp.c wd.result hc wd.ensures.0 c.before.before.before.if1.false
           r a.cells.now holds ct.result ct.ensures lp.before c.add-saturating.result (omega arith) (lp.invariant.1 A r tabled holds lt) c.add-saturating.ensures),
       λ A tabled.
-          found-later A a.p a.table.now tabled st.requires.0 a.x st.requires.1 lp.c wd.result hc wd.ensures.0 c.before.before.before.if1.false
+          found_later A a.p a.table.now tabled st.requires.0 a.x st.requires.1 lp.c wd.result hc wd.ensures.0 c.before.before.before.if1.false
           a.e (lp.invariant.2 A tabled) c.before.before.if2.false,
     )
 
@@ -100,7 +100,7 @@ returns-3 c =
     let lp = c.before.before.before.before.loop in
     let wd = c.before.wide in
     found_nowhere A a.p a.table.now tabled st.requires.0 a.x st.requires.1 lp.c
-    (past-last A a.p a.table.now tabled st.requires.0 a.x st.requires.1 lp.c wd.result c.before.before.before.loop-test.true wd.ensures.0 c.if1.true)
+    (past_last A a.p a.table.now tabled st.requires.0 a.x st.requires.1 lp.c wd.result c.before.before.before.loop-test.true wd.ensures.0 c.if1.true)
     a.e r (lp.invariant.2 A tabled)
 
 pub find-event-spec : {M : Type 1} → statement M

@@ -3,21 +3,21 @@ use mathlib.Core.Path.{◌≡◌, refl, sym, ◌∙◌}
 use Prim.Native.Nat.{◌-◌, ◌≤◌}
 use native.Mathlib.Omega.{arith}
 use lib.ListN.{length, drop}
-use Rattle.promises.specs.Calls.{notBelow, firstBad, firstBadFrom}
-use Rattle.promises.proofs.Checks.{bad-here, bad-later, bad-nowhere}
+use Rattle.promises.specs.Calls.{not_below, first_bad, first_bad_from}
+use Rattle.promises.proofs.Checks.{bad_here, bad_later, bad_nowhere}
 use borrow.Author.Rules.{rules}
 use Rattle.ranking.proofs.first_not_below.Statement.{statement}
 use Rattle.ranking.proofs.first_not_below.Tie as tie
 
 abbrev invariant-loop : tie.invariant-loop
 invariant-loop list n k₀ k-end k =
-    (k ≤ length list) × (firstBad (notBelow n) list ≡ firstBadFrom (notBelow n) k (drop k list))
+    (k ≤ length list) × (first_bad (not_below n) list ≡ first_bad_from (not_below n) k (drop k list))
 
 abbrev decreases-loop : tie.decreases-loop
 decreases-loop list n k₀ k-end k = length list - k
 
 loop-holds : tie.Need-loop-init invariant-loop decreases-loop
-unfolding firstBad
+unfolding first_bad
 loop-holds c = (omega arith, refl)
 
 mul-if1 : tie.Need-overflow-mul-if1 invariant-loop decreases-loop
@@ -30,7 +30,7 @@ returns : tie.Need-returns invariant-loop decreases-loop
 returns c =
     let a = c.before.before.before.before.args in
     let lp = c.before.before.before.loop in
-    sym (lp.invariant.1 ∙ bad-here a.n a.list.now lp.k c.before.before.loop-test.true c.if1.true)
+    sym (lp.invariant.1 ∙ bad_here a.n a.list.now lp.k c.before.before.loop-test.true c.if1.true)
 
 add-k : tie.Need-overflow-add-k invariant-loop decreases-loop
 add-k c = search rules
@@ -42,14 +42,14 @@ loop-again : tie.Need-loop-preserved invariant-loop decreases-loop
 loop-again c =
     let a = c.before.before.before.before.args in
     let lp = c.before.before.before.loop in
-    (omega arith, lp.invariant.1 ∙ bad-later a.n a.list.now lp.k c.before.before.loop-test.true c.if1.false)
+    (omega arith, lp.invariant.1 ∙ bad_later a.n a.list.now lp.k c.before.before.loop-test.true c.if1.false)
 
 returns-2 : tie.Need-returns-2 invariant-loop decreases-loop
 returns-2 c =
     let a = c.before.before.args in
     let lp = c.before.loop in
     let e : length a.list.now ≡ lp.k = omega arith in
-    e ∙ sym (lp.invariant.1 ∙ bad-nowhere a.n a.list.now lp.k (omega arith))
+    e ∙ sym (lp.invariant.1 ∙ bad_nowhere a.n a.list.now lp.k (omega arith))
 
 pub first-not-below-spec : {M : Type 1} → statement M
 first-not-below-spec =

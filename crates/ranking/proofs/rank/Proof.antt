@@ -1,5 +1,5 @@
 -- The invariant: the events passed lead to the state reached by live states, and the index so far is their part of the rank (`Along`). Each event goes on
--- so (`along-step`) or is the violation (`along-off`); at the end nothing is left to rank (`along-end`).
+-- so (`along_step`) or is the violation (`along_off`); at the end nothing is left to rank (`along_end`).
 use mathlib.Core.Path.{◌≡◌}
 use Prim.Native.Nat.{◌+◌, ◌-◌, ◌*◌, ◌≤◌, ◌<◌}
 use native.Mathlib.Omega.{arith}
@@ -7,8 +7,8 @@ use lib.ListN.{length, get_or, length-take, length-drop}
 use Rattle.automaton.specs.Automaton.{Automaton}
 use Rattle.ranking.specs.Ranks.{Exact, FoundOrNot}
 use Rattle.ranking.proofs.Rows.{row_within}
-use Rattle.ranking.proofs.Premises.{whole_row, whole-few}
-use Rattle.ranking.proofs.Along.{Along, along-start, along-end, along-off, along-least, along-step}
+use Rattle.ranking.proofs.Premises.{whole_row, whole_few}
+use Rattle.ranking.proofs.Along.{Along, along_start, along_end, along_off, along_least, along_step}
 use borrow.Author.Rules.{rules}
 use Rattle.ranking.proofs.rank.Statement.{statement}
 use Rattle.ranking.proofs.rank.Tie as tie
@@ -23,7 +23,7 @@ decreases-loop cells table p x s h index₀ at₀ k₀ index at k = length s - k
 loop-holds : tie.Need-loop-init invariant-loop decreases-loop
 loop-holds c =
     let a = c.before.before.args in
-    (omega arith, omega arith, λ A exact. along-start A a.x a.s.now)
+    (omega arith, omega arith, λ A exact. along_start A a.x a.s.now)
 
 sub-from : tie.Need-overflow-sub-from invariant-loop decreases-loop
 sub-from c = search rules
@@ -81,9 +81,9 @@ returns c =
     let told : (A : Automaton) → Exact A a.p 0 (length s) a.x a.table.now a.cells.now → FoundOrNot A a.p r lp.at (get_or s lp.k 0) f.result =
     λ A exact.
     f.ensures A r exact.tabled (whole_row A a.p (length s) a.x a.table.now a.cells.now exact r (omega arith))
-    (along-least A a.x s lp.k lp.at lp.index lt (whole-few A a.p (length s) a.x a.table.now a.cells.now exact) (lp.invariant.2 A exact)) in
+    (along_least A a.x s lp.k lp.at lp.index lt (whole_few A a.p (length s) a.x a.table.now a.cells.now exact) (lp.invariant.2 A exact)) in
     λ A exact.
-    along-off A a.x s lp.k lp.at lp.index lt (whole-few A a.p (length s) a.x a.table.now a.cells.now exact) (lp.invariant.2 A exact) ((told A exact).not_live c.if1.true)
+    along_off A a.x s lp.k lp.at lp.index lt (whole_few A a.p (length s) a.x a.table.now a.cells.now exact) (lp.invariant.2 A exact) ((told A exact).not_live c.if1.true)
 
 add-saturating-requires : tie.Need-add-saturating-requires invariant-loop decreases-loop
 add-saturating-requires c κs = search rules
@@ -106,12 +106,12 @@ loop-again c =
     let told : (A : Automaton) → Exact A a.p 0 (length s) a.x a.table.now a.cells.now → FoundOrNot A a.p r lp.at (get_or s lp.k 0) f.result =
     λ A exact.
     f.ensures A r exact.tabled (whole_row A a.p (length s) a.x a.table.now a.cells.now exact r (omega arith))
-    (along-least A a.x s lp.k lp.at lp.index lt (whole-few A a.p (length s) a.x a.table.now a.cells.now exact) (lp.invariant.2 A exact)) in (
+    (along_least A a.x s lp.k lp.at lp.index lt (whole_few A a.p (length s) a.x a.table.now a.cells.now exact) (lp.invariant.2 A exact)) in (
       omega arith,
       omega arith,
       λ A exact.
           let n : A.states ≡ a.p = exact.tabled.states in
-          along-step A a.x s lp.k lp.at lp.index lt (whole-few A a.p (length s) a.x a.table.now a.cells.now exact) (lp.invariant.2 A exact) f.result c.add-saturating.result (omega arith)
+          along_step A a.x s lp.k lp.at lp.index lt (whole_few A a.p (length s) a.x a.table.now a.cells.now exact) (lp.invariant.2 A exact) f.result c.add-saturating.result (omega arith)
           ((told A exact).goes_on c.before.if1.false) c.add-saturating.ensures,
     )
 
@@ -120,7 +120,7 @@ returns-2 c =
     λ A exact.
     let a = c.before.before.before.before.args in
     let lp = c.before.loop in
-    along-end A a.x a.s.now lp.k lp.at lp.index (omega arith) (lp.invariant.2 A exact)
+    along_end A a.x a.s.now lp.k lp.at lp.index (omega arith) (lp.invariant.2 A exact)
 
 pub rank-spec : {M : Type 1} → statement M
 rank-spec =

@@ -7,11 +7,11 @@ use native.Mathlib.Omega.{arith}
 use native.Mathlib.Nat.{zero-mul}
 use lib.ListN.{length, get_or, take, drop}
 use lib.Seq.{take-length}
-use Rattle.lists.specs.Lists.{concatMap}
+use Rattle.lists.specs.Lists.{concat_map}
 use Rattle.automaton.specs.Automaton.{Automaton}
 use Rattle.automaton.specs.Counting.{N}
 use Rattle.automaton.specs.Ranking.{unrank}
-use Rattle.ranking.specs.Ranks.{Exact, IndicesBelow, withScenarios}
+use Rattle.ranking.specs.Ranks.{Exact, IndicesBelow, with_scenarios}
 use Rattle.ranking.proofs.Rows.{row_within}
 use Rattle.ranking.proofs.Walk.{length-unrank, length_part, walk_step}
 use borrow.Author.Rules.{rules}
@@ -21,7 +21,7 @@ use Rattle.ranking.proofs.unrank_all.Tie as tie
 abbrev invariant-loop : tie.invariant-loop
 invariant-loop cells table p x h list out₀ n₀ n-end out n =
     (n ≤ length list) × (length out ≡ length out₀)
-    × ((A : Automaton) → Exact A p 0 h x table cells → IndicesBelow (N A h x) list → out ≡ concatMap (unrank A h x) (take n list) ++ drop (n * h) out₀)
+    × ((A : Automaton) → Exact A p 0 h x table cells → IndicesBelow (N A h x) list → out ≡ concat_map (unrank A h x) (take n list) ++ drop (n * h) out₀)
 
 abbrev decreases-loop : tie.decreases-loop
 decreases-loop cells table p x h list out₀ n₀ n-end out n = length list - n
@@ -104,15 +104,15 @@ same_length : tie.Need-same-length invariant-loop decreases-loop
 same_length c = search rules
 
 returns : tie.Need-returns invariant-loop decreases-loop
-unfolding withScenarios
+unfolding with_scenarios
 returns c =
     λ A exact below.
     let a = c.before.before.before.before.before.args in
     let lp = c.before.loop in
     let e : lp.n ≡ length a.list.now = omega arith in
     lp.invariant.2 A exact below
-    ∙ ap (λ (n : ℕ). concatMap (unrank A a.h a.x) (take n a.list.now) ++ drop (n * a.h) a.out.now) e
-    ∙ ap (λ (l : List ℕ). concatMap (unrank A a.h a.x) l ++ drop (length a.list.now * a.h) a.out.now) (take-length a.list.now)
+    ∙ ap (λ (n : ℕ). concat_map (unrank A a.h a.x) (take n a.list.now) ++ drop (n * a.h) a.out.now) e
+    ∙ ap (λ (l : List ℕ). concat_map (unrank A a.h a.x) l ++ drop (length a.list.now * a.h) a.out.now) (take-length a.list.now)
 
 pub unrank-all-spec : {M : Type 1} → statement M
 unrank-all-spec =

@@ -1,4 +1,4 @@
--- The list is checked to its end first: a place below its length is told and nothing written. Else every index is below the count (`good-all`), and all
+-- The list is checked to its end first: a place below its length is told and nothing written. Else every index is below the count (`good_all`), and all
 -- are written.
 use mathlib.Core.Path.{subst}
 use Prim.Native.Nat.{ℕ, ◌≤◌}
@@ -6,7 +6,7 @@ use lib.ListN.{length}
 use borrow.Author.Tests.{lt-ltb, le-ltb}
 use Rattle.automaton.specs.Counting.{N}
 use Rattle.ranking.specs.Ranks.{IndicesBelow}
-use Rattle.ranking.proofs.Walk.{good-all}
+use Rattle.ranking.proofs.Walk.{good_all}
 use borrow.Author.Rules.{rules}
 use Rattle.ranking.proofs.unrank_list.Statement.{statement}
 use Rattle.ranking.proofs.unrank_list.Tie as tie
@@ -32,7 +32,7 @@ returns-2 c =
       place.ensures,
       λ A exact is.
           let below : IndicesBelow (N A a.h a.x) a.list.now =
-          subst (λ (n : ℕ). IndicesBelow n a.list.now) is (good-all a.count a.list.now (subst (λ (n : ℕ). length a.list.now ≤ n) place.ensures past)) in
+          subst (λ (n : ℕ). IndicesBelow n a.list.now) is (good_all a.count a.list.now (subst (λ (n : ℕ). length a.list.now ≤ n) place.ensures past)) in
           rw (le-ltb place.result (length a.list.now) past) (c.before.before.unrank-all.ensures A exact below),
     )
 

@@ -1,5 +1,5 @@
 -- The invariant: the first events stand at the front, and the rest is the scenario of what is left of the index from the state reached. The next part is unranked
--- by the rows of what is left after it (`next-exact`) and follows them (`next-begun`).
+-- by the rows of what is left after it (`next_exact`) and follows them (`next_begun`).
 use mathlib.Core.Path.{◌≡◌, refl, sym, ◌∙◌, subst}
 use Prim.Native.Nat.{ℕ, ◌+◌, ◌-◌, ◌*◌, ◌≤◌, ◌<◌}
 use native.Mathlib.Omega.{arith}
@@ -10,8 +10,8 @@ use Rattle.automaton.specs.Counting.{N}
 use Rattle.ranking.specs.Ranks.{Exact, Begun}
 use Rattle.ranking.proofs.Rows.{rows-within}
 use Rattle.ranking.proofs.Walk.{length_part}
-use Rattle.ranking.proofs.Premises.{whole-few}
-use Rattle.ranking.proofs.Parts.{begun_first, begun_all, next-exact, next-below, next-begun}
+use Rattle.ranking.proofs.Premises.{whole_few}
+use Rattle.ranking.proofs.Parts.{begun_first, begun_all, next_exact, next_below, next_begun}
 use borrow.Author.Rules.{rules}
 use Rattle.ranking.proofs.unrank_whole.Statement.{statement}
 use Rattle.ranking.proofs.unrank_whole.Tie as tie
@@ -33,7 +33,7 @@ loop-holds c =
       refl,
       st.requires.1,
       λ A exact below.
-          subst (λ (n : ℕ). Begun A a.x h a.i 0 n a.x a.i 0 a.out.now) (sym (sub-zero h)) (begun_first A a.x h a.i 0 a.out.now (whole-few A a.p h a.x a.table.now a.cells.now exact) below),
+          subst (λ (n : ℕ). Begun A a.x h a.i 0 n a.x a.i 0 a.out.now) (sym (sub-zero h)) (begun_first A a.x h a.i 0 a.out.now (whole_few A a.p h a.x a.table.now a.cells.now exact) below),
     )
 
 sub-smaller : tie.Need-overflow-sub-smaller invariant-loop decreases-loop
@@ -112,8 +112,8 @@ loop-again c =
       u.ensures.0,
       λ A exact below.
           let is = lp.invariant.3 A exact below in
-          let told = u.ensures.1 A (h - (lp.at + m)) (next-exact A a.x h a.i lp.at m lp.state lp.left lp.out le is q a.p a.table.now a.cells.now st.requires.2 exact) (next-below A a.x h a.i lp.at m lp.state lp.left lp.out le is q) in
-          next-begun A a.x h a.i lp.at m lp.state lp.left lp.out le is q _ u.result _ lp.invariant.1 told,
+          let told = u.ensures.1 A (h - (lp.at + m)) (next_exact A a.x h a.i lp.at m lp.state lp.left lp.out le is q a.p a.table.now a.cells.now st.requires.2 exact) (next_below A a.x h a.i lp.at m lp.state lp.left lp.out le is q) in
+          next_begun A a.x h a.i lp.at m lp.state lp.left lp.out le is q _ u.result _ lp.invariant.1 told,
     )
 
 same_length : tie.Need-same-length invariant-loop decreases-loop

@@ -10,19 +10,19 @@ use mathlib.Core.List.{[]}
 use lib.ListN.{replicate, length-replicate, get_or-replicate, length-drop, length-take}
 use lib.Seq.{length-take-le}
 use Rattle.promises.specs.Answer.{served, refused}
-use Rattle.rig.specs.Record.{emptyRig}
-use Rattle.decoding.proofs.Parts.{indexOf-le}
+use Rattle.rig.specs.Record.{empty_rig}
+use Rattle.decoding.proofs.Parts.{index_of_le}
 use Rattle.decoding.proofs.Listed.{length_over}
 use Rattle.taking.specs.declared.Taken.TheVariants.{Next, Same}
-use Rattle.taking.specs.Taking.{case_of, outcome, sizesAfter}
+use Rattle.taking.specs.Taking.{case_of, outcome, sizes_after}
 use Rattle.reader.proofs.Held.{room}
-use Rattle.reader.proofs.Passing.{Passed, passed_none, taken-good, stops-unended, stops-bad, goes_on, ends-none, ends-served, ends-record, reading-long, reading-whole, answers-refusal, answers-record}
+use Rattle.reader.proofs.Passing.{Passed, passed_none, taken_good, stops_unended, stops_bad, goes_on, ends_none, ends_served, ends_record, reading_long, reading_whole, answers_refusal, answers_record}
 use borrow.Author.Rules.{rules}
 use Rattle.reader.proofs.read.Statement.{statement}
 use Rattle.reader.proofs.read.Tie as tie
 
 abbrev invariant-loop : tie.invariant-loop
-invariant-loop text moves₀ stops₀ given₀ counts₀ starts₀ order₀ sizes₀ line₀ at₀ moves stops given counts starts order sizes line at = Passed emptyRig text sizes line at moves stops given counts starts order
+invariant-loop text moves₀ stops₀ given₀ counts₀ starts₀ order₀ sizes₀ line₀ at₀ moves stops given counts starts order sizes line at = Passed empty_rig text sizes line at moves stops given counts starts order
 
 abbrev decreases-loop : tie.decreases-loop
 decreases-loop text moves₀ stops₀ given₀ counts₀ starts₀ order₀ sizes₀ line₀ at₀ moves stops given counts starts order sizes line at = length text - at
@@ -31,7 +31,7 @@ refused-requires : tie.Need-refused-requires invariant-loop decreases-loop
 refused-requires c κs = search rules
 
 returns : tie.Need-returns invariant-loop decreases-loop
-returns c = answers-refusal c.before.before.before.args.text.now c.refused.result 1 0 c.refused.ensures (reading-long c.before.before.before.args.text.now c.before.if1.true)
+returns c = answers_refusal c.before.before.before.args.text.now c.refused.result 1 0 c.refused.ensures (reading_long c.before.before.before.args.text.now c.before.if1.true)
 
 lower-first-requires : tie.Need-lower-first-requires invariant-loop decreases-loop
 lower-first-requires c κs = search rules
@@ -59,15 +59,15 @@ returns-2 c =
     let t = c.before.before.before.before.before.before.before.before.before.args.text.now in
     let lp = c.before.before.before.before.before.loop in
     let u = c.before.before.until in
-    answers-refusal t c.refused2.result 2 lp.line c.refused2.ensures
-    (reading-whole t c.before.before.before.before.before.before.before.if1.false (refused 2 lp.line) (stops-unended emptyRig t lp.sizes lp.line lp.at lp.moves lp.stops lp.given lp.counts lp.starts lp.order lp.invariant c.before.before.before.before.loop-test.true u.result u.ensures c.before.if2.true))
+    answers_refusal t c.refused2.result 2 lp.line c.refused2.ensures
+    (reading_whole t c.before.before.before.before.before.before.before.if1.false (refused 2 lp.line) (stops_unended empty_rig t lp.sizes lp.line lp.at lp.moves lp.stops lp.given lp.counts lp.starts lp.order lp.invariant c.before.before.before.before.loop-test.true u.result u.ensures c.before.if2.true))
 
 slice-aggregate-decode : tie.Need-slice-aggregate-decode invariant-loop decreases-loop
 slice-aggregate-decode c =
     let t = c.before.before.before.before.before.before.before.before.before.args.text.now in
     let lp = c.before.before.before.before.before.loop in
     let u = c.before.before.until in
-    sym (length-take-le u.result (take (length t - lp.at) (drop lp.at t)) (rw u.ensures (indexOf-le (take (length t - lp.at) (drop lp.at t)) 10)))
+    sym (length-take-le u.result (take (length t - lp.at) (drop lp.at t)) (rw u.ensures (index_of_le (take (length t - lp.at) (drop lp.at t)) 10)))
 
 slice-aggregate-decode-2 : tie.Need-slice-aggregate-decode-2 invariant-loop decreases-loop
 slice-aggregate-decode-2 c = search rules
@@ -97,7 +97,7 @@ take-line-requires : tie.Need-take-line-requires invariant-loop decreases-loop
 take-line-requires c κs =
     let h = c.before.before.before.before.before.before.before.before.before.before.before.before.before.before.loop.invariant.holds in
     let d = c.before.before.before.before.before.before.before.decode in
-    (h.long, h.wide-stops, h.wide-given, h.wide, h.wide-starts, ap length d.ensures.1 ∙ length_over _ _ ∙ h.wide-order, room _ _ _ _ _ _ _ _ _ h)
+    (h.long, h.wide_stops, h.wide_given, h.wide, h.wide_starts, ap length d.ensures.1 ∙ length_over _ _ ∙ h.wide_order, room _ _ _ _ _ _ _ _ _ h)
 
 enum-known-z : tie.Need-enum-known-z invariant-loop decreases-loop
 enum-known-z c = search rules
@@ -119,8 +119,8 @@ returns-3 c =
     let d = c.before.before.before.before.before.before.before.before.before.before.before.before.before.before.before.before.before.decode in
     let tk = c.before.before.before.before.before.before.before.before.before.take-line in
     let n = c.before.before.number.given in
-    answers-refusal t c.refused3.result n.0.0 lp.line c.refused3.ensures
-    (reading-whole t c.before.before.before.before.before.before.before.before.before.before.before.before.before.before.before.before.before.before.before.before.before.before.before.before.before.before.if1.false (refused n.0.0 lp.line) (stops-bad emptyRig t lp.sizes lp.line lp.at lp.moves lp.stops lp.given lp.counts lp.starts lp.order lp.invariant u.result u.ensures c.before.before.before.before.before.before.before.before.before.before.before.before.before.before.before.before.before.before.before.before.if2.false d.result d.ensures.0 d.new.1.0 d.ensures.1 n.0.0 (sym n.1 ∙ tk.ensures.0)))
+    answers_refusal t c.refused3.result n.0.0 lp.line c.refused3.ensures
+    (reading_whole t c.before.before.before.before.before.before.before.before.before.before.before.before.before.before.before.before.before.before.before.before.before.before.before.before.before.before.if1.false (refused n.0.0 lp.line) (stops_bad empty_rig t lp.sizes lp.line lp.at lp.moves lp.stops lp.given lp.counts lp.starts lp.order lp.invariant u.result u.ensures c.before.before.before.before.before.before.before.before.before.before.before.before.before.before.before.before.before.before.before.before.if2.false d.result d.ensures.0 d.new.1.0 d.ensures.1 n.0.0 (sym n.1 ∙ tk.ensures.0)))
 
 add-line : tie.Need-overflow-add-line invariant-loop decreases-loop
 add-line c = let lp = c.before.before.before.before.before.before.before.before.before.before.before.before.before.before.before.before.before.before.before.before.before.loop in record { fits = omega (arith, lp.invariant.early, lp.invariant.inside, c.before.before.before.before.before.before.before.before.before.before.before.before.before.before.before.before.before.before.before.before.before.before.before.if1.false) }
@@ -131,7 +131,7 @@ add_at c =
     let lp = c.before.before.before.before.before.before.before.before.before.before.before.before.before.before.before.before.before.before.before.before.before.loop in
     let u = c.before.before.before.before.before.before.before.before.before.before.before.before.before.before.before.before.before.before.until in
     let rest = take (length t - lp.at) (drop lp.at t) in
-    let h : u.result ≤ length rest = rw u.ensures (indexOf-le rest 10) in
+    let h : u.result ≤ length rest = rw u.ensures (index_of_le rest 10) in
     omega (arith, c.before.before.before.before.before.before.before.before.before.before.before.before.before.before.before.before.before.before.before.before.before.before.before.if1.false, length-take (length t - lp.at) (drop lp.at t), length-drop lp.at t)
 
 add-at-2 : tie.Need-overflow-add-at-2 invariant-loop decreases-loop
@@ -140,7 +140,7 @@ add-at-2 c =
     let lp = c.before.before.before.before.before.before.before.before.before.before.before.before.before.before.before.before.before.before.before.before.before.loop in
     let u = c.before.before.before.before.before.before.before.before.before.before.before.before.before.before.before.before.before.before.until in
     let rest = take (length t - lp.at) (drop lp.at t) in
-    let h : u.result ≤ length rest = rw u.ensures (indexOf-le rest 10) in
+    let h : u.result ≤ length rest = rw u.ensures (index_of_le rest 10) in
     omega (arith, c.before.before.before.before.before.before.before.before.before.before.before.before.before.before.before.before.before.before.before.before.before.before.before.if1.false, length-take (length t - lp.at) (drop lp.at t), length-drop lp.at t)
 
 loop-less : tie.Need-loop-smaller invariant-loop decreases-loop
@@ -155,11 +155,11 @@ loop-again c =
     let tk = c.before.before.before.before.before.before.take-line in
     let e = tk.ensures.1 in
     let l = tk.new in
-    let (none, y) : (case_of lp.moves lp.stops lp.given d.new.1.0 lp.sizes lp.line d.result ≡ 0) × (c.match.sizes ≡ sizesAfter lp.sizes d.result) = ⊎_elim
-    (λ (m, z, k, q). let (n, y) = taken-good (case_of lp.moves lp.stops lp.given d.new.1.0 lp.sizes lp.line d.result) (outcome lp.sizes d.result) (Next z.given.0.0) lp.sizes tt (sym z.given.1 ∙ tk.ensures.0) in (n, q ∙ y))
-    (λ (m, s, q). let (n, y) = taken-good (case_of lp.moves lp.stops lp.given d.new.1.0 lp.sizes lp.line d.result) (outcome lp.sizes d.result) Same lp.sizes tt (sym s.given.1 ∙ tk.ensures.0) in (n, q ∙ y))
+    let (none, y) : (case_of lp.moves lp.stops lp.given d.new.1.0 lp.sizes lp.line d.result ≡ 0) × (c.match.sizes ≡ sizes_after lp.sizes d.result) = ⊎_elim
+    (λ (m, z, k, q). let (n, y) = taken_good (case_of lp.moves lp.stops lp.given d.new.1.0 lp.sizes lp.line d.result) (outcome lp.sizes d.result) (Next z.given.0.0) lp.sizes tt (sym z.given.1 ∙ tk.ensures.0) in (n, q ∙ y))
+    (λ (m, s, q). let (n, y) = taken_good (case_of lp.moves lp.stops lp.given d.new.1.0 lp.sizes lp.line d.result) (outcome lp.sizes d.result) Same lp.sizes tt (sym s.given.1 ∙ tk.ensures.0) in (n, q ∙ y))
     c.match.branch in
-    goes_on emptyRig t lp.sizes lp.line lp.at lp.moves lp.stops lp.given lp.counts lp.starts lp.order lp.invariant u.result u.ensures c.before.before.before.before.before.before.before.before.before.before.before.before.before.before.before.before.before.if2.false d.result d.ensures.0 d.new.1.0 d.ensures.1 c.match.sizes l.0 l.1.0 l.1.1.0 l.1.1.1.0 l.1.1.1.1.0 none y e.0 e.1.0 e.1.1.0 e.1.1.1.0 e.1.1.1.1
+    goes_on empty_rig t lp.sizes lp.line lp.at lp.moves lp.stops lp.given lp.counts lp.starts lp.order lp.invariant u.result u.ensures c.before.before.before.before.before.before.before.before.before.before.before.before.before.before.before.before.before.if2.false d.result d.ensures.0 d.new.1.0 d.ensures.1 c.match.sizes l.0 l.1.0 l.1.1.0 l.1.1.1.0 l.1.1.1.1.0 none y e.0 e.1.0 e.1.1.0 e.1.1.1.0 e.1.1.1.1
 
 refused-requires-4 : tie.Need-refused-requires-4 invariant-loop decreases-loop
 refused-requires-4 c κs = search rules
@@ -168,16 +168,16 @@ returns-4 : tie.Need-returns-4 invariant-loop decreases-loop
 returns-4 c =
     let t = c.before.before.before.before.before.before.before.before.args.text.now in
     let lp = c.before.before.before.before.loop in
-    answers-refusal t c.refused4.result 5 lp.line c.refused4.ensures
-    (reading-whole t c.before.before.before.before.before.before.if1.false (refused 5 lp.line) (ends-none emptyRig t lp.sizes lp.line lp.at lp.moves lp.stops lp.given lp.counts lp.starts lp.order lp.invariant c.before.before.before.loop-test.false c.before.if3.true))
+    answers_refusal t c.refused4.result 5 lp.line c.refused4.ensures
+    (reading_whole t c.before.before.before.before.before.before.if1.false (refused 5 lp.line) (ends_none empty_rig t lp.sizes lp.line lp.at lp.moves lp.stops lp.given lp.counts lp.starts lp.order lp.invariant c.before.before.before.loop-test.false c.before.if3.true))
 
 returns-5 : tie.Need-returns-5 invariant-loop decreases-loop
 returns-5 c =
     let t = c.before.before.before.before.before.before.before.args.text.now in
     let lp = c.before.before.before.loop in
-    answers-record t (record { moves = lp.moves; stops = lp.stops; counts = lp.counts; starts = lp.starts; order = lp.order; monitors = lp.sizes.monitors; events = lp.sizes.events })
-    (reading-whole t c.before.before.before.before.before.if1.false (served []) (ends-served emptyRig t lp.sizes lp.line lp.at lp.moves lp.stops lp.given lp.counts lp.starts lp.order lp.invariant c.before.before.loop-test.false c.if3.false))
-    (ends-record emptyRig t lp.sizes lp.line lp.at lp.moves lp.stops lp.given lp.counts lp.starts lp.order lp.invariant c.before.before.loop-test.false)
+    answers_record t (record { moves = lp.moves; stops = lp.stops; counts = lp.counts; starts = lp.starts; order = lp.order; monitors = lp.sizes.monitors; events = lp.sizes.events })
+    (reading_whole t c.before.before.before.before.before.if1.false (served []) (ends_served empty_rig t lp.sizes lp.line lp.at lp.moves lp.stops lp.given lp.counts lp.starts lp.order lp.invariant c.before.before.loop-test.false c.if3.false))
+    (ends_record empty_rig t lp.sizes lp.line lp.at lp.moves lp.stops lp.given lp.counts lp.starts lp.order lp.invariant c.before.before.loop-test.false)
 
 pub read_spec : {M : Type 1} → statement M
 read_spec =

@@ -5,7 +5,7 @@ use native.Mathlib.Omega.{arith}
 use lib.ListN.{take}
 use lib.Seq.{take_all}
 use borrow.Author.Tests.{eqb-true}
-use Rattle.sheets.proofs.SharedStarts.{alike-more}
+use Rattle.sheets.proofs.SharedStarts.{alike_more}
 use borrow.Author.Rules.{rules}
 use Rattle.sheets.proofs.alike.Statement.{statement}
 use Rattle.sheets.proofs.alike.Tie as tie
@@ -44,7 +44,7 @@ loop-again c =
     let e = c.same-event.ensures in (
       omega arith,
       omega (arith, e.0),
-      λ q. alike-more st.a.now st.b.now lp.i (omega arith) (omega arith) (lp.invariant.2 (omega (arith, e.0))) (e.1 (omega (arith, e.0))),
+      λ q. alike_more st.a.now st.b.now lp.i (omega arith) (omega arith) (lp.invariant.2 (omega (arith, e.0))) (e.1 (omega (arith, e.0))),
     )
 
 returns : tie.Need-returns invariant-loop decreases-loop

@@ -4,7 +4,7 @@ use native.Mathlib.Omega.{arith}
 use lib.ListN.{length-append}
 use Rattle.decimal.proofs.Digits.{decimal-fits}
 use Rattle.line.proofs.Pieces.{fields-short}
-use Rattle.sheets.proofs.Texts.{leg-saved, leg-unsaved, run_long, slot-long}
+use Rattle.sheets.proofs.Texts.{leg_saved, leg_unsaved, run_long, slot-long}
 use borrow.Author.Rules.{rules}
 use Rattle.sheets.proofs.leg_length.Statement.{statement}
 use Rattle.sheets.proofs.leg_length.Tie as tie
@@ -29,7 +29,7 @@ returns : tie.Need-returns
 returns c =
     let st = c.before.before.before.before.args in
     let es = st.run.now in (
-      rw (leg-saved st.g st.j es c.before.if1.true, length-append) (omega (arith, run_long es, slot-long "save" st.j refl)),
+      rw (leg_saved st.g st.j es c.before.if1.true, length-append) (omega (arith, run_long es, slot-long "save" st.j refl)),
       omega (arith, fields-short es (λ k. omega (arith, c.before.before.before.shared-slice-known.given k)), decimal-fits st.j (omega arith)),
     )
 
@@ -37,7 +37,7 @@ returns-2 : tie.Need-returns-2
 returns-2 c =
     let st = c.before.before.before.args in
     let es = st.run.now in
-    (rw (leg-unsaved st.g st.j es c.if1.false) (omega (arith, run_long es)), omega (arith, fields-short es (λ k. omega (arith, c.before.before.shared-slice-known.given k))))
+    (rw (leg_unsaved st.g st.j es c.if1.false) (omega (arith, run_long es)), omega (arith, fields-short es (λ k. omega (arith, c.before.before.shared-slice-known.given k))))
 
 pub leg-length-spec : {M : Type 1} → statement M
 leg-length-spec =

@@ -1,11 +1,11 @@
--- `sheets::legs_length`: the bytes of the legs up to `from` are counted, and with those of the rest they are all. `one-leg` is one leg more.
+-- `sheets::legs_length`: the bytes of the legs up to `from` are counted, and with those of the rest they are all. `one_leg` is one leg more.
 -- Assumes nothing.
 use mathlib.Core.Path.{◌≡◌, ap}
 use Prim.Native.Nat.{◌+◌, ◌-◌, ◌*◌, ◌≤◌}
 use native.Mathlib.Omega.{arith}
 use lib.ListN.{length, drop}
-use Rattle.sheets.specs.Writing.{legsText}
-use Rattle.sheets.proofs.Parts.{one-leg, length_more, legs-end}
+use Rattle.sheets.specs.Writing.{legs_text}
+use Rattle.sheets.proofs.Parts.{one_leg, length_more, legs_end}
 use borrow.Author.Rules.{rules}
 use Rattle.sheets.proofs.legs_length.Statement.{statement}
 use Rattle.sheets.proofs.legs_length.Tie as tie
@@ -13,7 +13,7 @@ use Rattle.sheets.proofs.legs_length.Tie as tie
 abbrev invariant-loop : tie.invariant-loop
 invariant-loop rest g slot bytes₀ from₀ j₀ bytes from j =
     (from ≤ length rest) × (j ≤ slot + from)
-    × (bytes + length (legsText g j (drop from rest)) ≡ length (legsText g slot rest)) × (bytes ≤ 4030 * from)
+    × (bytes + length (legs_text g j (drop from rest)) ≡ length (legs_text g slot rest)) × (bytes ≤ 4030 * from)
 
 abbrev decreases-loop : tie.decreases-loop
 decreases-loop rest g slot bytes₀ from₀ j₀ bytes from j = length rest - from
@@ -31,7 +31,7 @@ leg-length-requires : tie.Need-leg-length-requires invariant-loop decreases-loop
 leg-length-requires c κs =
     let st = c.before.before.before.before.args in
     let lp = c.before.before.loop in
-    omega (arith, (one-leg st.g c.before.before.before.before.requires.0 lp.j lp.from st.rest.now _ c.leg.ensures c.before.loop-test.true).within)
+    omega (arith, (one_leg st.g c.before.before.before.before.requires.0 lp.j lp.from st.rest.now _ c.leg.ensures c.before.loop-test.true).within)
 
 add-bytes : tie.Need-overflow-add-bytes invariant-loop decreases-loop
 add-bytes c = omega arith
@@ -40,27 +40,27 @@ add-from : tie.Need-overflow-add-from invariant-loop decreases-loop
 add-from c =
     let st = c.before.before.before.before.before.args in
     let lp = c.before.before.before.loop in
-    omega (arith, (one-leg st.g c.before.before.before.before.before.requires.0 lp.j lp.from st.rest.now _ c.before.leg.ensures c.before.before.loop-test.true).within)
+    omega (arith, (one_leg st.g c.before.before.before.before.before.requires.0 lp.j lp.from st.rest.now _ c.before.leg.ensures c.before.before.loop-test.true).within)
 
 loop-less : tie.Need-loop-smaller invariant-loop decreases-loop
 loop-less c =
     let st = c.before.before.before.before.before.args in
     let lp = c.before.before.before.loop in
-    let l = one-leg st.g c.before.before.before.before.before.requires.0 lp.j lp.from st.rest.now _ c.before.leg.ensures c.before.before.loop-test.true in
+    let l = one_leg st.g c.before.before.before.before.before.requires.0 lp.j lp.from st.rest.now _ c.before.leg.ensures c.before.before.loop-test.true in
     omega (arith, l.some, l.within)
 
 loop-again : tie.Need-loop-preserved invariant-loop decreases-loop
 loop-again c =
     let st = c.before.before.before.before.before.args in
     let lp = c.before.before.before.loop in
-    let l = one-leg st.g c.before.before.before.before.before.requires.0 lp.j lp.from st.rest.now _ c.before.leg.ensures c.before.before.loop-test.true in
+    let l = one_leg st.g c.before.before.before.before.before.requires.0 lp.j lp.from st.rest.now _ c.before.leg.ensures c.before.before.loop-test.true in
     (l.within, omega (arith, l.some), omega (arith, length_more st.g lp.j lp.from st.rest.now _ l), omega (arith, l.some))
 
 returns : tie.Need-returns invariant-loop decreases-loop
 returns c =
     let st = c.before.before.before.args in
     let lp = c.before.loop in
-    (omega (arith, ap length (legs-end st.g lp.j lp.from st.rest.now c.loop-test.false)), omega arith)
+    (omega (arith, ap length (legs_end st.g lp.j lp.from st.rest.now c.loop-test.false)), omega arith)
 
 pub legs-length-spec : {M : Type 1} → statement M
 legs-length-spec =

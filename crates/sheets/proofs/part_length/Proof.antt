@@ -5,7 +5,7 @@ use Prim.Native.Nat.{◌-◌, ◌/◌}
 use lib.ListN.{length}
 use Rattle.decimal.proofs.Digits.{decimal-fits}
 use Rattle.sheets.proofs.Texts.{slot-long}
-use Rattle.sheets.proofs.Parts.{length_part, slot-few}
+use Rattle.sheets.proofs.Parts.{length_part, slot_few}
 use borrow.Author.Rules.{rules}
 use Rattle.sheets.proofs.part_length.Statement.{statement}
 use Rattle.sheets.proofs.part_length.Tie as tie
@@ -22,13 +22,13 @@ slot-length-requires c κs = search rules
 legs-length-requires : tie.Need-legs-length-requires
 legs-length-requires c κs =
     let st = c.before.before.args in
-    (c.before.before.requires.0, omega (arith, slot-few st.h st.g st.rest.now c.before.before.requires.2))
+    (c.before.before.requires.0, omega (arith, slot_few st.h st.g st.rest.now c.before.before.requires.2))
 
 add-result : tie.Need-overflow-add-result
 add-result c =
     let st = c.before.before.before.args in
     let slot = (st.h - length st.rest.now) / st.g in
-    omega (arith, slot-few st.h st.g st.rest.now c.before.before.before.requires.2, decimal-fits slot (omega (arith, slot-few st.h st.g st.rest.now c.before.before.before.requires.2)))
+    omega (arith, slot_few st.h st.g st.rest.now c.before.before.before.requires.2, decimal-fits slot (omega (arith, slot_few st.h st.g st.rest.now c.before.before.before.requires.2)))
 
 returns : tie.Need-returns
 returns c =

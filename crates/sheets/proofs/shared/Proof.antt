@@ -4,7 +4,7 @@ use Prim.Native.Nat.{◌+◌, ◌-◌, ◌≤◌, min}
 use native.Mathlib.Omega.{arith}
 use lib.ListN.{length, drop}
 use Rattle.promises.specs.Sheets.{shared}
-use Rattle.sheets.proofs.SharedStarts.{shared-differ, shared-more, shared-end, shared-skip}
+use Rattle.sheets.proofs.SharedStarts.{shared_differ, shared_more, shared_end, shared_skip}
 use borrow.Author.Rules.{rules}
 use Rattle.sheets.proofs.shared.Statement.{statement}
 use Rattle.sheets.proofs.shared.Tie as tie
@@ -25,7 +25,7 @@ loop-holds : tie.Need-loop-init invariant-loop decreases-loop
 loop-holds c =
     let st = c.before.before.before.before.args in
     let b = c.shared-blocks in
-    (b.ensures.0, c.before.smaller.ensures, shared-skip b.result st.prev.now st.new.now (omega (arith, b.ensures.0)) (omega (arith, b.ensures.0)) b.ensures.1)
+    (b.ensures.0, c.before.smaller.ensures, shared_skip b.result st.prev.now st.new.now (omega (arith, b.ensures.0)) (omega (arith, b.ensures.0)) b.ensures.1)
 
 shared-slice-read-if1 : tie.Need-shared-slice-read-if1 invariant-loop decreases-loop
 shared-slice-read-if1 c = search rules
@@ -38,7 +38,7 @@ returns c =
     let a = c.before.before.before.before.before.before.before.before.before.args.prev.now in
     let b = c.before.before.before.before.before.before.before.before.before.args.new.now in
     let lp = c.before.before.before.before.loop in
-    omega (arith, lp.invariant.2, shared-differ a b lp.k (omega (arith, lp.invariant.1)) (omega (arith, lp.invariant.1)) c.if1.true)
+    omega (arith, lp.invariant.2, shared_differ a b lp.k (omega (arith, lp.invariant.1)) (omega (arith, lp.invariant.1)) c.if1.true)
 
 add-k : tie.Need-overflow-add-k invariant-loop decreases-loop
 add-k c = search rules
@@ -51,14 +51,14 @@ loop-again c =
     let a = c.before.before.before.before.before.before.before.before.before.args.prev.now in
     let b = c.before.before.before.before.before.before.before.before.before.args.new.now in
     let lp = c.before.before.before.before.loop in
-    (omega arith, lp.invariant.1, omega (arith, lp.invariant.2, shared-more a b lp.k (omega (arith, lp.invariant.1)) (omega (arith, lp.invariant.1)) c.if1.false))
+    (omega arith, lp.invariant.1, omega (arith, lp.invariant.2, shared_more a b lp.k (omega (arith, lp.invariant.1)) (omega (arith, lp.invariant.1)) c.if1.false))
 
 returns-2 : tie.Need-returns-2 invariant-loop decreases-loop
 returns-2 c =
     let a = c.before.before.before.before.before.before.args.prev.now in
     let b = c.before.before.before.before.before.before.args.new.now in
     let lp = c.before.loop in
-    omega (arith, lp.invariant.2, shared-end a b lp.k (omega (arith, lp.invariant.1)))
+    omega (arith, lp.invariant.2, shared_end a b lp.k (omega (arith, lp.invariant.1)))
 
 pub shared-spec : {M : Type 1} → statement M
 shared-spec =

@@ -4,8 +4,8 @@ use native.Mathlib.Omega.{arith}
 use native.Mathlib.Nat.{div-mul-le_self}
 use lib.ListN.{length, drop, length-drop}
 use lib.Seq.{take_all}
-use Rattle.promises.specs.Sheets.{shared, slotFor, depthFor, tail}
-use Rattle.promises.proofs.Bench.{shared-right}
+use Rattle.promises.specs.Sheets.{shared, slot_for, depth_for, tail}
+use Rattle.promises.proofs.Bench.{shared_right}
 use borrow.Author.Rules.{rules}
 use Rattle.sheets.proofs.tail.Statement.{statement}
 use Rattle.sheets.proofs.tail.Tie as tie
@@ -22,12 +22,12 @@ mul-depth c = omega (arith, div-mul-le_self c.shared.result c.before.before.befo
 sub-result : tie.Need-overflow-sub-result
 sub-result c =
     let st = c.before.before.before.args in
-    omega (arith, div-mul-le_self c.shared.result st.g, shared-right st.prev.now st.new.now)
+    omega (arith, div-mul-le_self c.shared.result st.g, shared_right st.prev.now st.new.now)
 
 part-result-start : tie.Need-slice-bounds-result-start
 part-result-start c =
     let st = c.before.before.before.args in
-    omega (arith, div-mul-le_self c.shared.result st.g, shared-right st.prev.now st.new.now)
+    omega (arith, div-mul-le_self c.shared.result st.g, shared_right st.prev.now st.new.now)
 
 part-result-end : tie.Need-slice-bounds-result-end
 part-result-end c = search rules
@@ -38,7 +38,7 @@ returns c =
     let s = st.new.now in
     let q = c.before.shared.ensures in
     let depth = shared st.prev.now s / st.g * st.g in
-    unfold tail depthFor slotFor in (rw q (take_all (length s - depth) (drop depth s) (rw length-drop (omega arith))))
+    unfold tail depth_for slot_for in (rw q (take_all (length s - depth) (drop depth s) (rw length-drop (omega arith))))
 
 pub tail-spec : {M : Type 1} → statement M
 tail-spec =

@@ -3,11 +3,11 @@ use mathlib.Core.List.{[], ◌∷◌}
 use native.Mathlib.Omega.{arith}
 use Prim.Native.Nat.{◌-◌, ◌/◌}
 use lib.ListN.{length, length-take, length-drop}
-use Rattle.lists.proofs.Fronts.{front-from}
-use Rattle.line.specs.Line.{lineFrom}
+use Rattle.lists.proofs.Fronts.{front_from}
+use Rattle.line.specs.Line.{line_from}
 use Rattle.promises.specs.Text.{bytes}
-use Rattle.sheets.specs.Writing.{legsText}
-use Rattle.sheets.proofs.Parts.{text-part, length_part, slot-few}
+use Rattle.sheets.specs.Writing.{legs_text}
+use Rattle.sheets.proofs.Parts.{text_part, length_part, slot_few}
 use borrow.Author.Rules.{rules}
 use Rattle.sheets.proofs.write_part.Statement.{statement}
 use Rattle.sheets.proofs.write_part.Tie as tie
@@ -42,7 +42,7 @@ part-write-legs-end c = search rules
 write-legs-requires : tie.Need-write-legs-requires
 write-legs-requires c κs =
     let st = c.before.before.before.before.before.before.before.before.args in (
-      (c.before.before.before.before.before.before.before.before.requires.0, omega (arith, slot-few st.h st.g st.rest.now c.before.before.before.before.before.before.before.before.requires.2)),
+      (c.before.before.before.before.before.before.before.before.requires.0, omega (arith, slot_few st.h st.g st.rest.now c.before.before.before.before.before.before.before.before.requires.2)),
       simp (length-take, length-drop) (omega (arith, length_part st.h st.g st.rest.now)),
     )
 
@@ -61,7 +61,7 @@ returns c =
     let w = c.before.before.before.before.before.before.write-number in
     let l = c.before.before.write-legs in (
       omega (arith, length_part st.h st.g st.rest.now),
-      rw (text-part st.h st.g st.rest.now) (front-from (lineFrom (bytes "load") (slot ∷ [])) st.out.now (legsText st.g slot st.rest.now) _ _ _ w.ensures.0 w.ensures.1 l.ensures.1),
+      rw (text_part st.h st.g st.rest.now) (front_from (line_from (bytes "load") (slot ∷ [])) st.out.now (legs_text st.g slot st.rest.now) _ _ _ w.ensures.0 w.ensures.1 l.ensures.1),
     )
 
 pub write-part-spec : {M : Type 1} → statement M

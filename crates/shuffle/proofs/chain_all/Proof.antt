@@ -2,7 +2,7 @@
 -- a step that becomes the head takes the old head as its link.
 use Rattle.std.proofs.Common.{◌≡◌, ◌-◌, ◌*◌, ◌≤◌, length, get_or, refl, arith, rules}
 use Rattle.shuffle.specs.Places.{multiple, chained, Kept}
-use Rattle.shuffle.proofs.Chains.{Chains, chains-first, chains-more, chains-linked, kept_trans, kept-filled, kept-chained}
+use Rattle.shuffle.proofs.Chains.{Chains, chains_first, chains_more, chains_linked, kept_trans, kept-filled, kept-chained}
 use Rattle.shuffle.proofs.chain_all.Statement.{statement}
 use Rattle.shuffle.proofs.chain_all.Tie as tie
 
@@ -20,7 +20,7 @@ loop-holds : tie.Need-loop-init invariant-loop decreases-loop
 loop-holds c =
     let st = c.before.before.before.before.before.before in
     let k = c.before.before.put-multiples in
-    (omega arith, omega (arith, k.auto.0), record { long = refl; rest = refl }, rw k.ensures (chains-first st.args.draws.now st.args.scratch.now))
+    (omega arith, omega (arith, k.auto.0), record { long = refl; rest = refl }, rw k.ensures (chains_first st.args.draws.now st.args.scratch.now))
 
 mul-chain : tie.Need-overflow-mul-chain invariant-loop decreases-loop
 mul-chain c = search rules
@@ -50,7 +50,7 @@ loop-again c =
       omega arith,
       omega (arith, k.auto.0),
       rw k.ensures (kept_trans ds c.before.before.before.before.before.before.before.before.before.put-multiples.new.0 lp.scratch (chained (length ds) lp.i d lp.scratch) lp.invariant.2 (kept-chained ds lp.scratch lp.i d h)),
-      rw k.ensures (chains-more ds lp.scratch lp.i h lp.invariant.1 lp.invariant.3),
+      rw k.ensures (chains_more ds lp.scratch lp.i h lp.invariant.1 lp.invariant.3),
     )
 
 same_length : tie.Need-same-length invariant-loop decreases-loop
@@ -66,7 +66,7 @@ returns c =
     let e : lp.i ≡ length ds = omega arith in
     let chains : Chains ds (length ds) lp.scratch = rw e at lp.invariant.3 in
     let first : Kept ds s k.new.0 = rw k.ensures (kept-filled (multiple 0) (length ds) ds s (omega arith) (omega arith)) in
-    (chains-linked ds lp.scratch lp.invariant.1 chains, kept_trans ds s k.new.0 lp.scratch first lp.invariant.2)
+    (chains_linked ds lp.scratch lp.invariant.1 chains, kept_trans ds s k.new.0 lp.scratch first lp.invariant.2)
 
 pub chain-all-spec : {M : Type 1} → statement M
 chain-all-spec =

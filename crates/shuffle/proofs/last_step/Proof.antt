@@ -1,7 +1,7 @@
 -- `shuffle::last_step` meets its contract. The step s is on the chain of the draw's bucket, and no step from s on before i has the same draw.
 -- A link goes to an earlier step, so that s falls.
 use Rattle.std.proofs.Common.{arith, rules}
-use Rattle.shuffle.proofs.Chains.{Walked, walk_begins, walk-goes-on, walk-finds, walk_ends}
+use Rattle.shuffle.proofs.Chains.{Walked, walk_begins, walk_goes_on, walk_finds, walk_ends}
 use Rattle.shuffle.proofs.last_step.Statement.{statement}
 use Rattle.shuffle.proofs.last_step.Tie as tie
 
@@ -41,7 +41,7 @@ shared-slice-read-if1 : tie.Need-shared-slice-read-if1 invariant-loop decreases-
 shared-slice-read-if1 c = search rules
 
 returns : tie.Need-returns invariant-loop decreases-loop
-returns c = walk-finds _ _ _ _ c.before.before.before.loop.invariant c.before.before.loop-test.true c.if1.true
+returns c = walk_finds _ _ _ _ c.before.before.before.loop.invariant c.before.before.loop-test.true c.if1.true
 
 sub-s : tie.Need-overflow-sub-s invariant-loop decreases-loop
 sub-s c = search rules
@@ -58,12 +58,12 @@ shared-slice-read-s-2 c = search rules
 loop-less : tie.Need-loop-smaller invariant-loop decreases-loop
 loop-less c =
     let st = c.before.before.before.before.before.before.before in
-    (walk-goes-on _ _ _ st.requires.1 _ st.requires.3 st.requires.0 _ c.before.before.before.before.loop.invariant c.before.before.before.loop-test.true c.before.if1.false).0
+    (walk_goes_on _ _ _ st.requires.1 _ st.requires.3 st.requires.0 _ c.before.before.before.before.loop.invariant c.before.before.before.loop-test.true c.before.if1.false).0
 
 loop-again : tie.Need-loop-preserved invariant-loop decreases-loop
 loop-again c =
     let st = c.before.before.before.before.before.before.before in
-    (walk-goes-on _ _ _ st.requires.1 _ st.requires.3 st.requires.0 _ c.before.before.before.before.loop.invariant c.before.before.before.loop-test.true c.before.if1.false).1
+    (walk_goes_on _ _ _ st.requires.1 _ st.requires.3 st.requires.0 _ c.before.before.before.before.loop.invariant c.before.before.before.loop-test.true c.before.if1.false).1
 
 returns-2 : tie.Need-returns-2 invariant-loop decreases-loop
 returns-2 c = walk_ends _ _ _ _ c.before.loop.invariant (omega arith)

@@ -2,8 +2,8 @@
 -- the last step with the same draw moved away, which stays at that step's own place.
 use Rattle.std.proofs.Common.{◌≡◌, suc, ◌-◌, ◌≤◌, eqb, get_or, sym, ◌∙◌, arith, rules}
 use Rattle.shuffle.specs.Places.{drawn}
-use Rattle.shuffle.proofs.Arrangement.{held-ahead, held-behind, drawn-first, drawn-again}
-use Rattle.shuffle.proofs.Chains.{latestStep-le}
+use Rattle.shuffle.proofs.Arrangement.{held_ahead, held_behind, drawn-first, drawn-again}
+use Rattle.shuffle.proofs.Chains.{latest_step_le}
 use Rattle.shuffle.proofs.number_at.Statement.{statement}
 use Rattle.shuffle.proofs.number_at.Tie as tie
 
@@ -23,7 +23,7 @@ returns : tie.Need-returns
 unfolding drawn
 returns c =
     let st = c.before.before.before.before.before in
-    held-ahead _ st.args.draws.now st.args.scratch.now _ _ st.requires.1.1 c.before.if1.true st.requires.0.1
+    held_ahead _ st.args.draws.now st.args.scratch.now _ _ st.requires.1.1 c.before.if1.true st.requires.0.1
 
 last-step-requires : tie.Need-last-step-requires
 last-step-requires c κs =
@@ -46,7 +46,7 @@ mul-result-2 c =
     let st = c.before.before.before.before.before.before in
     let ds = st.args.draws.now in
     let s = c.before.last_step in
-    let l = latestStep-le (eqb (get_or ds st.args.i 0)) ds st.args.i in
+    let l = latest_step_le (eqb (get_or ds st.args.i 0)) ds st.args.i in
     let e = s.ensures in
     omega arith
 
@@ -55,7 +55,7 @@ shared-slice-read-result-2 c =
     let st = c.before.before.before.before.before.before.before in
     let ds = st.args.draws.now in
     let s = c.before.before.last_step in
-    let l = latestStep-le (eqb (get_or ds st.args.i 0)) ds st.args.i in
+    let l = latest_step_le (eqb (get_or ds st.args.i 0)) ds st.args.i in
     let e = s.ensures in
     let near = st.requires.1.0.near in
     let small = st.requires.1.0.small in
@@ -68,12 +68,12 @@ returns-3 c =
     let st = c.before.before.before.before.before.before.before in
     let ds = st.args.draws.now in
     let s = c.before.before.last_step in
-    let l = latestStep-le (eqb (get_or ds st.args.i 0)) ds st.args.i in
+    let l = latest_step_le (eqb (get_or ds st.args.i 0)) ds st.args.i in
     let e = s.ensures in
     let near = st.requires.1.0.near in
     let h = st.requires.0.0 in
     let q : s.result ≡ suc (s.result - 1) = omega arith in
-    held-behind st.args.reach ds st.args.scratch.now st.args.i (s.result - 1) st.requires.1.1 (omega arith) (omega arith)
+    held_behind st.args.reach ds st.args.scratch.now st.args.i (s.result - 1) st.requires.1.1 (omega arith) (omega arith)
     ∙ sym (drawn-again ds st.args.i (s.result - 1) st.requires.0.1 (sym s.ensures ∙ q))
 
 pub number-at-spec : {M : Type 1} → statement M

@@ -1,7 +1,7 @@
 -- `shuffle::serve` meets its contract. Counting up leaves the links as they are and makes the scratch hold the first arrangement,
 -- from which the swaps start; each of the three calls keeps what lies past the first 2 × z numbers.
 use Rattle.std.proofs.Common.{arith, rules}
-use Rattle.promises.proofs.Answers.{valid-at}
+use Rattle.promises.proofs.Answers.{valid_at}
 use Rattle.shuffle.specs.Places.{multiple, Kept}
 use Rattle.shuffle.proofs.Arrangement.{held_first}
 use Rattle.shuffle.proofs.Chains.{ready-counted, kept-filled, kept_trans}
@@ -19,7 +19,7 @@ swap-all-requires c κs =
     let st = c.before.before.before.before.before.before.before.before.before.before.before.before.before in
     let p = c.before.before.before.before.before.before.before.before.prepare in
     let u = c.before.before.before.before.put-multiples in (
-      (st.requires.1, λ k h. let a = (valid-at _ _ _ st.requires.2 k h).0 in omega arith),
+      (st.requires.1, λ k h. let a = (valid_at _ _ _ st.requires.2 k h).0 in omega arith),
       (rw u.ensures (ready-counted _ _ _ p.ensures.0), rw u.ensures (held_first _ _ _)),
     )
 

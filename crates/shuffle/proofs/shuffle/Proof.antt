@@ -2,21 +2,21 @@
 -- and `serve` does the rest.
 use Rattle.std.proofs.Common.{arith, rules}
 use Rattle.shuffle.proofs.Draws.{draws-valid}
-use Rattle.shuffle.proofs.Answers.{short-scratch, short-output, bad-draw, good-call, refusal, service}
+use Rattle.shuffle.proofs.Answers.{short_scratch, short_output, bad_draw_lem, good_call, refusal, service}
 use Rattle.shuffle.proofs.shuffle.Statement.{statement}
 use Rattle.shuffle.proofs.shuffle.Tie as tie
 
 returns : tie.Need-returns
-returns c = refusal _ _ _ _ _ _ (short-scratch _ _ _ _ (omega arith))
+returns c = refusal _ _ _ _ _ _ (short_scratch _ _ _ _ (omega arith))
 
 returns-2 : tie.Need-returns-2
-returns-2 c = refusal _ _ _ _ _ _ (short-output _ _ _ _ (omega arith) (omega arith))
+returns-2 c = refusal _ _ _ _ _ _ (short_output _ _ _ _ (omega arith) (omega arith))
 
 first-bad-requires : tie.Need-first-bad-requires
 first-bad-requires c κs = search rules
 
 returns-3 : tie.Need-returns-3
-returns-3 c = refusal _ _ _ _ _ _ (bad-draw _ _ _ _ _ (omega arith) (omega arith) (omega arith) (omega arith))
+returns-3 c = refusal _ _ _ _ _ _ (bad_draw_lem _ _ _ _ _ (omega arith) (omega arith) (omega arith) (omega arith))
 
 serve-requires : tie.Need-serve-requires
 serve-requires c κs = (omega arith, omega arith, draws-valid _ _ (omega arith))
@@ -30,7 +30,7 @@ same-length-2 c = search rules
 returns-4 : tie.Need-returns-4
 returns-4 c =
     let v = c.before.before.before.before.serve in
-    service _ _ _ _ _ _ (good-call _ _ _ _ (omega arith) (omega arith) (omega arith)) v.ensures.0 v.ensures.1
+    service _ _ _ _ _ _ (good_call _ _ _ _ (omega arith) (omega arith) (omega arith)) v.ensures.0 v.ensures.1
 
 pub shuffle-spec : {M : Type 1} → statement M
 shuffle-spec =

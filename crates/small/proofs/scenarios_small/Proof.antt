@@ -2,8 +2,8 @@
 use mathlib.Core.Path.{refl, ◌∙◌}
 use Prim.Native.Nat.{◌*◌}
 use lib.ListN.{length}
-use Rattle.generator.proofs.Laws.{fits-true, fits-false}
-use Rattle.small.proofs.Laws.{early-small, early-keeps, early-small-output, short-small, short-keeps, short-output, small_is, small-keeps, small-output}
+use Rattle.generator.proofs.Laws.{fits_true, fits_false}
+use Rattle.small.proofs.Laws.{early_small, early_keeps, early_small_output, short_small, short_keeps, short_output, small_is, small_keeps, small_output_lem}
 use borrow.Author.Rules.{rules}
 use Rattle.small.proofs.scenarios_small.Statement.{statement}
 use Rattle.small.proofs.scenarios_small.Tie as tie
@@ -25,7 +25,7 @@ list-cells-requires c κs =
     let a = c.before.before.before.before.before.before.before.before.before.before.before.before.args in
     let o = c.before.before.before.before.before.before.before.load in
     let g = c.before.before.before.fits2 in
-    ((o.ensures.ready c.before.before.before.before.enum_told.given.1).fits, fits-true g.result (length a.out.now) (length a.list.now * a.h) g.ensures c.before.before.if1.true)
+    ((o.ensures.ready c.before.before.before.before.enum_told.given.1).fits, fits_true g.result (length a.out.now) (length a.list.now * a.h) g.ensures c.before.before.if1.true)
 
 same_length : tie.Need-same-length
 same_length c = search rules
@@ -40,16 +40,16 @@ returns c =
     let e = c.before.before.before.before.before.before.before.before.before.enum_told.given.1 in
     let g = c.before.before.before.before.before.before.before.before.fits2 in
     let n = c.before.before.before.before.list-cells in
-    let fit = fits-true g.result (length a.out.now) (length a.list.now * a.h) g.ensures c.before.before.before.before.before.before.before.if1.true in
+    let fit = fits_true g.result (length a.out.now) (length a.list.now * a.h) g.ensures c.before.before.before.before.before.before.before.if1.true in
     let told = n.ensures.0 ∙ small_is a.text.now a.h (length a.cells.now) o.result o.ensures a.cells.now refl a.list.now a.out.now e fit in
-    (told, (small-keeps a.text.now a.h (length a.cells.now) o.result o.ensures a.cells.now refl a.list.now a.out.now e fit _ n.ensures.1.0, small-output a.text.now a.h (length a.cells.now) o.result o.ensures a.cells.now refl a.list.now a.out.now e fit _ _ told n.ensures.1.1))
+    (told, (small_keeps a.text.now a.h (length a.cells.now) o.result o.ensures a.cells.now refl a.list.now a.out.now e fit _ n.ensures.1.0, small_output_lem a.text.now a.h (length a.cells.now) o.result o.ensures a.cells.now refl a.list.now a.out.now e fit _ _ told n.ensures.1.1))
 
 returns-2 : tie.Need-returns-2
 returns-2 c =
     let a = c.before.before.before.before.before.before.before.before.before.args in
     let o = c.before.before.before.before.load in
     let k = c.before.checked.given in
-    (early-small a.text.now a.h (length a.cells.now) o.result o.ensures a.cells.now refl a.list.now a.out.now k.0.0 k.0.1.0 k.1, (early-keeps a.text.now a.h (length a.cells.now) o.result o.ensures a.cells.now refl a.list.now a.out.now k.0.0 k.0.1.0 k.1, early-small-output a.text.now a.h (length a.cells.now) o.result o.ensures a.cells.now refl a.list.now a.out.now k.0.0 k.0.1.0 k.1))
+    (early_small a.text.now a.h (length a.cells.now) o.result o.ensures a.cells.now refl a.list.now a.out.now k.0.0 k.0.1.0 k.1, (early_keeps a.text.now a.h (length a.cells.now) o.result o.ensures a.cells.now refl a.list.now a.out.now k.0.0 k.0.1.0 k.1, early_small_output a.text.now a.h (length a.cells.now) o.result o.ensures a.cells.now refl a.list.now a.out.now k.0.0 k.0.1.0 k.1))
 
 returns-3 : tie.Need-returns-3
 returns-3 c =
@@ -57,8 +57,8 @@ returns-3 c =
     let o = c.before.before.before.before.before.load in
     let e = c.before.before.enum_told.given.1 in
     let g = c.before.fits2 in
-    let short = fits-false g.result (length a.out.now) (length a.list.now * a.h) g.ensures c.if1.false in
-    (short-small a.text.now a.h (length a.cells.now) o.result o.ensures a.cells.now refl a.list.now a.out.now e short, (short-keeps a.text.now a.h (length a.cells.now) o.result o.ensures a.cells.now refl a.list.now a.out.now e short, short-output a.text.now a.h (length a.cells.now) o.result o.ensures a.cells.now refl a.list.now a.out.now e short))
+    let short = fits_false g.result (length a.out.now) (length a.list.now * a.h) g.ensures c.if1.false in
+    (short_small a.text.now a.h (length a.cells.now) o.result o.ensures a.cells.now refl a.list.now a.out.now e short, (short_keeps a.text.now a.h (length a.cells.now) o.result o.ensures a.cells.now refl a.list.now a.out.now e short, short_output a.text.now a.h (length a.cells.now) o.result o.ensures a.cells.now refl a.list.now a.out.now e short))
 
 pub scenarios-small-spec : {M : Type 1} → statement M
 scenarios-small-spec =

@@ -1,6 +1,6 @@
 -- `splitmix::mix` meets its contract: each step of the mixing is one step of the definition.
 use Rattle.std.proofs.Common.{refl, rules}
-use Rattle.promises.specs.SplitMix.{mix, mixFirst, mixSecond, mixThird}
+use Rattle.promises.specs.SplitMix.{mix, mix_first, mix_second, mix_third}
 use Rattle.splitmix.proofs.mix.Statement.{statement}
 use Rattle.splitmix.proofs.mix.Tie as tie
 
@@ -11,7 +11,7 @@ wrapping-mul-requires-2 : tie.Need-wrapping-mul-requires-2
 wrapping-mul-requires-2 c κs = search rules
 
 returns : tie.Need-returns
-unfolding mix mixFirst mixSecond mixThird
+unfolding mix mix_first mix_second mix_third
 returns c = rw (c.wrapping-mul2.ensures, c.before.wrapping-mul.ensures) refl
 
 pub mix-spec : {M : Type 1} → statement M

@@ -5,7 +5,7 @@ use Prim.Native.Nat.{◌-◌, ◌≤◌}
 use native.Mathlib.Omega.{arith}
 use lib.ListN.{length, drop}
 use Rattle.promises.specs.Reading as promised
-use Rattle.taking.proofs.Listed.{repeats-here, repeats-later, repeats-end}
+use Rattle.taking.proofs.Listed.{repeats_here, repeats_later, repeats_end}
 use borrow.Author.Rules.{rules}
 use Rattle.taking.proofs.repeats.Statement.{statement}
 use Rattle.taking.proofs.repeats.Tie as tie
@@ -40,7 +40,7 @@ until-requires c κs = search rules
 returns : tie.Need-returns invariant-loop decreases-loop
 returns c =
     let lp = c.before.before.before.before.before.loop in
-    sym (lp.invariant.1 ∙ repeats-here c.before.before.before.before.before.before.before.args.bytes.now lp.k c.before.before.before.before.loop-test.true (rw (← c.before.until.ensures) c.if1.true))
+    sym (lp.invariant.1 ∙ repeats_here c.before.before.before.before.before.before.before.args.bytes.now lp.k c.before.before.before.before.loop-test.true (rw (← c.before.until.ensures) c.if1.true))
 
 add-k : tie.Need-overflow-add-k invariant-loop decreases-loop
 add-k c = search rules
@@ -51,10 +51,10 @@ loop-less c = search rules
 loop-again : tie.Need-loop-preserved invariant-loop decreases-loop
 loop-again c =
     let lp = c.before.before.before.before.before.loop in
-    (omega (arith, c.before.before.before.before.loop-test.true), lp.invariant.1 ∙ repeats-later c.before.before.before.before.before.before.before.args.bytes.now lp.k c.before.before.before.before.loop-test.true (rw (← c.before.until.ensures) c.if1.false))
+    (omega (arith, c.before.before.before.before.loop-test.true), lp.invariant.1 ∙ repeats_later c.before.before.before.before.before.before.before.args.bytes.now lp.k c.before.before.before.before.loop-test.true (rw (← c.before.until.ensures) c.if1.false))
 
 returns-2 : tie.Need-returns-2 invariant-loop decreases-loop
-returns-2 c = let lp = c.before.loop in sym (lp.invariant.1 ∙ repeats-end c.before.before.before.args.bytes.now lp.k (omega (arith, c.loop-test.false)))
+returns-2 c = let lp = c.before.loop in sym (lp.invariant.1 ∙ repeats_end c.before.before.before.args.bytes.now lp.k (omega (arith, c.loop-test.false)))
 
 pub repeats-spec : {M : Type 1} → statement M
 repeats-spec =

@@ -9,27 +9,27 @@ use mir.Val.{to_z, of_z}
 use mir.ValLaws.{to_z-of_z}
 use borrow.Author.Tests.{le-leb, lt-leb, eq-eqb, ne_eqb}
 use Rattle.promises.specs.Reading.{outsideℤ}
-use Rattle.taking.specs.Taking.{noBand, ampCase}
+use Rattle.taking.specs.Taking.{no_band, amp_case}
 use borrow.Author.Rules.{rules}
 use Rattle.taking.proofs.take_amp.Statement.{statement}
 use Rattle.taking.proofs.take_amp.Tie as tie
 
 returns : tie.Need-returns
-unfolding ampCase
+unfolding amp_case
 returns c =
     let st = c.before.before.before.before.before.before in
     let lo : to_z w64 (of_z w64 st.args.z.band.lo) ≡ st.args.z.band.lo = search rules in
     let hi : to_z w64 (of_z w64 st.args.z.band.hi) ≡ st.args.z.band.hi = search rules in
-    let b : noBand st.args.z.band ≡ true = rw (lo, hi) at c.if1.true in
+    let b : no_band st.args.z.band ≡ true = rw (lo, hi) at c.if1.true in
     (rw b, (rw b, rw b))
 
 returns-2 : tie.Need-returns-2
-unfolding ampCase
+unfolding amp_case
 returns-2 c =
     let st = c.before.before.before.before.before.before.before.before in
     let lo : to_z w64 (of_z w64 st.args.z.band.lo) ≡ st.args.z.band.lo = search rules in
     let hi : to_z w64 (of_z w64 st.args.z.band.hi) ≡ st.args.z.band.hi = search rules in
-    let b : noBand st.args.z.band ≡ false = rw (lo, hi) at c.before.before.if1.false in
+    let b : no_band st.args.z.band ≡ false = rw (lo, hi) at c.before.before.if1.false in
     let e = le-leb _ _ c.if2.true in
     (rw (b, e), (rw (b, e), rw (b, e)))
 
@@ -37,12 +37,12 @@ outside-signed-requires : tie.Need-outside-signed-requires
 outside-signed-requires c κs = search rules
 
 returns-3 : tie.Need-returns-3
-unfolding ampCase
+unfolding amp_case
 returns-3 c =
     let st = c.before.before.before.before.before.before.before.before.before.before in
     let lo : to_z w64 (of_z w64 st.args.z.band.lo) ≡ st.args.z.band.lo = search rules in
     let hi : to_z w64 (of_z w64 st.args.z.band.hi) ≡ st.args.z.band.hi = search rules in
-    let b : noBand st.args.z.band ≡ false = rw (lo, hi) at c.before.before.before.before.if1.false in
+    let b : no_band st.args.z.band ≡ false = rw (lo, hi) at c.before.before.before.before.if1.false in
     let d = to_z-of_z w64 st.args.d st.ranges.d in
     let o : outsideℤ (neg_ℤ (pos 15)) (pos 15) st.args.d ≡ true = rw d at (sym c.before.outside-signed.ensures ∙ c.if3.true) in
     let e = lt-leb _ _ c.before.before.if2.false in
@@ -53,8 +53,8 @@ sub-m c =
     let st = c.before.before.before.before.before.before.before.before.before.before.before in
     let lo : to_z w64 (of_z w64 st.args.z.band.lo) ≡ st.args.z.band.lo = search rules in
     let hi : to_z w64 (of_z w64 st.args.z.band.hi) ≡ st.args.z.band.hi = search rules in
-    let b : noBand st.args.z.band ≡ false = rw (lo, hi) at c.before.before.before.before.before.if1.false in
-    st.requires.2.some-band b
+    let b : no_band st.args.z.band ≡ false = rw (lo, hi) at c.before.before.before.before.before.if1.false in
+    st.requires.2.some_band b
 
 mul_at : tie.Need-overflow-mul-at
 mul_at c = search rules
@@ -66,12 +66,12 @@ slice-read-if4 : tie.Need-slice-read-if4
 slice-read-if4 c = search rules
 
 returns-4 : tie.Need-returns-4
-unfolding ampCase
+unfolding amp_case
 returns-4 c =
     let st = c.before.before.before.before.before.before.before.before.before.before.before.before.before in
     let lo : to_z w64 (of_z w64 st.args.z.band.lo) ≡ st.args.z.band.lo = search rules in
     let hi : to_z w64 (of_z w64 st.args.z.band.hi) ≡ st.args.z.band.hi = search rules in
-    let b : noBand st.args.z.band ≡ false = rw (lo, hi) at c.before.before.before.before.before.before.before.if1.false in
+    let b : no_band st.args.z.band ≡ false = rw (lo, hi) at c.before.before.before.before.before.before.before.if1.false in
     let d = to_z-of_z w64 st.args.d st.ranges.d in
     let o : outsideℤ (neg_ℤ (pos 15)) (pos 15) st.args.d ≡ false = rw d at (sym c.before.before.before.before.outside-signed.ensures ∙ c.before.before.before.if3.false) in
     let e = lt-leb _ _ c.before.before.before.before.before.if2.false in
@@ -86,10 +86,10 @@ fill-step-requires c κs =
     let st = c.before.before.before.before.before.before.before.before.before.before.before.before.before.before.before.before in
     let lo : to_z w64 (of_z w64 st.args.z.band.lo) ≡ st.args.z.band.lo = search rules in
     let hi : to_z w64 (of_z w64 st.args.z.band.hi) ≡ st.args.z.band.hi = search rules in
-    let b : noBand st.args.z.band ≡ false = rw (lo, hi) at c.before.before.before.before.before.before.before.before.before.before.if1.false in
+    let b : no_band st.args.z.band ≡ false = rw (lo, hi) at c.before.before.before.before.before.before.before.before.before.before.if1.false in
     let d = to_z-of_z w64 st.args.d st.ranges.d in
     let o : outsideℤ (neg_ℤ (pos 15)) (pos 15) st.args.d ≡ false = rw d at (sym c.before.before.before.before.before.before.before.outside-signed.ensures ∙ c.before.before.before.before.before.before.if3.false) in
-    rw (lo, hi, d) ((st.requires.0, omega (arith, st.requires.2.few-monitors, st.requires.2.some-band b), omega (arith, st.requires.2.few-events, c.before.before.before.before.before.before.before.before.if2.false)), (st.requires.2.in-band b, o))
+    rw (lo, hi, d) ((st.requires.0, omega (arith, st.requires.2.few_monitors, st.requires.2.some_band b), omega (arith, st.requires.2.few_events, c.before.before.before.before.before.before.before.before.if2.false)), (st.requires.2.in_band b, o))
 
 same_length : tie.Need-same-length
 same_length c = search rules
@@ -98,12 +98,12 @@ same-length-2 : tie.Need-same-length-2
 same-length-2 c = search rules
 
 returns-5 : tie.Need-returns-5
-unfolding ampCase
+unfolding amp_case
 returns-5 c =
     let st = c.before.before.before.before.before.before.before.before.before.before.before.before.before.before.before.before.before.before.before in
     let lo : to_z w64 (of_z w64 st.args.z.band.lo) ≡ st.args.z.band.lo = search rules in
     let hi : to_z w64 (of_z w64 st.args.z.band.hi) ≡ st.args.z.band.hi = search rules in
-    let b : noBand st.args.z.band ≡ false = rw (lo, hi) at c.before.before.before.before.before.before.before.before.before.before.before.before.before.if1.false in
+    let b : no_band st.args.z.band ≡ false = rw (lo, hi) at c.before.before.before.before.before.before.before.before.before.before.before.before.before.if1.false in
     let d = to_z-of_z w64 st.args.d st.ranges.d in
     let o : outsideℤ (neg_ℤ (pos 15)) (pos 15) st.args.d ≡ false = rw d at (sym c.before.before.before.before.before.before.before.before.before.before.outside-signed.ensures ∙ c.before.before.before.before.before.before.before.before.before.if3.false) in
     let e = lt-leb _ _ c.before.before.before.before.before.before.before.before.before.before.before.if2.false in

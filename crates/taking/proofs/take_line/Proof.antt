@@ -1,6 +1,6 @@
 -- Each group of forms has its own function, whose contract is its clause of the definitions.
 -- Assumes nothing.
-use Rattle.taking.specs.Taking.{rigCase, ordCase, kindCase, partCase}
+use Rattle.taking.specs.Taking.{rig_case, ord_case, kind_case, part_case}
 use Rattle.taking.proofs.Taking.{kept}
 use borrow.Author.Rules.{rules}
 use Rattle.taking.proofs.take_line.Statement.{statement}
@@ -38,7 +38,7 @@ returns c =
     let st = c.before.before.before.before.before.before.before.before.before.before.args in
     let f = c.before.before.form.given in
     let q = f.1 in
-    let n = rigCase st.z f.0.0 in
+    let n = rig_case st.z f.0.0 in
     (rw q c.take-rig.ensures, (rw q (kept n st.moves.now), (rw q (kept n st.stops.now), (rw q (kept n st.given.now), (rw q (kept n st.counts.now), rw q (kept n st.starts.now))))))
 
 returns-2 : tie.Need-returns-2
@@ -46,7 +46,7 @@ returns-2 c =
     let st = c.before.before.before.before.before.before.before.before.before.before.args in
     let f = c.before.before.form2.given in
     let q = f.1 in
-    let n = ordCase st.order.now st.z st.line f.0.0 in
+    let n = ord_case st.order.now st.z st.line f.0.0 in
     (rw q c.take-ord.ensures, (rw q (kept n st.moves.now), (rw q (kept n st.stops.now), (rw q (kept n st.given.now), (rw q (kept n st.counts.now), rw q (kept n st.starts.now))))))
 
 same_length : tie.Need-same-length
@@ -66,7 +66,7 @@ returns-3 c =
     let st = c.before.before.before.before.before.before.before.before.before.before.before.before.before.before.before.before.before.before.before.before.before.before.args in
     let f = c.before.before.before.before.before.before.before.before.before.before.before.before.before.before.form3.given in
     let q = f.1 in
-    let n = kindCase st.z f.0.0 in
+    let n = kind_case st.z f.0.0 in
     let t = c.before.before.before.before.before.before.before.before.take-kind.ensures in
     (rw q t.0, (rw q t.1.0, (rw q t.1.1.0, (rw q (kept n st.given.now), (rw q t.1.1.1.0, rw q t.1.1.1.1)))))
 
@@ -84,7 +84,7 @@ returns-4 c =
     let st = c.before.before.before.before.before.before.before.before.before.before.before.before.before.before.before.before.before.before.before.args in
     let f = c.before.before.before.before.before.before.before.before.before.before.before.form4.given in
     let q = f.1 in
-    let n = partCase st.moves.now st.stops.now st.given.now st.z f.0.0 in
+    let n = part_case st.moves.now st.stops.now st.given.now st.z f.0.0 in
     let t = c.before.before.before.before.before.before.take_part.ensures in
     (rw q t.0, (rw q t.1.0, (rw q t.1.1.0, (rw q t.1.1.1, (rw q (kept n st.counts.now), rw q (kept n st.starts.now))))))
 

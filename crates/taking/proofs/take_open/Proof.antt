@@ -2,27 +2,27 @@
 -- Assumes nothing.
 use native.Mathlib.Omega.{arith}
 use borrow.Author.Tests.{le-leb, lt-leb, lt-ltb, le-ltb, eq-eqb, ne_eqb}
-use Rattle.taking.specs.Taking.{openCase}
+use Rattle.taking.specs.Taking.{open_case}
 use Rattle.taking.proofs.Taking.{some-day}
 use borrow.Author.Rules.{rules}
 use Rattle.taking.proofs.take_open.Statement.{statement}
 use Rattle.taking.proofs.take_open.Tie as tie
 
 returns : tie.Need-returns
-unfolding openCase
+unfolding open_case
 returns c =
     let d = eq-eqb _ _ c.if1.true in
     (rw (d), (rw (d), rw (d)))
 
 returns-2 : tie.Need-returns-2
-unfolding openCase
+unfolding open_case
 returns-2 c =
     let d = ne_eqb _ _ c.before.before.if1.false in
     let x = le-leb _ _ c.if2.true in
     (rw (d, x), (rw (d, x), rw (d, x)))
 
 returns-3 : tie.Need-returns-3
-unfolding openCase
+unfolding open_case
 returns-3 c =
     let d = ne_eqb _ _ c.before.before.before.if1.false in
     let x = lt-leb _ _ c.before.if2.false in
@@ -30,7 +30,7 @@ returns-3 c =
     (rw (d, x, y), (rw (d, x, y), rw (d, x, y)))
 
 returns-4 : tie.Need-returns-4
-unfolding openCase
+unfolding open_case
 returns-4 c =
     let d = ne_eqb _ _ c.before.before.before.before.if1.false in
     let x = lt-leb _ _ c.before.before.if2.false in
@@ -54,7 +54,7 @@ fill-hours-requires : tie.Need-fill-hours-requires
 fill-hours-requires c κs =
     let st = c.before.before.before.before.before.before.before.before.before.before in
     let m = some-day st.args.z st.requires.2 c.before.before.before.before.before.before.before.if1.false in
-    (st.requires.0, omega (arith, st.requires.2.few-monitors), omega (arith, st.requires.2.few-events, c.before.before.before.before.before.if2.false), st.requires.2.few-day)
+    (st.requires.0, omega (arith, st.requires.2.few_monitors), omega (arith, st.requires.2.few_events, c.before.before.before.before.before.if2.false), st.requires.2.few_day)
 
 slice-write-given : tie.Need-slice-write-given
 slice-write-given c = search rules
@@ -66,7 +66,7 @@ same-length-2 : tie.Need-same-length-2
 same-length-2 c = search rules
 
 returns-5 : tie.Need-returns-5
-unfolding openCase
+unfolding open_case
 returns-5 c =
     let d = ne_eqb _ _ c.before.before.before.before.before.before.before.before.before.before.if1.false in
     let x = lt-leb _ _ c.before.before.before.before.before.before.before.before.if2.false in

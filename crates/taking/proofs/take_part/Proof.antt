@@ -3,7 +3,7 @@
 use mathlib.Core.Path.{◌≡◌}
 use mir.Syntax.{w64}
 use mir.Val.{to_z, of_z}
-use Rattle.taking.specs.Taking.{goCase, stopCase, ampCase, openCase}
+use Rattle.taking.specs.Taking.{go_case, stop_case, amp_case, open_case}
 use Rattle.taking.proofs.Taking.{kept}
 use borrow.Author.Rules.{rules}
 use Rattle.taking.proofs.take_part.Statement.{statement}
@@ -42,7 +42,7 @@ returns c =
     let p = c.before.before.before.before.before.p.given in
     let q = p.1 in
     let t = c.before.before.take-go.ensures in
-    let n = goCase st.moves.now st.z p.0.0 p.0.1.0 p.0.1.1.0 in
+    let n = go_case st.moves.now st.z p.0.0 p.0.1.0 p.0.1.1.0 in
     (rw q t.0, (rw q t.1, (rw q (kept n st.stops.now), rw q (kept n st.given.now))))
 
 same-length-2 : tie.Need-same-length-2
@@ -54,7 +54,7 @@ returns-2 c =
     let p = c.before.before.before.before.before.p2.given in
     let q = p.1 in
     let t = c.before.before.take-stop.ensures in
-    let n = stopCase st.stops.now st.z p.0.0 in
+    let n = stop_case st.stops.now st.z p.0.0 in
     (rw q t.0, (rw q (kept n st.moves.now), (rw q t.1, rw q (kept n st.given.now))))
 
 same-length-3 : tie.Need-same-length-3
@@ -70,7 +70,7 @@ returns-3 c =
     let q = p.1 in
     let d : to_z w64 (of_z w64 p.0.1.0) ≡ p.0.1.0 = search rules in
     let t = rw d at c.before.before.before.before.take-amp.ensures in
-    let n = ampCase st.given.now st.z p.0.0 p.0.1.0 in
+    let n = amp_case st.given.now st.z p.0.0 p.0.1.0 in
     (rw q t.0, (rw q t.1.0, (rw q (kept n st.stops.now), rw q t.1.1)))
 
 same-length-5 : tie.Need-same-length-5
@@ -85,7 +85,7 @@ returns-4 c =
     let p = c.before.before.before.before.before.before.before.before.p4.given in
     let q = p.1 in
     let t = c.before.before.before.before.take_open.ensures in
-    let n = openCase st.z p.0.0 p.0.1.0 p.0.1.1.0 in
+    let n = open_case st.z p.0.0 p.0.1.0 p.0.1.1.0 in
     (rw q t.0, (rw q t.1.0, (rw q (kept n st.stops.now), rw q t.1.1)))
 
 pub take-part-spec : {M : Type 1} → statement M
