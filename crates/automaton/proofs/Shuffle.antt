@@ -66,6 +66,7 @@ Stands n i f v = (k : ℕ) × (i ≤ k) × (k < n) × (v ≡ f k)
 
 out_from : (n i : ℕ) (f : ℕ → ℕ) (ds : List ℕ) → Valid n i ds → (v : ℕ) → In v (shuffle_from f i ds) → Stands n i f v
 unfolding shuffle_from Valid
+out_from n i f [] h v x'' = elim x'' [ ]
 out_from n i f (d ∷ ds) h v (here q) = (d, omega arith, omega arith, q ∙ swap-first f i d)
 out_from n i f (d ∷ ds) h v (there m) =
     let (k, a, b, q) = out_from n (suc i) (swap f i d) ds h.2 v m in
@@ -146,7 +147,7 @@ look-swap perm i j = fun_ext (λ k. case (eqb k j)
 prefix_from : (perm : List (ℕ × ℕ)) (i : ℕ) (js : List ℕ) → rnd_perm_prefix_from perm i js ≡ shuffle_from (look perm) i js
 unfolding rnd_perm_prefix_from shuffle_from
 prefix_from perm i [] = refl
-prefix_from perm i (j ∷ js) = ap₂ ◌∷◌ (sym (swap-first (look perm) i j)) (prefix_from _ (suc i) js ∙ ap (λ f. shuffle_from f (suc i) js) (look-swap perm i j))
+prefix_from perm i (j ∷ js) = ap₂ ◌∷◌ (sym (swap-first (look perm) i j)) (prefix_from ((j, look perm i) ∷ (i, look perm j) ∷ perm) (suc i) js ∙ ap (λ f. shuffle_from f (suc i) js) (look-swap perm i j))
 
 -- the associative array represents the arrangement
 pub rnd_perm_prefix_shuffles : (js : List ℕ) → rnd_perm_prefix js ≡ shuffle js

@@ -48,6 +48,7 @@ before_there c e d l q = rw (ne_eqb d e q)
 
 greatest-is : (c : ℕ → ℕ) {l : List ℕ} → Pairwise ◌≢◌ l → (e : ℕ) → In e l → (i j : ℕ) → before c l e + j ≡ i → j < c e → greatest (λ u. leb (before c l u) i) l ≡ e
 unfolding greatest
+greatest-is c Rattle.lists.specs.Lists.none e x7 i j b lt = elim x7 [ ]
 greatest-is c (more {a = d} {l = l} f u) e (here q) i j b lt =
     rw (any_none (λ u. leb (before c (d ∷ l) u) i) l (λ v k. lt-leb (before c (d ∷ l) v) i (omega (arith, before_there c v d l (f v k), before_here c e d l q, ap c q)))) (sym q)
 greatest-is c (more {a = d} {l = l} f u) e (there k) i j b lt =

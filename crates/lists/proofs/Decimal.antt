@@ -63,7 +63,7 @@ length_more n h = rw (decimal-more n h, length-append) (add-one (length (decimal
 value_from-append : (m : ℕ) (s t : List ℕ) → value_from m (s ++ t) ≡ value_from (value_from m s) t
 unfolding value_from
 value_from-append m [] t = refl
-value_from-append m (b ∷ s) t = value_from-append _ s t
+value_from-append m (b ∷ s) t = value_from-append (10 * m + (b - 48)) s t
 
 pub value-decimal : (n : ℕ) → value (decimal n) ≡ n
 unfolding value value_from

@@ -13,6 +13,7 @@ use Rattle.lists.proofs.Tests.{case, contra}
 module _ (f : ℕ → Bool) where
   -- what is left was in the list and passes
   pub in_filter : {e : ℕ} (l : List ℕ) → In e (filter f l) → In e l × (f e ≡ true)
+  in_filter {e = e} [] i = elim i [ ]
   in_filter {e} (x ∷ l) i = go (f x) refl (in_filter l) i
     where
       go : (b : Bool) → f x ≡ b → (In e (filter f l) → In e l × (f e ≡ true)) → In e (pick b (x ∷ filter f l) (filter f l)) → In e (x ∷ l) × (f e ≡ true)

@@ -49,6 +49,7 @@ module _ {A B : Type 0} (f : A → Option B) where
 
     pub in_first : (l : List A) (b : B) → In (g b) l → (c : B) × (first_of f l ≡ some c)
     unfolding first_of or_else
+    in_first [] b x' = elim x' [ ]
     in_first (x ∷ l) b (here r) = (b, rw ((is x b).1 (sym r)))
     in_first (x ∷ l) b (there i) = step (f x) (in_first l b i)
       where

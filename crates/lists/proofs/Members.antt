@@ -45,10 +45,12 @@ any_same f l m same =
     (λ q. let (e, i, p) = any_some f m q in any_in f ((same e).1 i) p)
 
 pub in_map : {A B : Type 0} (f : A → B) {b : B} (l : List A) → In b (map f l) → (a : A) × In a l × (b ≡ f a)
+in_map {A = A} {B = B} f {b = b} [] x' = elim x' [ ]
 in_map f (x ∷ l) (here q) = (x, here refl, q)
 in_map f (x ∷ l) (there h) = let (a, i, q) = in_map f l h in (a, there i, q)
 
 pub in_concat_map : {A : Type 0} (f : ℕ → List A) {a : A} (l : List ℕ) → In a (concat_map f l) → (e : ℕ) × In e l × In a (f e)
+in_concat_map {A = A} f {a = a} [] h = elim h [ ]
 in_concat_map f {a} (x ∷ l) h = go (in_concat_map f l) (in-append (f x) h)
   where
     go : (In a (concat_map f l) → (e : ℕ) × In e l × In a (f e)) → In a (f x) ⊎ In a (concat_map f l) → (e : ℕ) × In e (x ∷ l) × In a (f e)

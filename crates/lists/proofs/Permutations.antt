@@ -20,10 +20,11 @@ use Rattle.lists.proofs.Distinct.{distinct-length, same_length}
 -- ---- the places of different numbers
 
 -- a number stands where its first place is
-get_or-index_of : {l : List ℕ} {a : ℕ} → In a l → get_or l (index_of l a) 0 ≡ a
+get_or-index_of : {a : ℕ} {l : List ℕ} → In a l → get_or l (index_of l a) 0 ≡ a
 unfolding index_of
-get_or-index_of {l = d ∷ l} {a} (here q) = rw (eq-eqb d a (sym q)) (sym q)
-get_or-index_of {l = d ∷ l} {a} (there i) = let ih = get_or-index_of i in case (eqb d a) (λ q. rw q (eqb-true d a q)) (λ q. rw q ih)
+get_or-index_of {a = a} {l = []} x'' = elim x'' [ ]
+get_or-index_of {a} {l = d ∷ l} (here q) = rw (eq-eqb d a (sym q)) (sym q)
+get_or-index_of {a} {l = d ∷ l} (there i) = let ih = get_or-index_of i in case (eqb d a) (λ q. rw q (eqb-true d a q)) (λ q. rw q ih)
 
 pub index_of-one : {l : List ℕ} {a b : ℕ} → In a l → In b l → index_of l a ≡ index_of l b → a ≡ b
 index_of-one {l} i j q = sym (get_or-index_of i) ∙ ap (λ k. get_or l k 0) q ∙ get_or-index_of j

@@ -1,5 +1,5 @@
 -- Tables that are filled from the front, entry by entry or row by row. Assumes nothing.
-use mathlib.Core.Path.{◌≡◌, refl, sym, ap, ◌∙◌}
+use mathlib.Core.Path.{◌≡◌, refl, sym, ap, ◌∙◌, subst}
 use mathlib.Core.Logic.{⊎_elim}
 use mathlib.Core.List.{List, [], ◌∷◌, ◌++◌, map, map-append}
 use Prim.Native.Nat.{ℕ, zero, suc, ◌+◌, ◌*◌, ◌<◌, ◌≤◌}
@@ -127,6 +127,9 @@ unfolding overwrite
 overwrite-set l p f apart zero k x h = absurd (not-suc-le-zero h)
 overwrite-set {A} l p f apart (suc n) k x h =
     ⊎_elim
-    (λ e. rw (eq-eqb n k (sym e), e) (set-set (overwrite l p f n) (p n) (f n) x ∙ ap (λ (r : List A). set r (p n) x) (overwrite_cong l p f (λ i. pick (eqb i n) x (f i)) n (λ i b. rw (ne_eqb i n (λ q. omega arith))))))
+    (λ e. subst (λ (m : ℕ). set (overwrite l p f (suc n)) (p m) x ≡ overwrite l p (λ i. pick (eqb i m) x (f i)) (suc n)) (sym e) here)
     (λ b. rw (ne_eqb n k (λ q. omega arith)) (set_comm (overwrite l p f n) (p n) (p k) (f n) x (λ q. omega (arith, apart n k q)) ∙ ap (λ (r : List A). set r (p n) (f n)) (overwrite-set l p f apart n k x b)))
     (eq-or-lt_of_le (le_of_suc-le-suc h))
+  where
+    here : set (overwrite l p f (suc n)) (p n) x ≡ overwrite l p (λ i. pick (eqb i n) x (f i)) (suc n)
+    here = rw (eq-eqb n n refl) (set-set (overwrite l p f n) (p n) (f n) x ∙ ap (λ (r : List A). set r (p n) x) (overwrite_cong l p f (λ i. pick (eqb i n) x (f i)) n (λ i b. rw (ne_eqb i n (λ q. omega arith)))))

@@ -47,7 +47,7 @@ module _ (es : List ℕ) (lo hi : ℤ) (ps : List Part) (band : lo ≤ℤ hi) wh
   walked s [] a = sym (+ℤ_idr _)
   walked s (e ∷ w) (h, i, a) =
       let inside = (moves lo hi band (step_of ps e) s).0 (admits-state (unbounded es monitor) _ w a) in
-      walked _ w a ∙ ap (λ x. x +ℤ sum_of (step_of ps) w) (moved_to lo hi band (step_of ps e) s inside) ∙ +ℤ_assoc (lo +ℤ pos s) (step_of ps e) (sum_of (step_of ps) w)
+      walked ((unbounded es monitor).next s e) w a ∙ ap (λ x. x +ℤ sum_of (step_of ps) w) (moved_to lo hi band (step_of ps e) s inside) ∙ +ℤ_assoc (lo +ℤ pos s) (step_of ps e) (sum_of (step_of ps) w)
 
   follows : (s : ℕ) (w : List ℕ) → automaton.Admits (monitor_of es monitor) s w → lo +ℤ pos (walk (monitor_of es monitor) s w) ≡ lo +ℤ pos s +ℤ sum_of (step_of ps) w
   unfolding monitor_of

@@ -150,6 +150,18 @@ module _ (n z seed limit : ℕ) (out : List ℕ) where
       let w : length ds ≡ i = cc in
       (omega arith, ds, u, w, c, rw (zero-add, w) at t)
 
+  short_refused : length out < z → draws n z seed limit out ≡ refused 12 0
+  unfolding draws
+  short_refused h = rw (lt-ltb (length out) z h)
+
+  many_refused : z ≤ length out → n < z → draws n z seed limit out ≡ refused 15 n
+  unfolding draws
+  many_refused a h = rw (le-ltb (length out) z a, lt-ltb n z h)
+
+  never_drawn : limit ≡ 0 → 0 < z → z ≤ length out → z ≤ n → draws n z seed limit out ≡ refused 19 0
+  unfolding Chain AllThrown
+  never_drawn q p a b = stuck_refused a b [] seed p refl (λ m l. absurd (omega arith))
+
   pub draws_owed : DrawsOwed n z seed limit out
   unfolding Served
   draws_owed = record {
@@ -158,14 +170,14 @@ module _ (n z seed limit : ℕ) (out : List ℕ) where
       λ (ds, u, l, c, q). ([], (made_served a b ds u l c).0),
     );
     valid = λ s. let (ds, u, l, c) = served_made s in let (a, b) = room s in rw (made_served a b ds u l c).1 (l, valid_places n ds (chain_valid limit n 0 seed ds u c (omega arith)));
-    twelve = λ h. unfold draws in (rw (lt-ltb (length out) z h));
+    twelve = short_refused;
     output_left = unfold draws_output in (output_left z (draws n z seed limit out) (made (outcome n z seed limit)) out (λ s. (long (served_made s), (room s).0)));
-    fifteen = λ a h. unfold draws in (rw (le-ltb (length out) z a, lt-ltb n z h));
+    fifteen = many_refused;
     nineteen = λ a b i. (
       λ q. refused_stuck a b i q (made_or_stuck limit n z 0 seed),
       λ (lt, ds, u, l, c, t). stuck_refused a b ds u (rw l lt) c (rw (zero-add, l) t) ∙ ap (refused 19) l,
     );
-    limit_0 = λ q p a b. stuck_refused a b [] seed p (unfold Chain in refl) (unfold AllThrown in (λ m l. absurd (omega arith)));
+    limit_0 = never_drawn;
     shaped = unfold draws in (checked 0 12 0 (ltb (length out) z) _ (λ q e. omega arith) (checked 0 15 n (ltb n z) _ (λ q e. omega arith) (said-shaped (outcome n z seed limit))));
   }
     where

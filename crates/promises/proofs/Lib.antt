@@ -36,3 +36,4 @@ pub mod Known
 pub mod Wrong
 pub mod Bench
 pub mod Sheets
+pub mod Windows

@@ -83,6 +83,7 @@ order_kept front (other ∷ back) es s h free = order_kept (front ++ (other ∷ 
 
 never_later : (front back : List Line) (es : List ℕ) → AllSound front back → 2 ≤ length front → In (ord es) back → ⊥
 unfolding AllSound
+never_later front [] es s h x3 = elim x3 [ ]
 never_later front (l ∷ back) es s h (here q) = omega (arith, sound_second front es (subst (Sound front) (sym q) s.0))
 never_later front (l ∷ back) es s h (there i) = never_later (front ++ (l ∷ [])) back es s.1 (rw length-append (omega arith)) i
 

@@ -10,7 +10,7 @@ use mathlib.Core.List.Memᴰ.{head as here}
 use mathlib.Core.List.Memᴰ.{tail as there}
 use mathlib.Core.List.{Memᴰ as In}
 use mathlib.Core.Option.{Option, none, some}
-use Prim.Native.Nat.{ℕ, zero, suc, ◌+◌, ◌≤◌, ◌<◌}
+use Prim.Native.Nat.{ℕ, zero, suc, ◌+◌, ◌-◌, ◌*◌, ◌≤◌, ◌<◌}
 use Prim.Native.String.{String}
 use native.Mathlib.Omega.{arith}
 use lib.IntN.{ℤ, pos, negsuc, nat_abs}
@@ -32,14 +32,14 @@ use Rattle.promises.proofs.Pieces.{Free, split_on-some, split_on-joined, split_o
 digits_read : (n : ℕ) (bs : List ℕ) → ((b : ℕ) → In b bs → Digit b) → digits_value n bs ≡ some (value_from n bs)
 unfolding digits_value value_from
 digits_read n [] w = refl
-digits_read n (b ∷ bs) w = let (low, high) = w b (here refl) in rw (le-leb 48 b low, le-leb b 57 high) (digits_read _ bs (λ x i. w x (there i)))
+digits_read n (b ∷ bs) w = let (low, high) = w b (here refl) in rw (le-leb 48 b low, le-leb b 57 high) (digits_read (10 * n + (b - 48)) bs (λ x i. w x (there i)))
 
 digits_are : (n m : ℕ) (bs : List ℕ) → digits_value n bs ≡ some m → ((b : ℕ) → In b bs → Digit b) × (value_from n bs ≡ m)
 unfolding digits_value value_from
 digits_are n m [] q = (λ b i. absurd (Memᴰ.not-nil i), cc)
 digits_are n m (b ∷ bs) q =
     case (leb 48 b && leb b 57)
-    (λ p. let (w, v) = digits_are _ m bs (rw p at q) in (each (leb-true 48 b (and_left (leb 48 b) _ p), leb-true b 57 (and_right (leb 48 b) _ p)) w, v))
+    (λ p. let (w, v) = digits_are (10 * n + (b - 48)) m bs (rw p at q) in (each (leb-true 48 b (and_left (leb 48 b) _ p), leb-true b 57 (and_right (leb 48 b) _ p)) w, v))
     (λ p. let z = rw p at q in let y : ◌≡◌ {A = ℕ} 0 1 = cc in absurd (omega arith))
   where
     each : Digit b → ((x : ℕ) → In x bs → Digit x) → (x : ℕ) → In x (b ∷ bs) → Digit x
@@ -131,6 +131,7 @@ same_tells (a ∷ u) (b ∷ v) =
 
 -- a byte that a word does not hold
 free_any : (b : ℕ) (l : List ℕ) → any (eqb b) l ≡ false → Free b l
+free_any b [] q x'' = elim x'' [ ]
 free_any b (x ∷ l) q (here e) = contra (eq-eqb b x e) (or_left (eqb b x) _ q)
 free_any b (x ∷ l) q (there i) = free_any b l (or-rest (eqb b x) _ q) i
 
@@ -321,6 +322,7 @@ signed_free (negsuc n) (here e) = omega arith
 signed_free (negsuc n) (there i) = decimal_free 9 (suc n) (omega arith) i
 
 decimals_free : (ns : List ℕ) (q : List ℕ) → In q (map decimal ns) → Free 9 q
+decimals_free [] q x' = elim x' [ ]
 decimals_free (n ∷ ns) q (here e) = subst (Free 9) (sym e) (decimal_free 9 n (omega arith))
 decimals_free (n ∷ ns) q (there i) = decimals_free ns q i
 

@@ -27,3 +27,4 @@ pub mod Sentences
 pub mod Differences
 pub mod Hours
 pub mod Wrong
+pub mod Windows
