@@ -1,5 +1,6 @@
 // A 64-bit number as its decimal digits.
 #![tactic(auto)]
+
 ghost use Rattle.std.specs.Prelude.{◌≡◌, ◌++◌, ◌≤◌, length, drop};
 ghost use Rattle.lists.specs.Decimal.{decimal};
 ghost use Rattle.decimal.specs.Powers.{powers};
