@@ -1,4 +1,5 @@
 // Prints numbers, one on a line: 0, every power of ten, one below and one above each, numbers with zeros inside, and the largest.
+#![tactic(auto)]
 ghost use Rattle.std.specs.Prelude.{◌≤◌};
 
 fn show(n: u64) {

@@ -1,6 +1,5 @@
 -- Numbers read digit by digit, and the forms of a line's fields read field by field. Assumes nothing.
 use mathlib.Core.Path.{◌≡◌, refl, sym, ap, ◌∙◌}
-use mathlib.Core.Logic.{⊎_elim}
 use mathlib.Core.Bool.{Bool, true, false}
 use mathlib.Core.List.{List, [], ◌∷◌}
 use mathlib.Core.Option.{Option, none, some}
@@ -12,8 +11,6 @@ use lib.ListN.{length, get_or, take, drop, drop_of_length-le, length-drop}
 use lib.Seq.{drop-cons, take_all}
 use lib.Dec.{eqb, leb, ltb}
 use borrow.Author.Tests.{eq-eqb, ne_eqb, le-leb, lt-leb, lt-ltb, le-ltb, ltb-true, ltb-false}
-use types.Run.{OneOf}
-use denote.Enum.Declared.{tag_of}
 use Rattle.lists.specs.Lists.{pick, index_of}
 use Rattle.lists.proofs.Tests.{case}
 use Rattle.promises.specs.Text.{Line, rig, ord, begins, continues, other, mon, gap, reply, bal, day, go, stop, amp, opens, bytes, split_on, same, fields, digits_value, number, field, end_or, end, one, two, three, four, two_signed, then_signed, one_or_two, any_number, form, decode}
@@ -22,7 +19,6 @@ use Rattle.promises.proofs.Spelling.{same_tells}
 use Rattle.decoding.specs.declared.Field.TheVariants.{Last, More, Bad}
 use Rattle.decoding.specs.declared.Field.{Field}
 use Rattle.decoding.specs.Forms.{as_field, field_of, fields_from, field_by, or_other, leading, listed_in}
-use Rattle.decoding.specs.contracts.Field.{the_type}
 use Rattle.decoding.proofs.Parts.{split_on-whole, split_on-first}
 
 -- ---- digits
@@ -153,9 +149,9 @@ Short (More n next) = ⊥
 Short Bad = Unit {0}
 
 -- a field that is not More
-pub short : (f : Field) → OneOf (0 ∷ (2 ∷ [])) (tag_of the_type f) → Short f
+pub short : (f : Field) → ((n next : ℕ) → f ≡ More n next → ⊥) → Short f
 short (Last n) h = tt
-short (More n next) h = ⊎_elim (λ q. omega arith) (λ q. omega arith) h
+short (More n next) h = absurd (h n next refl)
 short Bad h = tt
 
 pub short_by : (rest : ℕ → List (List ℕ) → Line) → ((n : ℕ) → rest n [] ≡ other) → (l : List ℕ) (x : Field) → x ≡ field_of l → Short x → field number rest (fields l) ≡ other

@@ -1,4 +1,6 @@
 // A line's bytes as its form: the word, and the numbers of its fields.
+#![tactic(auto)]
+
 ghost use Rattle.std.specs.Prelude.{◌≡◌, false, ◌∷◌, ℕ, ◌≤◌, min, ℤ, length};
 ghost use Rattle.lists.specs.Lists.{index_of};
 ghost use Rattle.promises.specs.Text.{Line, rig, ord, begins, mon, gap, reply, bal, day, continues, go, stop, amp, opens, one, two, three, four, one_signed, two_signed, then_signed, one_or_two, any_number, bytes, fields};

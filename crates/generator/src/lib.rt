@@ -1,10 +1,11 @@
 // The four calls. Each reads what it is lent, refuses what it can't serve, and ends; none asks anything of its caller.
+#![tactic(auto)]
 ghost use Rattle.std.specs.Prelude.{◌≡◌, ◌*◌, ◌≤◌, length};
 ghost use Rattle.rig.specs.Record.{record_automaton};
 ghost use Rattle.promises.specs.Calls.{count_from, filled, ShuffleKeeps};
 ghost use Rattle.promises.specs.Calls as promised;
 ghost use Rattle.checks.specs.Loading.{Fits};
-ghost use Rattle.shuffle.specs.Outcome.{answer_of as shuffleAnswer};
+ghost use Rattle.shuffle.specs.Outcome.{answer_of as shuffle_answer};
 ghost use Rattle.generator.specs.Outcomes.{count_answer, list_answer, index_answer, list_from, output_from, index_from};
 
 use checks::{Checked, Rows};
@@ -157,7 +158,7 @@ pub fn index(text: &[u8], sequence: &[u8], cells: &mut [u64]) -> Indexed
 
 // 'Shuffle: n, a list of z draws, 2 × z scratch numbers, output for z numbers, all 64-bit, n any of them.'
 pub fn shuffle_indices(n: u64, draws: &[u64], scratch: &mut [u64], out: &mut [u64]) -> Answered
-    ensures result_value { shuffleAnswer result ≡ promised.shuffle n draws.now scratch.old out.old }
+    ensures result_value { shuffle_answer result ≡ promised.shuffle n draws.now scratch.old out.old }
     ensures out_after { out.new ≡ promised.shuffled n draws.now scratch.old out.old }
     ensures shuffle_keeps { ShuffleKeeps n draws.now scratch.old out.old scratch.new }
 {

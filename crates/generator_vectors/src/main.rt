@@ -1,5 +1,6 @@
 // Runs the four calls on the examples of paper 01 that are left to a test, on rigs that begin in other states, on rigs with another order of events, on rigs
 // that may stop, on gaps and replies, on a running difference and on depot hours, and prints what each answers and leaves. Cells, scratch and outputs begin with 7 everywhere and are lent in part, so that what is kept shows: each line ends with how many numbers of each buffer are still 7.
+#![tactic(auto)]
 ghost use Rattle.std.specs.Prelude.{◌≤◌, length};
 
 use generator::{Counted, Indexed, Listed};

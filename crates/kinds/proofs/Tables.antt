@@ -103,7 +103,7 @@ module _ (mv sp : List ℕ) (m : ℕ) (k : Kind) (hm : m < 4) (few : states_of k
   -- the part was blank, and holds the kind's automaton
   pub fills : (E : ℕ) → E ≤ 16 → Blank mv sp m → OfKind (kind_moves mv m k) (kind_stops sp m k) m E k []
   unfolding kind_moves kind_stops
-  fills E fewE b = case (is_mon k) (λ q. rw q (no_line k q few)) (λ q. rw q (record {
+  fills E few_e b = case (is_mon k) (λ q. rw q (no_line k q few)) (λ q. rw q (record {
     moves = λ s u hs hu. rows_at mv m k (states_of k) s u few hm long hs (omega arith);
     marks = λ s hs. overwrite_at sp (stop_index m) (λ s. pick (marked_of k [] s) 1 0) (λ x y q. omega arith) (states_of k) s 0 hs (λ v l. omega arith);
   }))

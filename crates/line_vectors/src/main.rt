@@ -1,4 +1,5 @@
 // Prints lines: those of the paper's listing, and some with long numbers, many events and none.
+#![tactic(auto)]
 fn show(index: u64, events: &[u8]) {
     if events.len() <= 1000 {
         let mut out = [0; 4096];

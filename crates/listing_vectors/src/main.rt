@@ -1,4 +1,5 @@
 // Prints listings, or the part of one, each after a line with its name.
+#![tactic(auto)]
 use libc::STDOUT_FILENO;
 
 fn show(name: &[u8], input: &[u8], from: u64, to: u64) {

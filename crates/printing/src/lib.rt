@@ -1,5 +1,6 @@
 // Writes the listing of an input to standard output. No contract can say which bytes a write of the system takes: those lent to it are the
 // lines of crate `listing`, one after the other, from the first to the end.
+#![tactic(auto)]
 use libc::STDOUT_FILENO;
 
 // Lends a line to the system: the first one, and of those that follow it, which are counted from 1, those past `from` and up to `to`.

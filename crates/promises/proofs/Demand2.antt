@@ -25,7 +25,7 @@ use Rattle.automaton.proofs.Shuffle.{rnd_perm_prefix_shuffles}
 use Rattle.promises.specs.Answer.{Answer, served, refused, Served, SaysNone}
 use Rattle.promises.specs.Text.{decoded, events_of, Readable, Case7, Case8, Case12, Case13}
 use Rattle.promises.specs.Rig.{rig_automaton, start}
-use Rattle.promises.specs.Calls.{unless_at, total, counted, count, scenarios, index}
+use Rattle.promises.specs.Calls.{unless_at, total, count, scenarios, index}
 use Rattle.promises.specs.Demand2.{Endless, Traced, Traces, Demand2}
 use Rattle.promises.specs.Generator.{generator}
 use Rattle.promises.proofs.Meaning.{rig_start, endless_never_stops, events_just, events_distinct, events_ordered}

@@ -25,7 +25,7 @@ use Rattle.promises.specs.Answer.{Answer, served, Served, Refuses, SaysNone}
 use Rattle.promises.specs.Text.{decoded, Readable, Case7, Case8, Case12, joint_states}
 use Rattle.promises.specs.Meaning.{Belongs, Earlier, Comes}
 use Rattle.promises.specs.Rig.{rig_automaton, start}
-use Rattle.promises.specs.Calls.{total, counted, count, scenarios, written, index, shuffle}
+use Rattle.promises.specs.Calls.{total, count, scenarios, written, index}
 use Rattle.promises.specs.Demand3.{Once, Shufflable, block, output, Cells, Room, Gives, None, EachOnce, Complete, Whole, Fair, Demand}
 use Rattle.promises.specs.Generator.{generator}
 use Rattle.promises.proofs.Meaning.{events_ordered, events_distinct, text_belongs}

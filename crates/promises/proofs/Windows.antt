@@ -1,31 +1,25 @@
 -- The windows call owes what its request says, on served and refused input alike.
 -- Why: the answer is the rows' tests in their order; the bytes are those of the joint automaton's walks, whose 0s are the departures by the lines. Assumes nothing.
-use mathlib.Core.Path.{◌≡◌, refl, sym, ap, ◌∙◌}
-use mathlib.Core.Logic.{◌⊎◌, inl, inr, ◌↔◌, ⊎_elim}
+use mathlib.Core.Path.{◌≡◌, refl, ap, ◌∙◌}
+use mathlib.Core.Logic.{◌⊎◌, inl, inr}
 use mathlib.Core.Bool.{true, false, ◌||◌}
 use mathlib.Core.List.{List, [], ◌∷◌}
 use Prim.Native.Nat.{ℕ, suc, ◌+◌, ◌-◌, ◌≤◌, ◌<◌}
 use native.Mathlib.Nat.{zero-mul}
 use native.Mathlib.Omega.{arith}
-use lib.ListN.{length, get_or, take, drop, get_or-append}
+use lib.ListN.{length, get_or}
 use lib.Dec.{ltb, leb}
-use Rattle.lists.specs.Lists.{sum}
-use Rattle.lists.proofs.Tests.{contra, split, ℕ_trichotomy}
+use Rattle.lists.proofs.Tests.{contra, ℕ_trichotomy}
 use Rattle.lists.proofs.Tells.{Tells, tells_true, tells_false, tells_lt, tells_le, tells_or}
-use Rattle.automaton.specs.Automaton.{Over, Automaton}
-use Rattle.automaton.specs.Windows.{window, windows_of, marks, ones}
-use Rattle.automaton.proofs.Windows.{length_marks, ones_marks, mark_bit, mark_departs}
+use Rattle.automaton.specs.Automaton.{Automaton}
+use Rattle.automaton.specs.Windows.{windows_of, ones}
 use Rattle.promises.specs.Answer.{Answer, served, refused, Served, unless, after}
 use Rattle.promises.specs.Text.{events_of, decoded, Readable, Case7, Case13, joint_states}
-use Rattle.promises.specs.Meaning.{Belongs, Departure}
 use Rattle.promises.specs.Rig.{rig_automaton}
-use Rattle.promises.specs.Calls.{unless_at, not_below, output_after, sized_for}
-use Rattle.promises.specs.Shapes.{Shaped}
-use Rattle.promises.specs.Windows.{windows, windows_output, Case21, Case12Windows, WindowsReady, WindowsOwed, log_rows}
-use Rattle.promises.proofs.Meaning.{text_departs, start_admits, start_carried}
-use Rattle.promises.proofs.Checks.{checked_list, sized_for_on, sized_for_text, sized_for_7, check_passed}
-use Rattle.promises.proofs.Answers.{events_in}
-use Rattle.promises.proofs.Buffers.{unless-served, output_left, refused-serves}
+use Rattle.promises.specs.Calls.{unless_at, not_below, sized_for}
+use Rattle.promises.specs.Windows.{windows, Case21, Case12Windows, WindowsReady, log_rows}
+use Rattle.promises.proofs.Checks.{checked_list, sized_for_on, check_passed}
+use Rattle.promises.proofs.Buffers.{refused-serves}
 
 -- ---- the rows
 

@@ -257,7 +257,7 @@ more-events ms E F mv sp ct st q T = record { tables = λ k h. absurd (omega ari
 abbrev fresh : Kind → Monitor
 fresh k = record { kind = k; parts = [] }
 
-module _ (ms : List Monitor) (E : ℕ) (k : Kind) (mv sp mv' sp' ct st : List ℕ) (wide : length ct ≡ 4) (wide_starts : length st ≡ 4) (fewE : E ≤ 16) (few : length ms < 4)
+module _ (ms : List Monitor) (E : ℕ) (k : Kind) (mv sp mv' sp' ct st : List ℕ) (wide : length ct ≡ 4) (wide_starts : length st ≡ 4) (few_e : E ≤ 16) (few : length ms < 4)
     (ranged : (m : Monitor) → In m ms → states_of m.kind ≤ 32) (beside : (i : ℕ) → i ≢ length ms → Same mv sp mv' sp' i)
     (filled : Blank mv sp (length ms) → OfKind mv' sp' (length ms) E k []) (T : Tabled ms E mv sp ct st) where
   abbrev more : List Monitor
@@ -283,13 +283,13 @@ module _ (ms : List Monitor) (E : ℕ) (k : Kind) (mv sp mv' sp' ct st : List �
       table_at i q = rw (q, new_at ms (fresh k) (length ms) refl) (filled (T.blank (length ms) (omega arith) few))
 
       table_before : (i : ℕ) → i < length ms → OfKind mv' sp' i E (monitor_at more i).kind (monitor_at more i).parts
-      table_before i l = rw (new_before ms (fresh k) i l) (same_kind mv sp mv' sp' i (beside i (λ q. omega arith)) E (monitor_at ms i).kind (monitor_at ms i).parts fewE (ranged (monitor_at ms i) (get_or-in ms i nobody l)) (T.tables i l))
+      table_before i l = rw (new_before ms (fresh k) i l) (same_kind mv sp mv' sp' i (beside i (λ q. omega arith)) E (monitor_at ms i).kind (monitor_at ms i).parts few_e (ranged (monitor_at ms i) (get_or-in ms i nobody l)) (T.tables i l))
 
 kind-add_part : (p : Part) (ms : List Monitor) (i : ℕ) → (monitor_at (add_part p ms) i).kind ≡ (monitor_at ms i).kind
 kind-add_part p ms i = case (eqb (suc i) (length ms)) (λ q. ap (λ m. m.kind) (add_part_at p ms i (eqb-true (suc i) (length ms) q))) (λ q. ap (λ m. m.kind) (add_part_beside p ms i (eqb-false (suc i) (length ms) q)))
 
 -- a line p more of the monitor m, which is the last: what it makes of that monitor's part of the tables, and that it leaves the others' parts
-module _ (p : Part) (ms : List Monitor) (E m : ℕ) (mv sp mv' sp' ct st : List ℕ) (last : suc m ≡ length ms) (fewE : E ≤ 16) (ranged : (m : Monitor) → In m ms → states_of m.kind ≤ 32)
+module _ (p : Part) (ms : List Monitor) (E m : ℕ) (mv sp mv' sp' ct st : List ℕ) (last : suc m ≡ length ms) (few_e : E ≤ 16) (ranged : (m : Monitor) → In m ms → states_of m.kind ≤ 32)
     (at : OfKind mv sp m E (monitor_at ms m).kind (monitor_at ms m).parts → OfKind mv' sp' m E (monitor_at ms m).kind ((monitor_at ms m).parts ++ (p ∷ [])))
     (beside : (i : ℕ) → i ≢ m → Same mv sp mv' sp' i) where
   one_part : Tabled ms E mv sp ct st → Tabled (add_part p ms) E mv' sp' ct st
@@ -304,7 +304,7 @@ module _ (p : Part) (ms : List Monitor) (E m : ℕ) (mv sp mv' sp' ct st : List 
       here k q = rw (q, add_part_at p ms m last) (at (T.tables m (omega arith)))
 
       there : (k : ℕ) → k < length ms → (k ≡ m → ⊥) → OfKind mv' sp' k E (monitor_at (add_part p ms) k).kind (monitor_at (add_part p ms) k).parts
-      there k h ne = rw (add_part_beside p ms k (λ q. ne (omega arith))) (same_kind mv sp mv' sp' k (beside k ne) E (monitor_at ms k).kind (monitor_at ms k).parts fewE (ranged (monitor_at ms k) (get_or-in ms k nobody h)) (T.tables k h))
+      there k h ne = rw (add_part_beside p ms k (λ q. ne (omega arith))) (same_kind mv sp mv' sp' k (beside k ne) E (monitor_at ms k).kind (monitor_at ms k).parts few_e (ranged (monitor_at ms k) (get_or-in ms k nobody h)) (T.tables k h))
 
 -- ---- what is given with one line more
 
@@ -620,7 +620,7 @@ module _ (r : Rig) (ls : List Line) (z : Sizes) (mv sp gv ct st os : List ℕ) (
   holds_begins k q =
       let sound = case_sound ls (begins k) (sym (kind_case_lem k) ∙ q) in
       let (range, few, small) = begun ls k sound in
-      let fewS : states_of k ≤ 32 = few_states (events_of ls) k range in
+      let few_s : states_of k ≤ 32 = few_states (events_of ls) k range in
       let few-m : z.monitors < 4 = rw (← H.monitors_are) few in
       let ms : monitors (ls ++ (begins k ∷ [])) ≡ monitors ls ++ (fresh k ∷ []) = monitors-more ls (begins k) in
       let not_empty : empty ls ≡ false = case (empty ls) (λ e. absurd (sound.placed (unfold Case5 cases beginning in empty_nil ls e))) (λ e. e) in
@@ -635,15 +635,15 @@ module _ (r : Rig) (ls : List Line) (z : Sizes) (mv sp gv ct st os : List ℕ) (
         given_are = rw ms (given_fresh k);
         tabled = rw (ms, ← H.monitors_are) (one_more (monitors ls) z.events k mv sp (kind_moves mv (length (monitors ls)) k) (kind_stops sp (length (monitors ls)) k) ct st H.wide H.wide_starts few_z few ranged
             (λ i ne. record {
-              moves = λ x y hx hy. moves_beside mv sp (length (monitors ls)) k few fewS H.long H.wide_stops i x y ne hx hy;
-              stops = λ x hx. stops_beside mv sp (length (monitors ls)) k few fewS H.long H.wide_stops i x ne hx;
+              moves = λ x y hx hy. moves_beside mv sp (length (monitors ls)) k few few_s H.long H.wide_stops i x y ne hx hy;
+              stops = λ x hx. stops_beside mv sp (length (monitors ls)) k few few_s H.long H.wide_stops i x ne hx;
             })
-            (fills mv sp (length (monitors ls)) k few fewS H.long H.wide_stops z.events few_z) H.tabled);
+            (fills mv sp (length (monitors ls)) k few few_s H.long H.wide_stops z.events few_z) H.tabled);
         ordered = H.ordered ∙ sym (order_more ls (begins k));
         unordered = H.unordered;
         recorded = recorded_more (begins k);
-        long = length_moves mv sp z.monitors k few-m fewS H.long H.wide_stops;
-        wide_stops = length_stops mv sp z.monitors k few-m fewS H.long H.wide_stops;
+        long = length_moves mv sp z.monitors k few-m few_s H.long H.wide_stops;
+        wide_stops = length_stops mv sp z.monitors k few-m few_s H.long H.wide_stops;
         wide_given = H.wide_given;
         wide = length-set ct z.monitors (states_of k) ∙ H.wide;
         wide_starts = length-set st z.monitors (start_of k) ∙ H.wide_starts;

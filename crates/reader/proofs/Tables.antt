@@ -37,7 +37,7 @@ module _ (mv sp mv' sp' : List ℕ) (k : ℕ) (same : Same mv sp mv' sp' k) wher
   same_blank b = record { no_move = λ x y hx hy. same.moves x y hx hy ∙ b.no_move x y hx hy; no_mark = λ x hx. same.stops x hx ∙ b.no_mark x hx }
 
   pub same_kind : (E : ℕ) (kind : Kind) (ps : List Part) → E ≤ 16 → states_of kind ≤ 32 → OfKind mv sp k E kind ps → OfKind mv' sp' k E kind ps
-  same_kind E kind ps fewE few T = record {
+  same_kind E kind ps few_e few T = record {
     moves = λ x y hx hy. same.moves x y (omega arith) (omega arith) ∙ T.moves x y hx hy;
     marks = λ x hx. same.stops x (omega arith) ∙ T.marks x hx;
   }
@@ -79,7 +79,7 @@ module _ (mv sp : List ℕ) (k E S a : ℕ) (ps : List Part) (T : OfKind mv sp k
       told false = refl
 
   -- a new `go` line
-  module _ (s e t : ℕ) (hk : k < 4) (long : length mv ≡ 2048) (fewE : E ≤ 16) (hs : s < S) (he : e < E) (ht : t < S)
+  module _ (s e t : ℕ) (hk : k < 4) (long : length mv ≡ 2048) (few_e : E ≤ 16) (hs : s < S) (he : e < E) (ht : t < S)
       (within : (s e u : ℕ) → move_by ps s e ≡ some u → u < S) (free : move_at mv k s e ≡ 255) where
     unmoved : move_by ps s e ≡ none
     unmoved = step (move_by ps s e) refl
@@ -147,7 +147,7 @@ module _ (mv sp : List ℕ) (k E S a : ℕ) (ps : List Part) (T : OfKind mv sp k
 
 -- a new `amp` line: the moves on its event are written over, those on the others are as they were
 module _ (mv sp : List ℕ) (k E : ℕ) (lo hi : ℤ) (ps : List Part) (T : OfKind mv sp k E (bal lo hi) ps) (few : states_of (bal lo hi) ≤ 32)
-    (e : ℕ) (d : ℤ) (hk : k < 4) (long : length mv ≡ 2048) (fewE : E ≤ 16) (he : e < E) (new : step_by ps e ≡ none) where
+    (e : ℕ) (d : ℤ) (hk : k < 4) (long : length mv ≡ 2048) (few_e : E ≤ 16) (he : e < E) (new : step_by ps e ≡ none) where
   step_here : step_of (ps ++ (amp e d ∷ [])) e ≡ d
   unfolding step_of step_in or_else
   step_here = rw (first_snoc (step_in e) ps (amp e d), new, eq-eqb e e refl)
@@ -174,7 +174,7 @@ module _ (mv sp : List ℕ) (k E : ℕ) (lo hi : ℤ) (ps : List Part) (T : OfKi
 -- ---- a `day`
 
 -- a new `open` line: on its event the steps of its hours lead to the next, where it is the first the others lead nowhere; on other events nothing changes
-module _ (mv sp : List ℕ) (k E T : ℕ) (ps : List Part) (D : OfKind mv sp k E (day T) ps) (e a b : ℕ) (hk : k < 4) (long : length mv ≡ 2048) (fewE : E ≤ 16) (few : T ≤ 32) (he : e < E) where
+module _ (mv sp : List ℕ) (k E T : ℕ) (ps : List Part) (D : OfKind mv sp k E (day T) ps) (e a b : ℕ) (hk : k < 4) (long : length mv ≡ 2048) (few_e : E ≤ 16) (few : T ≤ 32) (he : e < E) where
   abbrev more : List Part
   more = ps ++ (opens e a b ∷ [])
 

@@ -1,6 +1,7 @@
 // Reads texts and prints what each gives: `read`, E, the events in their order, the number of moves on these, each S with its start and, where states are
 // marked, `stop` and their number; or `no`, the number and the place.
 // The texts of standard input each have a name up to a line end before them and byte 28 after them; those at the limit of 65,535 bytes are made here.
+#![tactic(auto)]
 ghost use Rattle.std.specs.Prelude.{◌≤◌, length};
 
 use libc::{STDIN_FILENO, STDOUT_FILENO};

@@ -1,9 +1,10 @@
 // Sheets of bench commands: each scenario loads the deepest state that it shares with the one before, runs on from there, and saves on its way.
 //
 // A sheet is measured before it is written, so that nothing is written where it does not fit.
+#![tactic(auto)]
 ghost use Rattle.std.specs.Prelude.{◌≡◌, true, ◌++◌, ◌+◌, ◌*◌, ◌<◌, ◌≤◌, length, take, drop};
 ghost use Rattle.line.specs.Line.{field_bytes};
-ghost use Rattle.promises.specs.Sheets.{leg as legOf, previous as previousOf, text, scenario as scenario_of, shared as sharedBy, tail as tailOf, sheet_text, sheet_call, sheet_output};
+ghost use Rattle.promises.specs.Sheets.{leg as leg_of, previous as previous_of, text, scenario as scenario_of, shared as shared_by, tail as tail_of, sheet_text, sheet_call, sheet_output};
 ghost use Rattle.sheets.specs.Writing.{sheet_answer, legs_text, part_of, Measures};
 
 // What the call answers: the length of the sheet and the events that it runs, or a refusal's number and place.
@@ -89,7 +90,7 @@ fn write_sheet(scenarios: &[u8], m: usize, h: usize, g: usize, out: &mut [u8])
 // What scenario number k runs: its part after the depth that it loads.
 fn runs(scenarios: &[u8], h: usize, g: usize, k: usize) -> &[u8]
     requires { (0 < g) × (k * h + h ≤ length scenarios.now) }
-    ensures { result.now ≡ tailOf g (previousOf (scenario_of h scenarios.now) k) (scenario_of h scenarios.now k) }
+    ensures { result.now ≡ tail_of g (previous_of (scenario_of h scenarios.now) k) (scenario_of h scenarios.now k) }
 {
     tail(previous(scenarios, h, k), scenario(scenarios, h, k), g)
 }
@@ -106,7 +107,7 @@ fn scenario(scenarios: &[u8], h: usize, k: usize) -> &[u8]
 // The scenario before number k, and an empty one before the first.
 fn previous(scenarios: &[u8], h: usize, k: usize) -> &[u8]
     requires { k * h ≤ length scenarios.now }
-    ensures { result.now ≡ previousOf (scenario_of h scenarios.now) k }
+    ensures { result.now ≡ previous_of (scenario_of h scenarios.now) k }
 {
     if k == 0 {
         return &scenarios[..0];
@@ -117,7 +118,7 @@ fn previous(scenarios: &[u8], h: usize, k: usize) -> &[u8]
 // The part of the new scenario after the depth that it loads.
 fn tail<'p, 'n>(prev: &'p [u8], new: &'n [u8], g: usize) -> &'n [u8]
     requires { 0 < g }
-    ensures { result.now ≡ tailOf g prev.now new.now }
+    ensures { result.now ≡ tail_of g prev.now new.now }
 {
     let depth = shared(prev, new) / g * g;
     &new[depth..]
@@ -125,7 +126,7 @@ fn tail<'p, 'n>(prev: &'p [u8], new: &'n [u8], g: usize) -> &'n [u8]
 
 // How many events the two begin with alike: sixteen at once as long as all of them are, then one by one.
 fn shared(prev: &[u8], new: &[u8]) -> usize
-    ensures { result ≡ sharedBy prev.now new.now }
+    ensures { result ≡ shared_by prev.now new.now }
 {
     let limit = ranking::smaller(prev.len(), new.len());
     let from = shared_blocks(prev, new, limit);
@@ -242,7 +243,7 @@ fn leg(rest: &[u8], from: usize, g: usize) -> &[u8]
 // at most 26 for the save.
 fn leg_length(run: &[u8], g: usize, j: usize) -> usize
     requires { length run.now ≤ 1000 }
-    ensures { (result ≡ length (text (legOf g j run.now))) × (result ≤ 4030) }
+    ensures { (result ≡ length (text (leg_of g j run.now))) × (result ≤ 4030) }
 {
     let bytes = 4 + line::fields_length(run);
     if run.len() == g {
@@ -253,9 +254,9 @@ fn leg_length(run: &[u8], g: usize, j: usize) -> usize
 
 // Writes them at the front of `out` and gives how many bytes they have.
 fn write_leg(run: &[u8], g: usize, j: usize, out: &mut [u8]) -> usize
-    requires { length (text (legOf g j run.now)) ≤ length out.old }
-    ensures value { result ≡ length (text (legOf g j run.now)) }
-    ensures out_after { out.new ≡ text (legOf g j run.now) ++ drop (length (text (legOf g j run.now))) out.old }
+    requires { length (text (leg_of g j run.now)) ≤ length out.old }
+    ensures value { result ≡ length (text (leg_of g j run.now)) }
+    ensures out_after { out.new ≡ text (leg_of g j run.now) ++ drop (length (text (leg_of g j run.now))) out.old }
 {
     let at = line::write_events(b"run", run, out);
     if run.len() == g {

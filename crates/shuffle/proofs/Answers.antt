@@ -4,7 +4,7 @@ use Rattle.std.proofs.Common.{◌≡◌, ℕ, ◌*◌, ◌<◌, ◌≤◌, List,
 use Rattle.automaton.specs.Shuffle.{shuffle as swapped}
 use Rattle.automaton.proofs.Shuffle.{length-shuffle}
 use Rattle.promises.specs.Answer.{served, refused}
-use Rattle.promises.specs.Calls.{first_bad, bad_draw, unless_at, output_after, shuffle as promised, shuffled as promisedOutput, ScratchKept}
+use Rattle.promises.specs.Calls.{first_bad, bad_draw, unless_at, output_after, shuffle as promised, shuffled as promised_output, ScratchKept}
 use Rattle.shuffle.specs.Places.{Kept}
 
 module _ (n : ℕ) (ds s out : List ℕ) where
@@ -25,11 +25,11 @@ module _ (n : ℕ) (ds s out : List ℕ) where
   good_call a b h = rw (le-ltb (length s) (2 * length ds) a, le-ltb (length out) (length ds) b, le-ltb (first_bad (bad_draw n) ds) (length ds) h)
 
   pub refusal : (k p : ℕ) → promised n ds s out ≡ refused k p
-      → (refused k p ≡ promised n ds s out) × ((out ≡ promisedOutput n ds s out) × ScratchKept (promised n ds s out) ds s s)
-  unfolding promisedOutput output_after ScratchKept
+      → (refused k p ≡ promised n ds s out) × ((out ≡ promised_output n ds s out) × ScratchKept (promised n ds s out) ds s s)
+  unfolding promised_output output_after ScratchKept
   refusal k p e = (sym e, (rw e, rw e refl))
 
   pub service : (left fresh : List ℕ) → promised n ds s out ≡ served [] → fresh ≡ swapped ds ++ drop (length ds) out → Kept ds s left
-      → (served [] ≡ promised n ds s out) × ((fresh ≡ promisedOutput n ds s out) × ScratchKept (promised n ds s out) ds s left)
-  unfolding promisedOutput output_after ScratchKept
+      → (served [] ≡ promised n ds s out) × ((fresh ≡ promised_output n ds s out) × ScratchKept (promised n ds s out) ds s left)
+  unfolding promised_output output_after ScratchKept
   service left fresh e f k = (sym e, (rw (e, length-shuffle ds) f, rw e (k.long, k.rest)))

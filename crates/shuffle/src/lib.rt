@@ -4,10 +4,12 @@
 // `reach`, and after step i the number that it moved away stays at i. `reach` is n where that is at most twice the number of draws, and
 // else the number of draws. A draw from `reach` on finds its number by the last earlier step with the same draw: the second half of the
 // scratch links each step with such a draw to the last one before it whose draw falls into the same bucket.
+#![tactic(auto)]
+
 ghost use Rattle.std.specs.Prelude.{◌≡◌, ℕ, ◌+◌, ◌*◌, ◌^◌, ◌<◌, ◌≤◌, min, ◌++◌, length, drop, nat_eq, slice_index};
 ghost use Rattle.lists.specs.Lists.{tabulate};
 ghost use Rattle.automaton.specs.Shuffle.{Valid, shuffle as swapped};
-ghost use Rattle.promises.specs.Calls.{first_bad, bad_draw, shuffle as promised, shuffled as promisedOutput, ShuffleKeeps};
+ghost use Rattle.promises.specs.Calls.{first_bad, bad_draw, shuffle as promised, shuffled as promised_output, ShuffleKeeps};
 ghost use Rattle.shuffle.specs.Outcome.{answer_of};
 ghost use Rattle.shuffle.specs.Buckets.{spread, bucket_of};
 ghost use Rattle.shuffle.specs.Places.{drawn, latest_step, multiple, chained, moved, Linked, Walkable, Held, Prepared, Kept};
@@ -23,7 +25,7 @@ pub enum Answered {
 // anything is written.
 pub fn shuffle(n: u64, draws: &[u64], scratch: &mut [u64], out: &mut [u64]) -> Answered
     ensures result_value { answer_of result ≡ promised n draws.now scratch.old out.old }
-    ensures out_after { out.new ≡ promisedOutput n draws.now scratch.old out.old }
+    ensures out_after { out.new ≡ promised_output n draws.now scratch.old out.old }
     ensures shuffle_keeps { ShuffleKeeps n draws.now scratch.old out.old scratch.new }
 {
     let z = draws.len();

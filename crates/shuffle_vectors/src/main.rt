@@ -1,5 +1,6 @@
 // Runs the shuffle on small lists of draws and on lists of 1,000, and writes what it answers and leaves; then the published vectors of SplitMix64 as
 // the code makes them, and what the draws call answers and leaves. Scratch begins with 7 everywhere and output with 9, so that what is kept shows.
+#![tactic(auto)]
 use shuffle::Answered;
 
 fn main() {

@@ -1,4 +1,6 @@
 // SplitMix64: a state that is added to, and the mixing that makes a raw number of a copy of it.
+#![tactic(auto)]
+
 ghost use Rattle.std.specs.Prelude.{◌≡◌, ◌*◌, ◌%◌, ◌^◌};
 ghost use Rattle.promises.specs.SplitMix.{next_state, mix as mixed};
 
