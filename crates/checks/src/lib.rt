@@ -8,14 +8,14 @@ use reader::Verdict;
 use rig::Rig;
 
 // Whether a row of the table of refusals applied.
-#[derive(Drop)]
+#[derive(Clone, Copy)]
 pub enum Checked {
     Passed,
     Refused(u64, u64),
 }
 
 // Which rows of cells a call keeps: all up to the horizon, every sixteenth and fifteen others, or two.
-#[derive(Drop)]
+#[derive(Clone, Copy)]
 pub enum Rows {
     All,
     Sixteenths,

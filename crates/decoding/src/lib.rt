@@ -8,21 +8,21 @@ ghost use Rattle.promises.specs.Text as text;
 ghost use Rattle.decoding.specs.Forms.{value_of, signed_of, field_of, or_other, signed_or, pair_or, fields_from, leading, listed_in, over, form_of};
 
 // What a field is: a number of paper 01, or none.
-#[derive(Drop)]
+#[derive(Clone, Copy)]
 pub enum Decimal {
     Value(usize),
     Wrong,
 }
 
 // What a field is: a signed number of paper 02 no. 6, or none.
-#[derive(Drop)]
+#[derive(Clone, Copy)]
 enum Integer {
     Value(i64),
     Wrong,
 }
 
 // A line that begins a monitor, with its numbers: `mon`, S and the start; `gap`, e, n; `reply`, a, b, lo, hi; `bal`, lo, hi; `day`, T.
-#[derive(Drop)]
+#[derive(Clone, Copy)]
 pub enum Kind {
     Mon(usize, usize),
     Gap(usize, usize),
@@ -32,7 +32,7 @@ pub enum Kind {
 }
 
 // A line of the latest monitor, with its numbers: `go`, s, e, t; `stop`, s; `amp`, e, d; `open`, e, a, b.
-#[derive(Drop)]
+#[derive(Clone, Copy)]
 pub enum Part {
     Go(usize, usize, usize),
     Stop(usize),
@@ -41,7 +41,7 @@ pub enum Part {
 }
 
 // A line's form. `Ord` has how many events are listed; the events themselves are left in a lent list.
-#[derive(Drop)]
+#[derive(Clone, Copy)]
 pub enum Form {
     Rig(usize),
     Ord(usize),
@@ -51,7 +51,7 @@ pub enum Form {
 }
 
 // The first field of what is left of a line: a number that is the last field, a number and where the next field starts, or no number.
-#[derive(Drop)]
+#[derive(Clone, Copy)]
 enum Field {
     Last(usize),
     More(usize, usize),
@@ -59,7 +59,7 @@ enum Field {
 }
 
 // The two last fields of a line, or that there are not two numbers left.
-#[derive(Drop)]
+#[derive(Clone, Copy)]
 enum Pair {
     Both(usize, usize),
     Neither,

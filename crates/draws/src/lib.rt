@@ -11,7 +11,7 @@ ghost use Rattle.draws.specs.Making.{Enough, taken_of, first_failed, AllMade};
 use shuffle::Answered;
 
 // One draw: whether it is made, and then the raw number that it takes and the state after it.
-#[derive(Drop)]
+#[derive(Clone, Copy)]
 struct Draw {
     made: bool,
     raw: u64,

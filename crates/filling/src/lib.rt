@@ -12,7 +12,7 @@ use checks::Checked;
 use rig::Rig;
 
 // Whether row 9 or 10 applied, with the cell of the start, which is N where none did, and the number of passes.
-#[derive(Drop)]
+#[derive(Clone, Copy)]
 pub struct Filled {
     pub checked: Checked,
     pub count: u64,

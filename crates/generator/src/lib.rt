@@ -14,21 +14,21 @@ use rig::Rig;
 use shuffle::Answered;
 
 // What Count answers: N and the passes, or a refusal's number and place.
-#[derive(Drop)]
+#[derive(Clone, Copy)]
 pub enum Counted {
     Served(u64, u64),
     Refused(u64, u64),
 }
 
 // What Scenarios answers.
-#[derive(Drop)]
+#[derive(Clone, Copy)]
 pub enum Listed {
     Served,
     Refused(u64, u64),
 }
 
 // What Index answers: the index, or a refusal's number and place.
-#[derive(Drop)]
+#[derive(Clone, Copy)]
 pub enum Indexed {
     Served(u64),
     Refused(u64, u64),

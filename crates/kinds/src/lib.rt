@@ -11,14 +11,14 @@ ghost use Rattle.kinds.specs.Kinds.{as_kind, InRange, mon_states, band_of, day_s
 use decoding::Kind;
 
 // The band of a `bal`, from lo to hi; of any other kind the empty one, from 1 to 0.
-#[derive(Drop)]
+#[derive(Clone, Copy)]
 pub struct Band {
     pub lo: i64,
     pub hi: i64,
 }
 
 // The moves of a monitor from one state: on event a to x, on b to y, on any other to z.
-#[derive(Drop)]
+#[derive(Clone, Copy)]
 struct Row {
     a: usize,
     x: usize,

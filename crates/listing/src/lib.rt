@@ -16,7 +16,7 @@ use decoding::Decimal;
 use rig::Rig;
 
 // What the first line asks for: a horizon, with the place where the rig text begins; or it is no `ask` line.
-#[derive(Drop)]
+#[derive(Clone, Copy)]
 enum Asked {
     Horizon(usize, usize),
     Bad,
@@ -24,7 +24,7 @@ enum Asked {
 
 // Where a listing stands: the length of the line written last, 0 once the listing has ended; the index whose line comes next, and how many have
 // one; and what their lines are made from.
-#[derive(Drop)]
+#[derive(Clone, Copy)]
 pub struct Cursor {
     pub length: usize,
     pub index: u64,

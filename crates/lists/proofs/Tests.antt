@@ -57,3 +57,7 @@ split a b = go (leb a b) refl
 
 pub ℕ_trichotomy : (a b : ℕ) → (a < b) ⊎ ((a ≡ b) ⊎ (b < a))
 ℕ_trichotomy a b = ⊎_elim (λ h. ⊎_elim (λ e. inr (inl e)) (λ l. inl l) (eq-or-lt_of_le h)) (λ h. inr (inr h)) (split a b)
+
+-- what follows from two facts follows from both together
+pub uncurry : {A B C : Type 0} → (A → B → C) → A × B → C
+uncurry f (a, b) = f a b

@@ -7,7 +7,7 @@ ghost use Rattle.promises.specs.Calls.{not_below, first_bad};
 ghost use Rattle.ranking.specs.Ranks.{ChosenBy, FoundBy, UnrankedBy, WholeBy, RankedBy, WrittenBy, ListedBy};
 
 // One step of unranking: the event, what is left of the index, and the state that the event leads to.
-#[derive(Drop)]
+#[derive(Clone, Copy)]
 pub struct Choice {
     pub event: u8,
     pub left: u64,
@@ -15,14 +15,14 @@ pub struct Choice {
 }
 
 // One step of ranking: how many indices lie before those that begin with the event, and the state that the event leads to.
-#[derive(Drop)]
+#[derive(Clone, Copy)]
 struct Found {
     before: u64,
     state: usize,
 }
 
 // A sequence's index, or the place of its first event that is not admitted or leads to a state not live.
-#[derive(Drop)]
+#[derive(Clone, Copy)]
 pub enum Ranked {
     Index(u64),
     Violation(usize),

@@ -9,7 +9,7 @@ use rig::Rig;
 use taking::{Sizes, Taken};
 
 // What reading answers: the text is readable, or a number and a place.
-#[derive(Drop)]
+#[derive(Clone, Copy)]
 pub enum Verdict {
     Readable,
     Refused(u64, u64),

@@ -8,14 +8,14 @@ ghost use Rattle.promises.specs.Sheets.{leg as leg_of, previous as previous_of, 
 ghost use Rattle.sheets.specs.Writing.{sheet_answer, legs_text, part_of, Measures};
 
 // What the call answers: the length of the sheet and the events that it runs, or a refusal's number and place.
-#[derive(Drop)]
+#[derive(Clone, Copy)]
 pub enum Sheeted {
     Served(u64, u64),
     Refused(u64, u64),
 }
 
 // Whether a sheet fits, and if so its length and the events that it runs.
-#[derive(Drop)]
+#[derive(Clone, Copy)]
 struct Measured {
     fits: bool,
     length: usize,

@@ -15,7 +15,7 @@ ghost use Rattle.shuffle.specs.Buckets.{spread, bucket_of};
 ghost use Rattle.shuffle.specs.Places.{drawn, latest_step, multiple, chained, moved, Linked, Walkable, Held, Prepared, Kept};
 
 // Served, or refused with a number and a place.
-#[derive(Drop)]
+#[derive(Clone, Copy)]
 pub enum Answered {
     Served,
     Refused(u64, u64),

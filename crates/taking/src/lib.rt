@@ -12,7 +12,7 @@ use kinds::Band;
 // What the lines so far say: E, how many monitors there are, how many states a `go` or `stop` line can name, which are those of the latest monitor if it is a
 // `mon`, the band in which an `amp` line moves, which is that of the latest monitor if it is a `bal` and else empty, how many steps the hours of an `open` line
 // can be of, which are those of the latest monitor if it is a `day`, and P.
-#[derive(Drop)]
+#[derive(Clone, Copy)]
 pub struct Sizes {
     pub events: usize,
     pub monitors: usize,
@@ -23,7 +23,7 @@ pub struct Sizes {
 }
 
 // What a line comes to: other sizes after it, the same sizes, or the number of the first case that holds of it.
-#[derive(Drop)]
+#[derive(Clone, Copy)]
 pub enum Taken {
     Next(Sizes),
     Same,

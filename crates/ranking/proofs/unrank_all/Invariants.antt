@@ -1,0 +1,26 @@
+-- The invariant: the scenarios of the first n indices stand at the front, the other bytes as they were. The part lent begins where they end, at n × h
+-- (`length-unrank`), and comes back with one scenario more (`walk_step`).
+use mathlib.Core.Path.{◌≡◌, refl, sym, ap, ◌∙◌, subst}
+use mathlib.Core.List.{List, ◌++◌}
+use Prim.Native.Nat.{ℕ, ◌+◌, ◌-◌, ◌*◌, ◌≤◌, ◌<◌}
+use native.Mathlib.Omega.{arith}
+use native.Mathlib.Nat.{zero-mul}
+use lib.ListN.{length, get_or, take, drop}
+use lib.Seq.{take-length}
+use Rattle.lists.specs.Lists.{concat_map}
+use Rattle.automaton.specs.Automaton.{Automaton}
+use Rattle.automaton.specs.Counting.{N}
+use Rattle.automaton.specs.Ranking.{unrank}
+use Rattle.ranking.specs.Ranks.{Exact, IndicesBelow, with_scenarios}
+use Rattle.ranking.proofs.Rows.{row_within}
+use Rattle.ranking.proofs.Walk.{length-unrank, length_part, walk_step}
+use borrow.Author.Rules.{rules}
+use Rattle.ranking.proofs.unrank_all.Given as goal
+
+abbrev pub invariant-loop-n : goal.invariant-loop-n
+invariant-loop-n l =
+    (l.n ≤ length l.list) × (length l.out ≡ length l.initial.out)
+    × ((A : Automaton) → Exact A l.p 0 l.h l.x l.table l.cells → IndicesBelow (N A l.h l.x) l.list → l.out ≡ concat_map (unrank A l.h l.x) (take l.n l.list) ++ drop (l.n * l.h) l.initial.out)
+
+abbrev pub decreases-loop-n : goal.decreases-loop-n
+decreases-loop-n l = length l.list - l.n
