@@ -4,6 +4,7 @@ use native.Mathlib.Omega.{arith}
 use lib.ListN.{length-append}
 use Rattle.lists.specs.Lists.{concat_map}
 use Rattle.line.specs.Line.{field_bytes}
+use Rattle.lists.proofs.Tests.{uncurry}
 use Rattle.line.proofs.Pieces.{rest-written}
 use borrow.Author.Rules.{rules}
 use Rattle.line.proofs.write_events.Goals as goal
@@ -20,6 +21,5 @@ write_rest-requires c =
 
 pub returns : goal.returns
 returns c =
-    let w = c.write_word-from in
-    let r = c.write_rest in
-    rest-written c.args.word.now c.args.events.now c.args.out.now _ _ _ _ c.write_word-from.ensures.value c.write_word-from.ensures.out_after c.write_rest.ensures.value c.write_rest.ensures.out_after
+    uncurry (λ v o. record { value = v; out_after = o })
+    (rest-written c.args.word.now c.args.events.now c.args.out.now _ _ _ _ c.write_word-from.ensures.value c.write_word-from.ensures.out_after c.write_rest.ensures.value c.write_rest.ensures.out_after)

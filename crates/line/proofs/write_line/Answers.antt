@@ -6,6 +6,7 @@ use Rattle.lists.specs.Lists.{concat_map}
 use Rattle.lists.specs.Decimal.{decimal}
 use Rattle.decimal.proofs.Digits.{decimal-fits}
 use Rattle.line.specs.Line.{field_bytes, line_of}
+use Rattle.lists.proofs.Tests.{uncurry}
 use Rattle.line.proofs.Pieces.{fields-short, rest-written}
 use borrow.Author.Rules.{rules}
 use Rattle.line.proofs.write_line.Goals as goal
@@ -19,7 +20,7 @@ write_rest-requires c =
     omega (arith, decimal-fits c.args.index (omega arith), length-append (concat_map field_bytes es) (10 ∷ []), fields-short es (λ k. omega (arith, c.shared_slice_known-1.given k)))
 
 pub returns : goal.returns
+unfolding line_of
 returns c =
-    let w = c.write-from in
-    let r = c.write_rest in
-    unfold line_of in rest-written (decimal c.args.index) c.args.events.now c.args.out.now _ _ _ _ c.write-from.ensures.value c.write-from.ensures.out_after c.write_rest.ensures.value c.write_rest.ensures.out_after
+    uncurry (λ v o. record { value = v; out_after = o })
+    (rest-written (decimal c.args.index) c.args.events.now c.args.out.now _ _ _ _ c.write-from.ensures.value c.write-from.ensures.out_after c.write_rest.ensures.value c.write_rest.ensures.out_after)

@@ -3,6 +3,7 @@
 use Prim.Native.Nat.{◌<◌}
 use native.Mathlib.Omega.{arith}
 use lib.ListN.{length, length-set}
+use Rattle.lists.proofs.Tests.{uncurry}
 use Rattle.line.proofs.Pieces.{number-long, number-written}
 use Rattle.line.proofs.write_number.Goals as goal
 
@@ -23,7 +24,7 @@ shape_of-out c = simp length-set (omega arith)
 
 pub returns : goal.returns
 returns c =
-    let w = c.write_word-from in
     let f = c.write_field-after in
     let room : f.result < length c.args.out.now = omega (arith, number-long c.args.word.now c.args.n) in
-    number-written c.args.word.now c.args.out.now _ _ c.args.n _ _ room c.write_word-from.ensures.value c.write_word-from.ensures.out_after c.write_field-after.ensures.value c.write_field-after.ensures.out_after
+    uncurry (λ v o. record { value = v; out_after = o })
+    (number-written c.args.word.now c.args.out.now _ _ c.args.n _ _ room c.write_word-from.ensures.value c.write_word-from.ensures.out_after c.write_field-after.ensures.value c.write_field-after.ensures.out_after)

@@ -4,6 +4,7 @@ use Prim.Native.Nat.{◌<◌}
 use native.Mathlib.Omega.{arith}
 use lib.ListN.{length, length-set}
 use Rattle.decimal.proofs.Digits.{decimal-fits}
+use Rattle.lists.proofs.Tests.{uncurry}
 use Rattle.line.proofs.Pieces.{numbers-written}
 use borrow.Author.Rules.{rules}
 use Rattle.line.proofs.write_numbers.Goals as goal
@@ -25,8 +26,7 @@ shape_of-out c = simp length-set (omega arith)
 
 pub returns : goal.returns
 returns c =
-    let w = c.write_word-from in
-    let f = c.write_field-after_a in
     let g = c.write_field-after_b in
     let room : g.result < length c.args.out.now = omega (arith, decimal-fits c.args.a (omega arith), decimal-fits c.args.b (omega arith)) in
-    numbers-written c.args.word.now c.args.out.now _ _ _ c.args.a c.args.b _ _ _ room c.write_word-from.ensures.value c.write_word-from.ensures.out_after c.write_field-after_a.ensures.value c.write_field-after_a.ensures.out_after c.write_field-after_b.ensures.value c.write_field-after_b.ensures.out_after
+    uncurry (λ v o. record { value = v; out_after = o })
+    (numbers-written c.args.word.now c.args.out.now _ _ _ c.args.a c.args.b _ _ _ room c.write_word-from.ensures.value c.write_word-from.ensures.out_after c.write_field-after_a.ensures.value c.write_field-after_a.ensures.out_after c.write_field-after_b.ensures.value c.write_field-after_b.ensures.out_after)

@@ -4,6 +4,7 @@ use mathlib.Core.List.{[], ◌∷◌}
 use lib.ListN.{length-append}
 use Rattle.lists.specs.Lists.{concat_map}
 use Rattle.line.specs.Line.{field_bytes}
+use Rattle.lists.proofs.Tests.{uncurry}
 use Rattle.line.proofs.Pieces.{ended-placed}
 use borrow.Author.Rules.{rules}
 use Rattle.line.proofs.write_rest.Goals as goal
@@ -19,6 +20,6 @@ overflow_add-result c = omega (arith, length-append (concat_map field_bytes c.ar
 
 pub returns : goal.returns
 returns c =
-    let w = c.write_fields-end in
     let fields = concat_map field_bytes c.args.events.now in
-    ended-placed fields c.args.out.now _ c.args.at _ (omega (arith, length-append fields (10 ∷ []))) c.write_fields-end.ensures.value c.write_fields-end.ensures.out_after
+    uncurry (λ v o. record { value = v; out_after = o })
+    (ended-placed fields c.args.out.now _ c.args.at _ (omega (arith, length-append fields (10 ∷ []))) c.write_fields-end.ensures.value c.write_fields-end.ensures.out_after)
