@@ -1,4 +1,5 @@
-use mathlib.Core.Path.{◌≡◌, refl, sym, ◌∙◌}
+use mathlib.Core.Path.{◌≡◌, refl, sym, ap, ◌∙◌}
+use mathlib.Core.Bool.{not}
 use Prim.Native.Nat.{◌-◌, ◌≤◌}
 use native.Mathlib.Omega.{arith}
 use native.Mathlib.Nat.{sub-zero}
@@ -16,12 +17,12 @@ is_thrown-requires c = (c.requires, c.enough_for-enough.ensures)
 pub returns-then-not-is_thrown : goal.returns-then-not-is_thrown
 returns-then-not-is_thrown c =
     let lp = c.loop-k in
-    sym (lp.invariant.1 ∙ taken_here c.args.limit lp.k c.args.w lp.state _ _ (omega arith) c.next_state-state.ensures c.mix-raw.ensures (rw c.is_thrown.ensures at c.if-not-is_thrown.true))
+    sym (lp.invariant.1 ∙ taken_here c.args.limit lp.k c.args.w lp.state _ _ (omega arith) c.next_state-state.ensures c.mix-raw.ensures (ap not (rw c.is_thrown.ensures at c.if-not-is_thrown.true)))
 
 pub loop-k-preserved : goal.loop-k-preserved
 loop-k-preserved c =
     let lp = c.loop-k in
-    (omega arith, lp.invariant.1 ∙ taken_later c.args.limit lp.k c.args.w lp.state _ _ (omega arith) c.next_state-state.ensures c.mix-raw.ensures (rw c.is_thrown.ensures at c.if-not-is_thrown.false))
+    (omega arith, lp.invariant.1 ∙ taken_later c.args.limit lp.k c.args.w lp.state _ _ (omega arith) c.next_state-state.ensures c.mix-raw.ensures (ap not (rw c.is_thrown.ensures at c.if-not-is_thrown.false)))
 
 pub returns : goal.returns
 returns c =
