@@ -1,0 +1,7 @@
+-- Of the kinds, `reply` has an a and a b.
+-- Assumes nothing.
+use borrow.Author.Rules.{rules}
+use Rattle.kinds.proofs.equal.Goals as goal
+
+pub returns-in-Reply : goal.returns-in-Reply
+returns-in-Reply c = rw c.in-Reply.is

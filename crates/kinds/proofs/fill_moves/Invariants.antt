@@ -1,0 +1,21 @@
+-- The rows so far are those of the kind's automaton, and the rest is as it was.
+-- Assumes nothing.
+use mathlib.Core.Path.{◌≡◌, refl, ap, ap₂, ◌∙◌, fun_ext}
+use mathlib.Core.List.{List}
+use Prim.Native.Nat.{ℕ, ◌-◌, ◌≤◌}
+use native.Mathlib.Omega.{arith}
+use lib.ListN.{length}
+use Rattle.lists.specs.Lists.{overwrite}
+use Rattle.promises.specs.Text.{states_of}
+use Rattle.rig.specs.Record.{move_index}
+use Rattle.kinds.specs.Kinds.{as_kind, entry_of, with_rows}
+use Rattle.kinds.proofs.Tables.{rows_more}
+use Rattle.kinds.proofs.Bands.{few}
+use borrow.Author.Rules.{rules}
+use Rattle.kinds.proofs.fill_moves.Given as goal
+
+abbrev pub invariant-loop-s : goal.invariant-loop-s
+invariant-loop-s l = (l.s ≤ l.n) × (l.n ≤ 32) × (length l.moves ≡ length l.initial.moves) × (l.moves ≡ with_rows l.initial.moves l.m (as_kind l.k) l.s)
+
+abbrev pub decreases-loop-s : goal.decreases-loop-s
+decreases-loop-s l = l.n - l.s
