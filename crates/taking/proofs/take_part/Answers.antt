@@ -38,7 +38,8 @@ pub returns-in-Amp : goal.returns-in-Amp
 returns-in-Amp c =
     let st = c.args in
     let q = c.in-Amp.is in
-    let t = c.take_amp.ensures in
+    let d : to_z w64 (of_z w64 c.in-Amp.d) ≡ c.in-Amp.d = search rules in
+    let t = rw d at c.take_amp.ensures in
     let n = amp_case st.given.now st.z c.in-Amp.e c.in-Amp.d in
     record {
       value = rw q t.value;
