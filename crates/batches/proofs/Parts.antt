@@ -3,7 +3,7 @@
 use mathlib.Core.Path.{◌≡◌, sym, ◌∙◌, subst}
 use mathlib.Core.Logic.{◌⊎◌, inl, inr, ◌≢◌}
 use mathlib.Core.List.{List, ◌++◌}
-use Prim.Native.Nat.{ℕ, ◌+◌, ◌-◌, ◌*◌, ◌≤◌, ◌<◌}
+use Prim.Native.Nat.{ℕ, ◌+◌, ◌*◌, ◌≤◌, ◌<◌}
 use native.Mathlib.Omega.{arith}
 use native.Mathlib.Nat.{eq-or-lt_of_le}
 use native.Mathlib.Decide.{ℕ_discrete}
@@ -11,7 +11,6 @@ use lib.ListN.{length, get_or, take, drop, set}
 use lib.Seq.{get_or-set_same, get_or-set_other}
 use Rattle.lists.proofs.Tests.{split}
 use Rattle.automaton.specs.Automaton.{Automaton}
-use Rattle.automaton.specs.Ranking.{unrank}
 use Rattle.ranking.specs.Ranks.{Unranked, Begun}
 use Rattle.ranking.proofs.Parts.{unranked_long, begun_more}
 use Rattle.keeping.specs.Keeping.{Past}

@@ -1,5 +1,6 @@
 // Rows 1 to 8 and 16 to 18 of the table of refusals: the text, the horizon and the room for the cells, checked before anything is written.
 #![tactic(auto)]
+
 ghost use Rattle.std.specs.Prelude.{◌≡◌, ◌≤◌};
 ghost use Rattle.rig.specs.Record.{WellFormed};
 ghost use Rattle.checks.specs.Loading.{rows_for, Loads, ChecksSizes};

@@ -3,6 +3,7 @@
 // The draws are made twice: once to find out whether all can be made, and once to be written. So nothing is written before a refusal, and no
 // second buffer is needed.
 #![tactic(auto)]
+
 ghost use Rattle.std.specs.Prelude.{◌≡◌, ◌%◌, ◌<◌, ◌≤◌, ◌^◌, length};
 ghost use Rattle.shuffle.specs.Outcome.{answer_of};
 ghost use Rattle.promises.specs.Draws.{thrown_away, taken, outcome, draws as promised, draws_output};

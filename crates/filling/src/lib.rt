@@ -1,5 +1,6 @@
 // A rig pruned, its table filled, its cells counted, and rows 9 and 10: what the calls on a text share once the checks before are passed.
 #![tactic(auto)]
+
 ghost use Rattle.std.specs.Prelude.{◌≡◌, ◌+◌, ◌*◌, ◌≤◌, length};
 ghost use Rattle.automaton.specs.Pruning.{passes};
 ghost use Rattle.rig.specs.Record.{record_automaton, WellFormed};

@@ -1,6 +1,7 @@
 // Count from the front: the call that keeps two rows of cells and pushes the count of the start forward. It reads what it is lent, refuses what it
 // can't serve, and ends; it asks nothing of its caller.
 #![tactic(auto)]
+
 ghost use Rattle.std.specs.Prelude.{◌≡◌, ◌*◌, length};
 ghost use Rattle.rig.specs.Record.{record_automaton};
 ghost use Rattle.promises.specs.Calls.{count_from, Freed};

@@ -1,5 +1,6 @@
 // The four calls. Each reads what it is lent, refuses what it can't serve, and ends; none asks anything of its caller.
 #![tactic(auto)]
+
 ghost use Rattle.std.specs.Prelude.{◌≡◌, ◌*◌, ◌≤◌, length};
 ghost use Rattle.rig.specs.Record.{record_automaton};
 ghost use Rattle.promises.specs.Calls.{count_from, filled, ShuffleKeeps};

@@ -1,5 +1,6 @@
 // The kinds of monitor: what a line that begins one says, each function up to `mark` by the kind; then the tables of any kind, and the moves on one event.
 #![tactic(auto)]
+
 ghost use Rattle.std.specs.Prelude.{◌≡◌, false, ◌&&◌, [], ℕ, suc, ◌+◌, ◌%◌, ◌≤◌, ◌<◌, pos, neg_ℤ, length, set, leb, ltb, eqb};
 ghost use Rattle.lists.specs.Lists.{pick, overwrite};
 ghost use Rattle.promises.specs.Text.{bal, states_of, start_of};

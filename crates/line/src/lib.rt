@@ -1,5 +1,6 @@
 // The lines that the program prints and those of a sheet, each written at the front of a lent part; and how long they are.
 #![tactic(auto)]
+
 ghost use Rattle.std.specs.Prelude.{◌≡◌, [], ◌∷◌, ◌++◌, ◌+◌, ◌*◌, ◌<◌, ◌≤◌, ◌^◌, length, drop};
 ghost use Rattle.lists.specs.Lists.{concat_map};
 ghost use Rattle.lists.specs.Decimal.{decimal};

@@ -1,5 +1,6 @@
 // The output of the program `scenarios`, line by line: a cursor that writes the first line with the cells filled once, then the line of each index.
 #![tactic(auto)]
+
 ghost use Rattle.std.specs.Prelude.{◌≡◌, ◌+◌, ◌*◌, ◌<◌, ◌≤◌, min, length, take};
 ghost use Rattle.lists.specs.Lists.{index_of};
 ghost use Rattle.rig.specs.Record.{record_automaton};

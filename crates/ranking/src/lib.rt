@@ -1,6 +1,7 @@
 // Scenarios by index, indices by scenario, and the list walker, over the cells and the rows of a pruned table. A walk over a row ends at its first
 // empty entry.
 #![tactic(auto)]
+
 ghost use Rattle.std.specs.Prelude.{◌≡◌, not, ◌+◌, ◌-◌, ◌*◌, ◌<◌, ◌≤◌, ◌^◌, min, get_or, length, ltb};
 ghost use Rattle.lists.specs.Lists.{pick};
 ghost use Rattle.promises.specs.Calls.{not_below, first_bad};

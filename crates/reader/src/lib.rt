@@ -1,5 +1,6 @@
 // Reading a rig's text: its record, or the first of the refusals 1 to 6 and 16 to 18. One pass over the text, line by line; the tables are filled in place.
 #![tactic(auto)]
+
 ghost use Rattle.std.specs.Prelude.{◌≡◌};
 ghost use Rattle.promises.specs.Reading as promised;
 ghost use Rattle.reader.specs.Reading.{answer_of, refusal, record_of};

@@ -14,7 +14,7 @@ use Rattle.lists.proofs.Decimal.{decimal-some}
 use Rattle.line.specs.Line.{line_from}
 use Rattle.promises.specs.Text.{bytes}
 use Rattle.promises.specs.Spelling.{joined}
-use Rattle.promises.specs.Sheets.{load, slot_for, depth_for, tail, leg, legs, part, previous, sheet, events, text, scenario, sheet_text}
+use Rattle.promises.specs.Sheets.{slot_for, depth_for, tail, leg, legs, part, previous, sheet, events, text, scenario, sheet_text}
 use Rattle.promises.proofs.Bench.{loaded_short, events-append, events_part}
 use Rattle.promises.proofs.Sheets.{scenario_long}
 use Rattle.sheets.specs.Writing.{legs_text, part_of}

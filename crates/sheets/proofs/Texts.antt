@@ -15,7 +15,7 @@ use Rattle.line.specs.Line.{field_bytes, line_from}
 use Rattle.line.proofs.Pieces.{number-long}
 use Rattle.promises.specs.Text.{bytes}
 use Rattle.promises.specs.Spelling.{preceded, spelled, joined}
-use Rattle.promises.specs.Sheets.{Command, load, run, save, leg, command_line, text}
+use Rattle.promises.specs.Sheets.{Command, load, leg, command_line, text}
 
 preceded-fields : (ns : List ℕ) → preceded 9 (map decimal ns) ≡ concat_map field_bytes ns
 preceded-fields [] = refl

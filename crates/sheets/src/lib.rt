@@ -2,6 +2,7 @@
 //
 // A sheet is measured before it is written, so that nothing is written where it does not fit.
 #![tactic(auto)]
+
 ghost use Rattle.std.specs.Prelude.{◌≡◌, true, ◌++◌, ◌+◌, ◌*◌, ◌<◌, ◌≤◌, length, take, drop};
 ghost use Rattle.line.specs.Line.{field_bytes};
 ghost use Rattle.promises.specs.Sheets.{leg as leg_of, previous as previous_of, text, scenario as scenario_of, shared as shared_by, tail as tail_of, sheet_text, sheet_call, sheet_output};

@@ -1,6 +1,7 @@
 // Scenarios on the small bench: the call that keeps every sixteenth row of cells and works the others out when they are wanted. It reads what it is lent,
 // refuses what it can't serve, and ends; it asks nothing of its caller.
 #![tactic(auto)]
+
 ghost use Rattle.std.specs.Prelude.{◌≡◌, ◌*◌, ◌≤◌, length};
 ghost use Rattle.rig.specs.Record.{record_automaton};
 ghost use Rattle.promises.specs.Calls.{Freed};

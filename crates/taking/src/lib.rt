@@ -1,5 +1,6 @@
 // What a line comes to, after the lines before it: the number of the first case that holds of it, or what it changes in the sizes and the tables.
 #![tactic(auto)]
+
 ghost use Rattle.std.specs.Prelude.{◌≡◌, length};
 ghost use Rattle.promises.specs.Reading as promised;
 ghost use Rattle.kinds.specs.Kinds.{as_kind, kind_moves, kind_stops};

@@ -1,10 +1,8 @@
-use mathlib.Core.Path.{◌≡◌, refl}
-use Prim.Native.Nat.{ℕ, ◌-◌, ◌≤◌, ◌<◌}
+use mathlib.Core.Path.{refl}
 use native.Mathlib.Omega.{arith}
-use lib.ListN.{length, get_or, length-set}
+use lib.ListN.{length-set}
 use Rattle.batches.specs.Batches.{Copied}
 use Rattle.batches.proofs.Lists.{copied_more}
-use borrow.Author.Rules.{rules}
 use Rattle.batches.proofs.copy_indices.Goals as goal
 
 pub loop-k-init : goal.loop-k-init

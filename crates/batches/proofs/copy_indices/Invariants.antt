@@ -1,11 +1,7 @@
 -- The invariant: the first k numbers are the indices.
-use mathlib.Core.Path.{◌≡◌, refl}
+use mathlib.Core.Path.{◌≡◌}
 use Prim.Native.Nat.{ℕ, ◌-◌, ◌≤◌, ◌<◌}
-use native.Mathlib.Omega.{arith}
-use lib.ListN.{length, get_or, length-set}
-use Rattle.batches.specs.Batches.{Copied}
-use Rattle.batches.proofs.Lists.{copied_more}
-use borrow.Author.Rules.{rules}
+use lib.ListN.{length, get_or}
 use Rattle.batches.proofs.copy_indices.Given as goal
 
 abbrev pub invariant-loop-k : goal.invariant-loop-k

@@ -1,12 +1,7 @@
 use mathlib.Core.Path.{◌≡◌, refl, sym, subst}
-use Prim.Native.Nat.{ℕ, ◌+◌, ◌-◌, ◌*◌, ◌/◌, ◌≤◌, ◌<◌}
+use Prim.Native.Nat.{ℕ, ◌-◌, ◌<◌}
 use native.Mathlib.Omega.{arith}
 use lib.ListN.{length, get_or, replicate, get_or-replicate}
-use Rattle.automaton.specs.Automaton.{Automaton}
-use Rattle.automaton.specs.Counting.{N, most}
-use Rattle.counting.specs.Tabled.{Tabled}
-use Rattle.ranking.specs.Ranks.{IndicesBelow}
-use Rattle.keeping.specs.Keeping.{Past, Sixteenths}
 use Rattle.batches.specs.Batches.{StatesBelow, AllBegun}
 use Rattle.keeping.proofs.Places.{past_refl, past_trans}
 use Rattle.batches.proofs.Lists.{begun_none, all_written}
@@ -40,8 +35,7 @@ unrank_block-requires c =
 pub loop-k-preserved : goal.loop-k-preserved
 loop-k-preserved c =
     let a = c.args in
-    let lp = c.loop-k in
- (
+    let lp = c.loop-k in (
       omega arith,
       omega arith,
       omega arith,

@@ -1,19 +1,14 @@
 -- The invariant: of each scenario `rest` events are left, which are as many as the rows of the blocks left. At the start all are left (`begun_none`), at the
 -- end none (`all_written`).
-use mathlib.Core.Path.{◌≡◌, refl, sym, subst}
-use Prim.Native.Nat.{ℕ, ◌+◌, ◌-◌, ◌*◌, ◌/◌, ◌≤◌, ◌<◌}
-use native.Mathlib.Omega.{arith}
-use lib.ListN.{length, get_or, replicate, get_or-replicate}
+use mathlib.Core.Path.{◌≡◌}
+use Prim.Native.Nat.{◌+◌, ◌-◌, ◌*◌, ◌/◌, ◌≤◌, ◌<◌}
+use lib.ListN.{length}
 use Rattle.automaton.specs.Automaton.{Automaton}
 use Rattle.automaton.specs.Counting.{N, most}
 use Rattle.counting.specs.Tabled.{Tabled}
 use Rattle.ranking.specs.Ranks.{IndicesBelow}
 use Rattle.keeping.specs.Keeping.{Past, Sixteenths}
 use Rattle.batches.specs.Batches.{StatesBelow, AllBegun}
-use Rattle.keeping.proofs.Places.{past_refl, past_trans}
-use Rattle.batches.proofs.Lists.{begun_none, all_written}
-use borrow.Author.Rules.{rules}
-use Rattle.lists.proofs.Tests.{uncurry}
 use Rattle.batches.proofs.unrank_batch.Given as goal
 
 abbrev pub invariant-loop-k : goal.invariant-loop-k

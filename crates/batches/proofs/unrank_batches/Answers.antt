@@ -1,20 +1,15 @@
 use mathlib.Core.Path.{◌≡◌, refl, ap, ◌∙◌}
 use mathlib.Core.List.{List, ◌++◌}
-use Prim.Native.Nat.{ℕ, ◌+◌, ◌-◌, ◌*◌, ◌/◌, ◌≤◌, ◌<◌}
+use Prim.Native.Nat.{ℕ, ◌+◌, ◌-◌, ◌*◌, ◌≤◌}
 use native.Mathlib.Omega.{arith}
 use native.Mathlib.Nat.{zero-mul, add-mul, mul-le-mul_right}
 use lib.ListN.{length, take, drop, length-take, length-drop}
 use lib.Seq.{take-length}
 use Rattle.lists.specs.Lists.{concat_map}
-use Rattle.automaton.specs.Automaton.{Automaton}
-use Rattle.automaton.specs.Counting.{N, most}
 use Rattle.automaton.specs.Ranking.{unrank}
-use Rattle.counting.specs.Tabled.{Tabled}
-use Rattle.ranking.specs.Ranks.{IndicesBelow, with_scenarios}
-use Rattle.keeping.specs.Keeping.{Past, Sixteenths}
+use Rattle.ranking.specs.Ranks.{with_scenarios}
 use Rattle.keeping.proofs.Places.{past_refl, past_trans}
 use Rattle.batches.proofs.Lists.{batch_below, batch_more}
-use borrow.Author.Rules.{rules}
 use Rattle.batches.proofs.unrank_batches.Goals as goal
 
 pub loop-n-init : goal.loop-n-init

@@ -1,21 +1,15 @@
 -- The invariant: the scenarios of the first n indices stand at the front, and every sixteenth row is kept. The batch's scenarios follow them (`batch_more`).
-use mathlib.Core.Path.{◌≡◌, refl, ap, ◌∙◌}
-use mathlib.Core.List.{List, ◌++◌}
-use Prim.Native.Nat.{ℕ, ◌+◌, ◌-◌, ◌*◌, ◌/◌, ◌≤◌, ◌<◌}
-use native.Mathlib.Omega.{arith}
-use native.Mathlib.Nat.{zero-mul, add-mul, mul-le-mul_right}
-use lib.ListN.{length, take, drop, length-take, length-drop}
-use lib.Seq.{take-length}
+use mathlib.Core.Path.{◌≡◌}
+use mathlib.Core.List.{◌++◌}
+use Prim.Native.Nat.{◌+◌, ◌-◌, ◌*◌, ◌/◌, ◌≤◌, ◌<◌}
+use lib.ListN.{length, take, drop}
 use Rattle.lists.specs.Lists.{concat_map}
 use Rattle.automaton.specs.Automaton.{Automaton}
 use Rattle.automaton.specs.Counting.{N, most}
 use Rattle.automaton.specs.Ranking.{unrank}
 use Rattle.counting.specs.Tabled.{Tabled}
-use Rattle.ranking.specs.Ranks.{IndicesBelow, with_scenarios}
+use Rattle.ranking.specs.Ranks.{IndicesBelow}
 use Rattle.keeping.specs.Keeping.{Past, Sixteenths}
-use Rattle.keeping.proofs.Places.{past_refl, past_trans}
-use Rattle.batches.proofs.Lists.{batch_below, batch_more}
-use borrow.Author.Rules.{rules}
 use Rattle.batches.proofs.unrank_batches.Given as goal
 
 abbrev pub invariant-loop-n : goal.invariant-loop-n

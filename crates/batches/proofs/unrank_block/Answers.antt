@@ -41,7 +41,7 @@ returns c =
     let last : a.h / 16 * a.p + 16 * a.p ≤ length a.cells.now = place_room (a.h / 16) (a.h / 16) 16 a.p (length a.cells.now) (omega arith) c.requires.p_in_bounds.0 in
     let len : length c.fill_block.new.cells ≡ length a.cells.now = search rules in
     let back = c.swap_rows.ensures in
- record {
+    record {
       states_below = c.unrank_parts.ensures.states_below;
       block_by = λ A x is tabled kept e all.
           let (block, past) = c.fill_block.ensures A tabled kept in

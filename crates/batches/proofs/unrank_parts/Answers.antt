@@ -1,18 +1,14 @@
 use mathlib.Core.Path.{◌≡◌, refl, sym, ◌∙◌, subst}
-use mathlib.Core.List.{List}
-use Prim.Native.Nat.{ℕ, ◌+◌, ◌-◌, ◌*◌, ◌≤◌, ◌<◌}
+use Prim.Native.Nat.{ℕ, ◌+◌, ◌-◌, ◌*◌, ◌<◌}
 use native.Mathlib.Omega.{arith}
-use lib.ListN.{length, get_or, length-set}
-use Rattle.automaton.specs.Automaton.{Automaton}
+use lib.ListN.{get_or, length-set}
 use Rattle.automaton.specs.Counting.{N}
-use Rattle.counting.specs.Tabled.{Tabled}
-use Rattle.ranking.specs.Ranks.{HoldsRows, Exact}
+use Rattle.ranking.specs.Ranks.{Exact}
 use Rattle.ranking.proofs.Walk.{length_part}
 use Rattle.keeping.specs.Keeping.{Past}
-use Rattle.batches.specs.Batches.{StatesBelow, AllBegun}
+use Rattle.batches.specs.Batches.{StatesBelow}
 use Rattle.keeping.proofs.Places.{place_below, past_refl}
-use Rattle.batches.proofs.Parts.{Passed, passed_none, passed_all, passed_more, states-set}
-use borrow.Author.Rules.{rules}
+use Rattle.batches.proofs.Parts.{passed_none, passed_all, passed_more, states-set}
 use Rattle.batches.proofs.unrank_parts.Goals as goal
 
 pub loop-k-init : goal.loop-k-init

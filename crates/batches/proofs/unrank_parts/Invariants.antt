@@ -1,20 +1,15 @@
 -- The invariant: the first k scenarios have their next n events, the others are as they were (`Passed`). The part lent is that of scenario k, and lies in its
 -- own h bytes (`passed_more`).
-use mathlib.Core.Path.{◌≡◌, refl, sym, ◌∙◌, subst}
+use mathlib.Core.Path.{◌≡◌}
 use mathlib.Core.List.{List}
-use Prim.Native.Nat.{ℕ, ◌+◌, ◌-◌, ◌*◌, ◌≤◌, ◌<◌}
-use native.Mathlib.Omega.{arith}
-use lib.ListN.{length, get_or, length-set}
+use Prim.Native.Nat.{ℕ, ◌+◌, ◌-◌, ◌*◌, ◌≤◌}
+use lib.ListN.{length}
 use Rattle.automaton.specs.Automaton.{Automaton}
-use Rattle.automaton.specs.Counting.{N}
 use Rattle.counting.specs.Tabled.{Tabled}
-use Rattle.ranking.specs.Ranks.{HoldsRows, Exact}
-use Rattle.ranking.proofs.Walk.{length_part}
+use Rattle.ranking.specs.Ranks.{HoldsRows}
 use Rattle.keeping.specs.Keeping.{Past}
 use Rattle.batches.specs.Batches.{StatesBelow, AllBegun}
-use Rattle.keeping.proofs.Places.{place_below, past_refl}
-use Rattle.batches.proofs.Parts.{Passed, passed_none, passed_all, passed_more, states-set}
-use borrow.Author.Rules.{rules}
+use Rattle.batches.proofs.Parts.{Passed}
 use Rattle.batches.proofs.unrank_parts.Given as goal
 
 abbrev pub invariant-loop-k : goal.invariant-loop-k

@@ -3,7 +3,6 @@
 use mathlib.Core.Path.{ap}
 use Prim.Native.Nat.{ℕ, ◌*◌, ◌≤◌}
 use native.Mathlib.Omega.{arith}
-use borrow.Author.Rules.{rules}
 use Rattle.joint.proofs.Digits.{states_few}
 use Rattle.checks.specs.Loading.{rows_for}
 use Rattle.checks.proofs.Laws.{cells_few, sizes_7, sizes_8, sizes_on}

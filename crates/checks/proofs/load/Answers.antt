@@ -1,7 +1,6 @@
 -- `load` meets its contract: a refused text is refused as reading says, and a readable one by rows 7 and 8 of the record that stands for it.
 -- Assumes nothing.
 use mathlib.Core.Path.{sym, ap, ◌∙◌}
-use borrow.Author.Rules.{rules}
 use Rattle.reader.specs.Reading.{answer_of}
 use Rattle.checks.specs.Loading.{rows_for}
 use Rattle.checks.proofs.Laws.{loads-refused, loads-readable, read_well_formed}

@@ -1,5 +1,4 @@
 -- `needed_rows` meets its contract: each arm is a case of what is kept. Assumes nothing.
-use borrow.Author.Rules.{rules}
 use Rattle.checks.proofs.Laws.{rows_all, rows_sixteenths, rows-two}
 use Rattle.checks.proofs.needed_rows.Goals as goal
 

@@ -3,7 +3,6 @@ use mathlib.Core.Path.{sym}
 use native.Mathlib.Omega.{arith}
 use Rattle.promises.proofs.Draws.{draws_owed, drawn_served}
 use Rattle.draws.proofs.Laws.{refused_output, failed_refused, all_made}
-use borrow.Author.Rules.{rules}
 use Rattle.draws.proofs.draws.Goals as goal
 
 pub returns-then-out-z : goal.returns-then-out-z

@@ -2,7 +2,6 @@
 use Prim.Native.Nat.{◌^◌}
 use native.Mathlib.Omega.{arith}
 use native.Mathlib.Nat.{mod-lt}
-use borrow.Author.Rules.{rules}
 use Rattle.draws.proofs.enough_for.Goals as goal
 
 pub returns-then-w-lt-SMALL : goal.returns-then-w-lt-SMALL

@@ -1,11 +1,10 @@
-use mathlib.Core.Path.{◌≡◌, refl, sym, ap, ◌∙◌}
-use Prim.Native.Nat.{◌-◌, ◌≤◌}
+use mathlib.Core.Path.{refl, sym, ap, ◌∙◌}
+use Prim.Native.Nat.{◌-◌}
 use native.Mathlib.Omega.{arith}
 use native.Mathlib.Nat.{sub-zero}
-use Rattle.promises.specs.Draws.{draws_from, outcome}
+use Rattle.promises.specs.Draws.{outcome}
 use Rattle.draws.specs.Making.{first_failed}
 use Rattle.draws.proofs.Laws.{from_failed, from_more, from_end, not_made, is_made, failed-onto}
-use borrow.Author.Rules.{rules}
 use Rattle.draws.proofs.first_failed.Goals as goal
 
 pub loop-i-init : goal.loop-i-init

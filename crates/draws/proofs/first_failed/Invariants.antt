@@ -1,12 +1,8 @@
 -- `draws::first_failed` meets its contract. The draws before place i are made, so the first that is not is the first from there on.
-use mathlib.Core.Path.{◌≡◌, refl, sym, ap, ◌∙◌}
+use mathlib.Core.Path.{◌≡◌}
 use Prim.Native.Nat.{◌-◌, ◌≤◌}
-use native.Mathlib.Omega.{arith}
-use native.Mathlib.Nat.{sub-zero}
 use Rattle.promises.specs.Draws.{draws_from, outcome}
 use Rattle.draws.specs.Making.{first_failed}
-use Rattle.draws.proofs.Laws.{from_failed, from_more, from_end, not_made, is_made, failed-onto}
-use borrow.Author.Rules.{rules}
 use Rattle.draws.proofs.first_failed.Given as goal
 
 abbrev pub invariant-loop-i : goal.invariant-loop-i

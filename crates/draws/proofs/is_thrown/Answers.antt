@@ -3,7 +3,6 @@ use mathlib.Core.Path.{sym}
 use native.Mathlib.Omega.{arith}
 use Rattle.promises.specs.Draws.{thrown_away}
 use Rattle.draws.proofs.Laws.{enough_kept, less_thrown}
-use borrow.Author.Rules.{rules}
 use Rattle.draws.proofs.is_thrown.Goals as goal
 
 pub returns-then-enough-raw : goal.returns-then-enough-raw

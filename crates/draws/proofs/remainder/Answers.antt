@@ -4,7 +4,6 @@ use Prim.Native.Nat.{◌-◌, ◌^◌}
 use native.Mathlib.Omega.{arith}
 use native.Mathlib.Nat.{mod-eq_of_lt}
 use Rattle.draws.proofs.Laws.{remainder_is}
-use borrow.Author.Rules.{rules}
 use Rattle.draws.proofs.remainder.Goals as goal
 
 pub returns-then-less-w : goal.returns-then-less-w

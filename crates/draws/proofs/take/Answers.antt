@@ -1,11 +1,8 @@
-use mathlib.Core.Path.{◌≡◌, refl, sym, ap, ◌∙◌}
+use mathlib.Core.Path.{refl, sym, ap, ◌∙◌}
 use mathlib.Core.Bool.{not}
-use Prim.Native.Nat.{◌-◌, ◌≤◌}
 use native.Mathlib.Omega.{arith}
 use native.Mathlib.Nat.{sub-zero}
-use Rattle.promises.specs.Draws.{taken}
 use Rattle.draws.proofs.Laws.{taken_here, taken_later, taken_nowhere}
-use borrow.Author.Rules.{rules}
 use Rattle.draws.proofs.take.Goals as goal
 
 pub loop-k-init : goal.loop-k-init

@@ -1,11 +1,7 @@
 -- `draws::take` meets its contract. The first k raw numbers are thrown away, so what is taken is what the others give.
-use mathlib.Core.Path.{◌≡◌, refl, sym, ◌∙◌}
+use mathlib.Core.Path.{◌≡◌}
 use Prim.Native.Nat.{◌-◌, ◌≤◌}
-use native.Mathlib.Omega.{arith}
-use native.Mathlib.Nat.{sub-zero}
 use Rattle.promises.specs.Draws.{taken}
-use Rattle.draws.proofs.Laws.{taken_here, taken_later, taken_nowhere}
-use borrow.Author.Rules.{rules}
 use Rattle.draws.proofs.take.Given as goal
 
 abbrev pub invariant-loop-k : goal.invariant-loop-k

@@ -1,12 +1,11 @@
-use mathlib.Core.Path.{◌≡◌, refl, sym, ◌∙◌}
-use Prim.Native.Nat.{◌-◌, ◌≤◌}
+use mathlib.Core.Path.{refl, sym, ◌∙◌}
+use Prim.Native.Nat.{◌-◌}
 use native.Mathlib.Omega.{arith}
 use native.Mathlib.Nat.{mod-lt}
-use lib.ListN.{length, length-set}
+use lib.ListN.{length-set}
 use Rattle.promises.specs.Draws.{outcome}
 use Rattle.promises.proofs.Draws.{drawn_served}
-use Rattle.draws.proofs.Laws.{Written, written_first, written_more, written_all}
-use borrow.Author.Rules.{rules}
+use Rattle.draws.proofs.Laws.{written_first, written_more, written_all}
 use Rattle.draws.proofs.write_draws.Goals as goal
 
 pub loop-i-init : goal.loop-i-init

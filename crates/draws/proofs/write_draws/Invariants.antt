@@ -1,13 +1,9 @@
 -- `draws::write_draws` meets its contract. Before place i stand the first i draws, and each step puts the next one after them.
-use mathlib.Core.Path.{◌≡◌, refl, sym, ◌∙◌}
+use mathlib.Core.Path.{◌≡◌}
 use Prim.Native.Nat.{◌-◌, ◌≤◌}
-use native.Mathlib.Omega.{arith}
-use native.Mathlib.Nat.{mod-lt}
-use lib.ListN.{length, length-set}
+use lib.ListN.{length}
 use Rattle.promises.specs.Draws.{outcome}
-use Rattle.promises.proofs.Draws.{drawn_served}
-use Rattle.draws.proofs.Laws.{Written, written_first, written_more, written_all}
-use borrow.Author.Rules.{rules}
+use Rattle.draws.proofs.Laws.{Written}
 use Rattle.draws.proofs.write_draws.Given as goal
 
 abbrev pub invariant-loop-i : goal.invariant-loop-i

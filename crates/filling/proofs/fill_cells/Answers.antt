@@ -1,5 +1,4 @@
 -- `fill_cells` meets its contract: the cell of the start is N, cut off, so it tells rows 9 and 10 and else N itself. Assumes nothing.
-use borrow.Author.Rules.{rules}
 use Rattle.rig.specs.Record.{record_automaton}
 use Rattle.filling.proofs.Rows.{fills-told}
 use Rattle.filling.proofs.fill_cells.Goals as goal

@@ -7,7 +7,6 @@ use Rattle.rig.specs.Record.{record_automaton}
 use Rattle.joint.proofs.Digits.{states_few}
 use Rattle.counting.proofs.Sums.{tabled_bounded}
 use Rattle.filling.proofs.Laws.{flagged, tabled}
-use borrow.Author.Rules.{rules}
 use Rattle.filling.proofs.prune_and_fill.Goals as goal
 
 pub prune-passes-requires : goal.prune-passes-requires

@@ -10,7 +10,6 @@ use Rattle.counting.proofs.Sums.{tabled_bounded}
 use Rattle.filling.proofs.Laws.{flagged, tabled}
 use Rattle.filling.proofs.Rows.{cell_refused}
 use Rattle.forward.proofs.Laws.{told-forward}
-use borrow.Author.Rules.{rules}
 use Rattle.forward.proofs.count_cells.Goals as goal
 
 pub prune-passes-requires : goal.prune-passes-requires

@@ -2,7 +2,6 @@
 use mathlib.Core.Path.{refl, ◌∙◌}
 use lib.ListN.{length}
 use Rattle.forward.proofs.Laws.{early_forward, early_keeps, forward_is, forward_keeps}
-use borrow.Author.Rules.{rules}
 use Rattle.forward.proofs.count_forward.Goals as goal
 
 pub count_cells-requires : goal.count_cells-requires
@@ -24,7 +23,6 @@ returns-in-Passed c =
     let a = c.args in
     let o = c.load-o in
     let e = c.in-Passed.is in
-
     record {
       result_value = c.count_cells.ensures.result_value ∙ forward_is a.text.now a.h (length a.cells.now) o.result o.ensures a.cells.now refl e;
       forward_keeps = forward_keeps a.text.now a.h (length a.cells.now) o.result o.ensures a.cells.now refl e _ c.count_cells.ensures.freed;

@@ -2,7 +2,6 @@
 -- record is counted of the text. Assumes nothing.
 use mathlib.Core.Path.{refl, ◌∙◌}
 use lib.ListN.{length}
-use borrow.Author.Rules.{rules}
 use Rattle.promises.specs.Calls.{count, count_cells}
 use Rattle.filling.proofs.Rows.{early_answer, early_cells, count_is, count_cells_are}
 use Rattle.generator.proofs.count.Goals as goal
@@ -27,7 +26,7 @@ returns-in-Passed c =
     let st = c.args in
     let o = c.load-o in
     let e = c.in-Passed.is in
- record {
+    record {
       result_value = c.count_cells.ensures.result_value ∙ count_is st.text.now st.h (length st.cells.now) o.result o.ensures st.cells.now refl e;
       cells_after = count_cells_are st.text.now st.h (length st.cells.now) o.result o.ensures st.cells.now refl e _ c.count_cells.ensures.cells_after;
     }

@@ -1,5 +1,4 @@
 -- `count_cells` meets its contract: filling tells row 9 or 10, or N and the passes. Assumes nothing.
-use borrow.Author.Rules.{rules}
 use Rattle.rig.specs.Record.{record_automaton}
 use Rattle.filling.proofs.Rows.{told_refused, told_count}
 use Rattle.generator.proofs.count_cells.Goals as goal

@@ -1,5 +1,4 @@
 -- `index_cells` meets its contract: filling tells row 9 or 10; past them ranking tells the index or the place of refusal 14. Assumes nothing.
-use borrow.Author.Rules.{rules}
 use mathlib.Core.Path.{◌∙◌}
 use native.Mathlib.Omega.{arith}
 use lib.ListN.{length}

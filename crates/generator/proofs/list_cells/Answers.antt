@@ -1,5 +1,4 @@
 -- `list_cells` meets its contract: filling tells row 9 or 10; past them the walker tells refusal 11, or writes every scenario. Assumes nothing.
-use borrow.Author.Rules.{rules}
 use mathlib.Core.Path.{refl, ◌∙◌}
 use native.Mathlib.Omega.{arith}
 use lib.ListN.{length}

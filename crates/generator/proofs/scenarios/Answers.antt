@@ -3,7 +3,6 @@
 use mathlib.Core.Path.{refl, ◌∙◌}
 use Prim.Native.Nat.{◌*◌}
 use lib.ListN.{length}
-use borrow.Author.Rules.{rules}
 use Rattle.promises.specs.Calls.{scenarios, scenarios_cells, written}
 use Rattle.filling.proofs.Rows.{early_answer, early_cells, early_output}
 use Rattle.generator.proofs.Laws.{fits_true, fits_false, short_output, short_cells, short_written, scenarios_are, scenarios_cells_are, written_are}
@@ -22,7 +21,6 @@ returns-then-fits c =
     let o = c.load-o in
     let e = c.in-Passed.is in
     let g = c.fits in
-
     let fit = fits_true g.result (length st.out.now) (length st.list.now * st.h) g.ensures c.if-fits.true in
     let a = c.list_cells.ensures.result_value ∙ scenarios_are st.text.now st.h (length st.cells.now) o.result o.ensures st.cells.now refl e st.list.now st.out.now fit in
     record {

@@ -13,7 +13,6 @@ use Rattle.promises.specs.Reading.{outsideℤ}
 use Rattle.promises.specs.Rig.{bal_next}
 use Rattle.promises.proofs.Bal.{inside}
 use Rattle.kinds.proofs.Bands.{step}
-use borrow.Author.Rules.{rules}
 use Rattle.kinds.proofs.bal_next.Goals as goal
 
 pub overflow_add-difference : goal.overflow_add-difference

@@ -5,7 +5,6 @@ use Prim.Native.Nat.{suc, ◌%◌}
 use native.Mathlib.Nat.{mod_self, mod-eq_of_lt}
 use native.Mathlib.Numerals.{add-one}
 use native.Mathlib.Omega.{arith}
-use borrow.Author.Rules.{rules}
 use Rattle.kinds.proofs.day_next.Goals as goal
 
 pub returns-then-next-t : goal.returns-then-next-t

@@ -1,7 +1,6 @@
 -- A state is its entry; what is none is 255.
 -- Assumes nothing.
 use borrow.Author.Tests.{lt-ltb, le-ltb}
-use borrow.Author.Rules.{rules}
 use Rattle.kinds.proofs.entry.Goals as goal
 
 pub returns-then-t-n : goal.returns-then-t-n

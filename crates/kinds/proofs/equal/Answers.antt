@@ -1,6 +1,5 @@
 -- Of the kinds, `reply` has an a and a b.
 -- Assumes nothing.
-use borrow.Author.Rules.{rules}
 use Rattle.kinds.proofs.equal.Goals as goal
 
 pub returns-in-Reply : goal.returns-in-Reply

@@ -1,14 +1,13 @@
 use mathlib.Core.Path.{◌≡◌, refl, ap, ◌∙◌}
 use mathlib.Core.List.{List}
-use Prim.Native.Nat.{ℕ, ◌-◌, ◌≤◌, ◌<◌}
+use Prim.Native.Nat.{ℕ, ◌<◌}
 use native.Mathlib.Omega.{arith}
-use lib.ListN.{length, set, length-set}
+use lib.ListN.{set, length-set}
 use Rattle.rig.specs.Record.{move_index, move_at}
 use Rattle.lists.specs.Lists.{overwrite}
 use Rattle.lists.proofs.Tables.{overwrite_more}
 use Rattle.kinds.specs.Kinds.{with_column, hour_of}
 use Rattle.kinds.proofs.Tables.{column_beside}
-use borrow.Author.Rules.{rules}
 use Rattle.kinds.proofs.fill_hours.Goals as goal
 
 pub loop-s-init : goal.loop-s-init

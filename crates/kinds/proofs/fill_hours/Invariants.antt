@@ -1,16 +1,10 @@
 -- The entries so far are those with the hours more, and the rest is as it was.
 -- Assumes nothing.
-use mathlib.Core.Path.{◌≡◌, refl, ap, ◌∙◌}
-use mathlib.Core.List.{List}
-use Prim.Native.Nat.{ℕ, ◌-◌, ◌≤◌, ◌<◌}
-use native.Mathlib.Omega.{arith}
-use lib.ListN.{length, set, length-set}
-use Rattle.rig.specs.Record.{move_index, move_at}
-use Rattle.lists.specs.Lists.{overwrite}
-use Rattle.lists.proofs.Tables.{overwrite_more}
+use mathlib.Core.Path.{◌≡◌}
+use Prim.Native.Nat.{◌-◌, ◌≤◌}
+use lib.ListN.{length}
+use Rattle.rig.specs.Record.{move_at}
 use Rattle.kinds.specs.Kinds.{with_column, hour_of}
-use Rattle.kinds.proofs.Tables.{column_beside}
-use borrow.Author.Rules.{rules}
 use Rattle.kinds.proofs.fill_hours.Given as goal
 
 abbrev pub invariant-loop-s : goal.invariant-loop-s

@@ -1,18 +1,13 @@
 -- The marks so far are those of the kind, and the rest is as it was.
 -- Assumes nothing.
-use mathlib.Core.Path.{◌≡◌, refl, ap, ◌∙◌}
-use mathlib.Core.List.{List, []}
-use Prim.Native.Nat.{ℕ, ◌-◌, ◌≤◌, ◌<◌}
-use native.Mathlib.Omega.{arith}
-use lib.ListN.{length, set, length-set}
+use mathlib.Core.Path.{◌≡◌}
+use mathlib.Core.List.{[]}
+use Prim.Native.Nat.{◌-◌, ◌≤◌}
+use lib.ListN.{length}
 use Rattle.lists.specs.Lists.{pick, overwrite}
-use Rattle.lists.proofs.Tables.{overwrite_more}
-use Rattle.promises.specs.Text.{states_of}
 use Rattle.promises.specs.Rig.{marked_of}
 use Rattle.rig.specs.Record.{stop_index}
 use Rattle.kinds.specs.Kinds.{as_kind}
-use Rattle.kinds.proofs.Bands.{few}
-use borrow.Author.Rules.{rules}
 use Rattle.kinds.proofs.fill_marks.Given as goal
 
 abbrev pub invariant-loop-s : goal.invariant-loop-s

@@ -1,15 +1,13 @@
 use mathlib.Core.Path.{◌≡◌, refl, ap, ap₂, ◌∙◌, fun_ext}
 use mathlib.Core.List.{List}
-use Prim.Native.Nat.{ℕ, ◌-◌, ◌≤◌}
+use Prim.Native.Nat.{ℕ}
 use native.Mathlib.Omega.{arith}
-use lib.ListN.{length}
 use Rattle.lists.specs.Lists.{overwrite}
 use Rattle.promises.specs.Text.{states_of}
 use Rattle.rig.specs.Record.{move_index}
 use Rattle.kinds.specs.Kinds.{as_kind, entry_of, with_rows}
 use Rattle.kinds.proofs.Tables.{rows_more}
 use Rattle.kinds.proofs.Bands.{few}
-use borrow.Author.Rules.{rules}
 use Rattle.kinds.proofs.fill_moves.Goals as goal
 
 pub loop-s-init : goal.loop-s-init

@@ -1,17 +1,9 @@
 -- The rows so far are those of the kind's automaton, and the rest is as it was.
 -- Assumes nothing.
-use mathlib.Core.Path.{◌≡◌, refl, ap, ap₂, ◌∙◌, fun_ext}
-use mathlib.Core.List.{List}
-use Prim.Native.Nat.{ℕ, ◌-◌, ◌≤◌}
-use native.Mathlib.Omega.{arith}
+use mathlib.Core.Path.{◌≡◌}
+use Prim.Native.Nat.{◌-◌, ◌≤◌}
 use lib.ListN.{length}
-use Rattle.lists.specs.Lists.{overwrite}
-use Rattle.promises.specs.Text.{states_of}
-use Rattle.rig.specs.Record.{move_index}
-use Rattle.kinds.specs.Kinds.{as_kind, entry_of, with_rows}
-use Rattle.kinds.proofs.Tables.{rows_more}
-use Rattle.kinds.proofs.Bands.{few}
-use borrow.Author.Rules.{rules}
+use Rattle.kinds.specs.Kinds.{as_kind, with_rows}
 use Rattle.kinds.proofs.fill_moves.Given as goal
 
 abbrev pub invariant-loop-s : goal.invariant-loop-s

@@ -1,14 +1,13 @@
 use mathlib.Core.Path.{◌≡◌, refl, ap, ◌∙◌}
 use mathlib.Core.List.{List}
-use Prim.Native.Nat.{ℕ, ◌+◌, ◌-◌, ◌≤◌}
+use Prim.Native.Nat.{ℕ, ◌+◌}
 use native.Mathlib.Omega.{arith}
-use lib.ListN.{length, set, length-set}
+use lib.ListN.{set, length-set}
 use lib.Dec.{eqb}
 use Rattle.lists.specs.Lists.{pick, overwrite}
 use Rattle.lists.proofs.Tables.{overwrite_more, overwrite_cong}
 use Rattle.kinds.specs.Kinds.{row_at, entry_of}
 use Rattle.kinds.proofs.Tables.{put_entry, entry_row}
-use borrow.Author.Rules.{rules}
 use Rattle.kinds.proofs.fill_row.Goals as goal
 
 pub loop-u-init : goal.loop-u-init

@@ -1,21 +1,18 @@
 use mathlib.Core.Path.{◌≡◌, refl, sym, ap, ap₂, ◌∙◌}
-use mathlib.Core.List.{List, [], ◌∷◌}
-use Prim.Native.Nat.{ℕ, ◌-◌, ◌≤◌}
+use mathlib.Core.List.{List}
+use Prim.Native.Nat.{ℕ}
 use native.Mathlib.Omega.{arith}
-use lib.IntN.{ℤ}
-use lib.ListN.{length, set, length-set}
+use lib.ListN.{set, length-set}
 use mir.Syntax.{w64}
 use mir.Val.{to_z, of_z}
 use mir.ValLaws.{to_z-of_z}
 use Rattle.lists.specs.Lists.{overwrite}
 use Rattle.lists.proofs.Tables.{overwrite_more}
-use Rattle.promises.specs.Text.{bal, amp, states_of}
-use Rattle.promises.specs.Rig.{next_of}
+use Rattle.promises.specs.Text.{bal, states_of}
 use Rattle.rig.specs.Record.{move_index}
 use Rattle.kinds.specs.Kinds.{entry_of, with_column}
 use Rattle.kinds.proofs.Tables.{own_step}
 use Rattle.kinds.proofs.Bands.{few}
-use borrow.Author.Rules.{rules}
 use Rattle.kinds.proofs.fill_step.Invariants.{entry_by}
 use Rattle.kinds.proofs.fill_step.Goals as goal
 

@@ -1,23 +1,13 @@
 -- The entries so far are those of the step, and the rest is as it was.
 -- Assumes nothing.
-use mathlib.Core.Path.{◌≡◌, refl, sym, ap, ap₂, ◌∙◌}
-use mathlib.Core.List.{List, [], ◌∷◌}
+use mathlib.Core.Path.{◌≡◌}
+use mathlib.Core.List.{[], ◌∷◌}
 use Prim.Native.Nat.{ℕ, ◌-◌, ◌≤◌}
-use native.Mathlib.Omega.{arith}
 use lib.IntN.{ℤ}
-use lib.ListN.{length, set, length-set}
-use mir.Syntax.{w64}
-use mir.Val.{to_z, of_z}
-use mir.ValLaws.{to_z-of_z}
-use Rattle.lists.specs.Lists.{overwrite}
-use Rattle.lists.proofs.Tables.{overwrite_more}
+use lib.ListN.{length}
 use Rattle.promises.specs.Text.{bal, amp, states_of}
 use Rattle.promises.specs.Rig.{next_of}
-use Rattle.rig.specs.Record.{move_index}
 use Rattle.kinds.specs.Kinds.{entry_of, with_column}
-use Rattle.kinds.proofs.Tables.{own_step}
-use Rattle.kinds.proofs.Bands.{few}
-use borrow.Author.Rules.{rules}
 use Rattle.kinds.proofs.fill_step.Given as goal
 
 abbrev pub entry_by : ℤ → ℤ → ℕ → ℤ → ℕ → ℕ

@@ -2,7 +2,6 @@
 -- Assumes nothing.
 use mathlib.Core.Path.{sym, ◌∙◌}
 use Rattle.kinds.specs.Kinds.{kind_moves, kind_stops}
-use borrow.Author.Rules.{rules}
 use Rattle.kinds.proofs.fill_tables.Goals as goal
 
 pub returns-then-is_mon : goal.returns-then-is_mon

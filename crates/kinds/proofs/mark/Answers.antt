@@ -2,7 +2,6 @@
 -- Assumes nothing.
 use borrow.Author.Tests.{eq-eqb, ne_eqb}
 use Rattle.promises.specs.Rig.{marked_of}
-use borrow.Author.Rules.{rules}
 use Rattle.kinds.proofs.mark.Goals as goal
 
 pub returns-in-Mon : goal.returns-in-Mon

@@ -1,7 +1,6 @@
 -- By whether there can be such an event.
 -- Assumes nothing.
 use borrow.Author.Tests.{lt-ltb, le-ltb}
-use borrow.Author.Rules.{rules}
 use Rattle.kinds.proofs.put_move.Goals as goal
 
 pub returns-then-e-lt16 : goal.returns-then-e-lt16

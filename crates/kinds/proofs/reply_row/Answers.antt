@@ -5,7 +5,6 @@ use lib.Dec.{eqb}
 use borrow.Author.Tests.{eq-eqb, ne_eqb, le-leb, lt-leb}
 use Rattle.lists.proofs.Tests.{case}
 use Rattle.promises.specs.Rig.{reply_next}
-use borrow.Author.Rules.{rules}
 use Rattle.kinds.proofs.reply_row.Goals as goal
 
 pub returns-then-s-eq0 : goal.returns-then-s-eq0

@@ -3,7 +3,6 @@
 use mathlib.Core.Path.{◌∙◌}
 use lib.Dec.{eqb}
 use Rattle.lists.proofs.Tests.{case}
-use borrow.Author.Rules.{rules}
 use Rattle.kinds.proofs.same_row.Goals as goal
 
 pub returns : goal.returns

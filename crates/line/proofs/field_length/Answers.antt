@@ -1,7 +1,6 @@
 -- `line::field_length`: byte 9, and as many bytes as there are digits. Assumes nothing.
 use native.Mathlib.Omega.{arith}
 use Rattle.decimal.proofs.Digits.{decimal-fits}
-use borrow.Author.Rules.{rules}
 use Rattle.line.proofs.field_length.Goals as goal
 
 pub overflow_add-result : goal.overflow_add-result

@@ -1,14 +1,10 @@
 -- `line::fields_length`: after k events the bytes of their fields are counted; `length_fields` is one event more. They are four at most for each event,
 -- which is a byte. Assumes nothing.
-use mathlib.Core.Path.{◌≡◌, ◌∙◌}
-use Prim.Native.Nat.{◌+◌, ◌-◌, ◌<◌, ◌≤◌}
-use native.Mathlib.Omega.{arith}
+use mathlib.Core.Path.{◌≡◌}
+use Prim.Native.Nat.{◌-◌, ◌≤◌}
 use lib.ListN.{length, take}
-use lib.Seq.{take_all}
 use Rattle.lists.specs.Lists.{concat_map}
 use Rattle.line.specs.Line.{field_bytes}
-use Rattle.line.proofs.Pieces.{length_fields, fields_within, fields-short}
-use borrow.Author.Rules.{rules}
 use Rattle.line.proofs.fields_length.Given as goal
 
 abbrev pub invariant-loop-k : goal.invariant-loop-k

@@ -6,7 +6,6 @@ use Rattle.lists.specs.Lists.{concat_map}
 use Rattle.line.specs.Line.{field_bytes}
 use Rattle.lists.proofs.Tests.{uncurry}
 use Rattle.line.proofs.Pieces.{rest-written}
-use borrow.Author.Rules.{rules}
 use Rattle.line.proofs.write_events.Goals as goal
 
 pub write_word-from-requires : goal.write_word-from-requires

@@ -4,7 +4,6 @@ use mathlib.Core.Path.{◌∙◌}
 use native.Mathlib.Omega.{arith}
 use lib.ListN.{length-set, length-take, length-drop}
 use Rattle.line.proofs.Pieces.{field-placed}
-use borrow.Author.Rules.{rules}
 use Rattle.line.proofs.write_field.Goals as goal
 
 pub slice_bounds-write-count : goal.slice_bounds-write-count
@@ -21,6 +20,6 @@ shape_of-out c = c.out-1.given.1 ∙ simp length-set
 
 pub returns : goal.returns
 returns c = record {
-      value = omega arith;
-      out_after = field-placed c.args.n c.args.at c.args.out.now _ (omega arith) c.write.ensures.out_after;
-    }
+  value = omega arith;
+  out_after = field-placed c.args.n c.args.at c.args.out.now _ (omega arith) c.write.ensures.out_after;
+}

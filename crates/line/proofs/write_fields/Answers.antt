@@ -1,12 +1,9 @@
 use mathlib.Core.Path.{◌≡◌, refl, ◌∙◌}
-use Prim.Native.Nat.{◌+◌, ◌-◌, ◌<◌, ◌≤◌}
+use Prim.Native.Nat.{◌+◌, ◌<◌}
 use native.Mathlib.Omega.{arith}
 use lib.ListN.{length, take}
 use lib.Seq.{take_all}
-use Rattle.lists.specs.Lists.{concat_map}
-use Rattle.line.specs.Line.{field_bytes, placed}
 use Rattle.line.proofs.Pieces.{placed-none, length_fields, fields_within, fields_more}
-use borrow.Author.Rules.{rules}
 use Rattle.line.proofs.write_fields.Goals as goal
 
 pub loop-k-init : goal.loop-k-init

@@ -1,14 +1,10 @@
 -- `line::write_fields`: after k events their fields stand from `at` on. `fields_more` is one event more, and `fields_within` says that there is room for it.
 -- Assumes nothing.
-use mathlib.Core.Path.{◌≡◌, refl, ◌∙◌}
-use Prim.Native.Nat.{◌+◌, ◌-◌, ◌<◌, ◌≤◌}
-use native.Mathlib.Omega.{arith}
+use mathlib.Core.Path.{◌≡◌}
+use Prim.Native.Nat.{◌+◌, ◌-◌, ◌≤◌}
 use lib.ListN.{length, take}
-use lib.Seq.{take_all}
 use Rattle.lists.specs.Lists.{concat_map}
 use Rattle.line.specs.Line.{field_bytes, placed}
-use Rattle.line.proofs.Pieces.{placed-none, length_fields, fields_within, fields_more}
-use borrow.Author.Rules.{rules}
 use Rattle.line.proofs.write_fields.Given as goal
 
 abbrev pub invariant-loop-k : goal.invariant-loop-k

@@ -8,7 +8,6 @@ use Rattle.decimal.proofs.Digits.{decimal-fits}
 use Rattle.line.specs.Line.{field_bytes, line_of}
 use Rattle.lists.proofs.Tests.{uncurry}
 use Rattle.line.proofs.Pieces.{fields-short, rest-written}
-use borrow.Author.Rules.{rules}
 use Rattle.line.proofs.write_line.Goals as goal
 
 pub write-from-requires : goal.write-from-requires

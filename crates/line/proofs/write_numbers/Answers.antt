@@ -6,7 +6,6 @@ use lib.ListN.{length, length-set}
 use Rattle.decimal.proofs.Digits.{decimal-fits}
 use Rattle.lists.proofs.Tests.{uncurry}
 use Rattle.line.proofs.Pieces.{numbers-written}
-use borrow.Author.Rules.{rules}
 use Rattle.line.proofs.write_numbers.Goals as goal
 
 pub write_field-after_a-requires : goal.write_field-after_a-requires

@@ -6,7 +6,6 @@ use Rattle.lists.specs.Lists.{concat_map}
 use Rattle.line.specs.Line.{field_bytes}
 use Rattle.lists.proofs.Tests.{uncurry}
 use Rattle.line.proofs.Pieces.{ended-placed}
-use borrow.Author.Rules.{rules}
 use Rattle.line.proofs.write_rest.Goals as goal
 
 pub write_fields-end-requires : goal.write_fields-end-requires

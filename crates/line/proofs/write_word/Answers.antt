@@ -1,11 +1,8 @@
 use mathlib.Core.Path.{◌≡◌, refl, ◌∙◌}
-use mathlib.Core.List.{◌++◌}
-use Prim.Native.Nat.{◌+◌, ◌-◌, ◌≤◌}
 use native.Mathlib.Omega.{arith}
-use lib.ListN.{length, take, drop, length-set}
+use lib.ListN.{length, length-set}
 use lib.Seq.{take-length}
 use Rattle.line.proofs.Pieces.{word_more}
-use borrow.Author.Rules.{rules}
 use Rattle.line.proofs.write_word.Goals as goal
 
 pub loop-k-init : goal.loop-k-init

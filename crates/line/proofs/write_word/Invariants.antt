@@ -1,13 +1,9 @@
 -- `line::write_word`: after k bytes the first k of the word stand at the front, and what follows is kept.
 -- `word_more` is one byte more. Assumes nothing.
-use mathlib.Core.Path.{◌≡◌, refl, ◌∙◌}
+use mathlib.Core.Path.{◌≡◌}
 use mathlib.Core.List.{◌++◌}
-use Prim.Native.Nat.{◌+◌, ◌-◌, ◌≤◌}
-use native.Mathlib.Omega.{arith}
-use lib.ListN.{length, take, drop, length-set}
-use lib.Seq.{take-length}
-use Rattle.line.proofs.Pieces.{word_more}
-use borrow.Author.Rules.{rules}
+use Prim.Native.Nat.{◌-◌, ◌≤◌}
+use lib.ListN.{length, take, drop}
 use Rattle.line.proofs.write_word.Given as goal
 
 abbrev pub invariant-loop-k : goal.invariant-loop-k

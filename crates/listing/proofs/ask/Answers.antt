@@ -4,7 +4,6 @@ use native.Mathlib.Omega.{arith}
 use lib.Seq.{length-take-le}
 use Rattle.decoding.proofs.Parts.{index_of_le}
 use Rattle.listing.proofs.Asking.{ask_good, ask_bad, ask_unended}
-use borrow.Author.Rules.{rules}
 use Rattle.listing.proofs.ask.Goals as goal
 
 pub slice_bounds-asked_in-end : goal.slice_bounds-asked_in-end

@@ -1,7 +1,6 @@
 -- After the word and its byte 9 comes the number, to the end of the line. Assumes nothing.
 use mathlib.Core.Path.{sym, ◌∙◌}
 use Rattle.listing.proofs.Asking.{asks_long, asked-number, asked-nothing}
-use borrow.Author.Rules.{rules}
 use Rattle.listing.proofs.asked_in.Goals as goal
 
 pub slice_bounds-number-count : goal.slice_bounds-number-count

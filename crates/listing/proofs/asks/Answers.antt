@@ -2,7 +2,6 @@
 use mathlib.Core.Path.{sym}
 use native.Mathlib.Omega.{arith}
 use Rattle.listing.proofs.Asking.{asks_short, asks_first, asks_second, asks_third, asks_last}
-use borrow.Author.Rules.{rules}
 use Rattle.listing.proofs.asks.Goals as goal
 
 pub returns-then-line-lt4 : goal.returns-then-line-lt4

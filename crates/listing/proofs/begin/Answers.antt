@@ -3,7 +3,6 @@ use mathlib.Core.Path.{refl, ap, ◌∙◌}
 use Rattle.promises.specs.Rig.{rig_automaton, start}
 use Rattle.listing.proofs.Beginning.{begins_as, answer_bad, answer_good, cells_bad, cells_good, text_within, text_is, horizon_is}
 use Rattle.listing.proofs.Lines.{stands_first}
-use borrow.Author.Rules.{rules}
 use Rattle.listing.proofs.begin.Goals as goal
 
 pub slice_bounds-begin_text-count : goal.slice_bounds-begin_text-count
@@ -31,7 +30,6 @@ pub returns-in-Horizon : goal.returns-in-Horizon
 returns-in-Horizon c =
     let s = c.args.input.now in
     let a = c.ask in
-
     let t = text_is s a.result a.ensures c.in-Horizon.h c.in-Horizon.at c.in-Horizon.is in
     let q = answer_good s a.result a.ensures c.in-Horizon.h c.in-Horizon.at c.in-Horizon.is c.args.cells.now c.requires.cells_long in
     let b = begins_as _ _ _ _ _ _ _ _ _ _ _ _ _ q (ap rig_automaton t) (ap start t) (horizon_is s a.result a.ensures c.in-Horizon.h c.in-Horizon.at c.in-Horizon.is) c.begin_text.ensures.begins_text in

@@ -3,7 +3,6 @@ use mathlib.Core.Path.{refl}
 use Rattle.rig.specs.Record.{record_automaton}
 use Rattle.filling.proofs.Rows.{told_refused}
 use Rattle.listing.proofs.Beginning.{begins_as, begins-counted}
-use borrow.Author.Rules.{rules}
 use Rattle.listing.proofs.begin_counted.Goals as goal
 
 pub returns-in-Refused : goal.returns-in-Refused

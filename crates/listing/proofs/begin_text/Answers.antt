@@ -4,14 +4,13 @@ use mathlib.Core.Path.{refl}
 use lib.ListN.{length}
 use Rattle.filling.proofs.Rows.{early_count, early_count_cells, count_is, count_cells_are}
 use Rattle.listing.proofs.Beginning.{begins_as}
-use borrow.Author.Rules.{rules}
 use Rattle.listing.proofs.begin_text.Goals as goal
 
 pub begin_counted-requires : goal.begin_counted-requires
 begin_counted-requires c = record {
-      fits = (c.load-o.ensures.ready c.in-Passed.is).fits;
-      owned_buffers = c.requires;
-    }
+  fits = (c.load-o.ensures.ready c.in-Passed.is).fits;
+  owned_buffers = c.requires;
+}
 
 pub returns-in-Refused : goal.returns-in-Refused
 returns-in-Refused c =
@@ -28,7 +27,6 @@ returns-in-Passed c =
     let st = c.args in
     let o = c.load-o in
     let e = c.in-Passed.is in
-
     let r = o.ensures.ready e in
     let a = count_is st.text.now st.h (length st.cells.now) o.result o.ensures st.cells.now refl e in
     record {

@@ -2,7 +2,6 @@
 use native.Mathlib.Omega.{arith}
 use Rattle.listing.specs.Listing.{text}
 use Rattle.listing.proofs.Lines.{stands_next, stands_ended}
-use borrow.Author.Rules.{rules}
 use Rattle.listing.proofs.next.Goals as goal
 
 pub returns-then-c : goal.returns-then-c

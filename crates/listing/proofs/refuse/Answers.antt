@@ -1,6 +1,5 @@
 -- The only line is what `write_numbers` writes of the word and the two numbers; no line follows it. Assumes nothing.
 use Rattle.listing.proofs.Beginning.{begins-refused}
-use borrow.Author.Rules.{rules}
 use Rattle.listing.proofs.refuse.Goals as goal
 
 pub returns : goal.returns

@@ -5,7 +5,6 @@ use native.Mathlib.Omega.{arith}
 use lib.ListN.{length-take, length-replicate}
 use lib.Seq.{length-take-le}
 use Rattle.listing.proofs.Beginning.{leads-next}
-use borrow.Author.Rules.{rules}
 use Rattle.listing.proofs.write_next.Goals as goal
 
 pub slice_bounds-write_line-end : goal.slice_bounds-write_line-end
@@ -19,5 +18,4 @@ pub returns : goal.returns
 returns c =
     let st = c.args in
     let u = c.write_events in
-
     λ t ls lt. leads-next t st.c st.cells.now st.table.now _ _ st.line.now _ _ ls lt u.ensures c.write_line.ensures.value c.write_line.ensures.out_after

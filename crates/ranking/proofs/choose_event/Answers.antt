@@ -1,12 +1,9 @@
-use mathlib.Core.Path.{◌≡◌, subst}
-use Prim.Native.Nat.{ℕ, ◌+◌, ◌-◌, ◌%◌, ◌≤◌, ◌<◌}
+use mathlib.Core.Path.{subst}
+use Prim.Native.Nat.{ℕ, ◌%◌, ◌<◌}
 use native.Mathlib.Omega.{arith}
-use Rattle.automaton.specs.Automaton.{Automaton}
-use Rattle.automaton.specs.Counting.{N, most}
-use Rattle.counting.specs.Tabled.{Tabled, HoldsRow}
-use Rattle.counting.proofs.Sums.{up_to, up_to_none}
+use Rattle.automaton.specs.Counting.{most}
+use Rattle.counting.proofs.Sums.{up_to_none}
 use Rattle.ranking.proofs.Steps.{counted-state, past_all, past_last, step_over, choose_here, choose_none}
-use borrow.Author.Rules.{rules}
 use Rattle.ranking.proofs.choose_event.Goals as goal
 
 pub loop-c-init : goal.loop-c-init

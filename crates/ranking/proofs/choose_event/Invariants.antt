@@ -1,14 +1,11 @@
 -- The invariant: what is left of the index, with the counts of the live events passed, is the index. The first count above what is left is that of the
 -- event it falls in (`choose_here`); where no live event is left there is none (`choose_none`).
-use mathlib.Core.Path.{◌≡◌, subst}
-use Prim.Native.Nat.{ℕ, ◌+◌, ◌-◌, ◌%◌, ◌≤◌, ◌<◌}
-use native.Mathlib.Omega.{arith}
+use mathlib.Core.Path.{◌≡◌}
+use Prim.Native.Nat.{ℕ, ◌+◌, ◌-◌, ◌≤◌}
 use Rattle.automaton.specs.Automaton.{Automaton}
 use Rattle.automaton.specs.Counting.{N, most}
 use Rattle.counting.specs.Tabled.{Tabled, HoldsRow}
-use Rattle.counting.proofs.Sums.{up_to, up_to_none}
-use Rattle.ranking.proofs.Steps.{counted-state, past_all, past_last, step_over, choose_here, choose_none}
-use borrow.Author.Rules.{rules}
+use Rattle.counting.proofs.Sums.{up_to}
 use Rattle.ranking.proofs.choose_event.Given as goal
 
 abbrev pub invariant-loop-c : goal.invariant-loop-c

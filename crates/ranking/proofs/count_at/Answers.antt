@@ -1,6 +1,5 @@
 -- Each return is a case of the test.
 use borrow.Author.Tests.{lt-ltb, le-ltb}
-use borrow.Author.Rules.{rules}
 use Rattle.ranking.proofs.count_at.Goals as goal
 
 pub returns-then-y-p : goal.returns-then-y-p

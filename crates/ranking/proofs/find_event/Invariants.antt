@@ -2,15 +2,12 @@
 -- (`found_here`); where no live event is left the event leads to no live state (`found_nowhere`).
 use mathlib.Core.Path.{◌≡◌}
 use Prim.Native.Nat.{ℕ, ◌+◌, ◌-◌, ◌≤◌, ◌<◌}
-use native.Mathlib.Omega.{arith}
 use lib.ListN.{get_or}
 use Rattle.automaton.specs.Automaton.{Automaton}
 use Rattle.automaton.specs.Counting.{N, most}
 use Rattle.automaton.specs.Table.{live_events}
 use Rattle.counting.specs.Tabled.{Tabled, HoldsRow}
-use Rattle.counting.proofs.Sums.{up_to, up_to_none}
-use Rattle.ranking.proofs.Steps.{past_all, past_last, add_on, found_here, found_later, found_nowhere}
-use borrow.Author.Rules.{rules}
+use Rattle.counting.proofs.Sums.{up_to}
 use Rattle.ranking.proofs.find_event.Given as goal
 
 abbrev pub invariant-loop-c : goal.invariant-loop-c

@@ -1,10 +1,8 @@
 use mathlib.Core.Path.{◌≡◌, refl, sym, ◌∙◌}
-use Prim.Native.Nat.{◌-◌, ◌≤◌}
 use native.Mathlib.Omega.{arith}
-use lib.ListN.{length, drop}
-use Rattle.promises.specs.Calls.{not_below, first_bad, first_bad_from}
+use lib.ListN.{length}
+use Rattle.promises.specs.Calls.{first_bad}
 use Rattle.promises.proofs.Checks.{bad_here, bad_later, bad_nowhere}
-use borrow.Author.Rules.{rules}
 use Rattle.ranking.proofs.first_not_below.Goals as goal
 
 pub loop-k-init : goal.loop-k-init

@@ -1,11 +1,8 @@
 -- The invariant: the first bad place of the list is the first from here on. Each index is the place, or is passed over.
-use mathlib.Core.Path.{◌≡◌, refl, sym, ◌∙◌}
+use mathlib.Core.Path.{◌≡◌}
 use Prim.Native.Nat.{◌-◌, ◌≤◌}
-use native.Mathlib.Omega.{arith}
 use lib.ListN.{length, drop}
 use Rattle.promises.specs.Calls.{not_below, first_bad, first_bad_from}
-use Rattle.promises.proofs.Checks.{bad_here, bad_later, bad_nowhere}
-use borrow.Author.Rules.{rules}
 use Rattle.ranking.proofs.first_not_below.Given as goal
 
 abbrev pub invariant-loop-k : goal.invariant-loop-k

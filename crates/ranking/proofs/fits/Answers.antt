@@ -1,6 +1,5 @@
 -- So many scenarios of h events fit exactly when their number is at most the quotient of the output's length by h.
 use Rattle.ranking.proofs.Walk.{fits-nothing, fits_quotient}
-use borrow.Author.Rules.{rules}
 use Rattle.ranking.proofs.fits.Goals as goal
 
 pub returns-then-h-eq0 : goal.returns-then-h-eq0

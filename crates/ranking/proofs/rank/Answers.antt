@@ -6,8 +6,7 @@ use Rattle.automaton.specs.Automaton.{Automaton}
 use Rattle.ranking.specs.Ranks.{Exact, FoundOrNot}
 use Rattle.ranking.proofs.Rows.{row_within}
 use Rattle.ranking.proofs.Premises.{whole_row, whole_few}
-use Rattle.ranking.proofs.Along.{Along, along_start, along_end, along_off, along_least, along_step}
-use borrow.Author.Rules.{rules}
+use Rattle.ranking.proofs.Along.{along_start, along_end, along_off, along_least, along_step}
 use Rattle.ranking.proofs.rank.Goals as goal
 
 pub loop-k-init : goal.loop-k-init

@@ -1,15 +1,10 @@
 -- The invariant: the events passed lead to the state reached by live states, and the index so far is their part of the rank (`Along`). Each event goes on
 -- so (`along_step`) or is the violation (`along_off`); at the end nothing is left to rank (`along_end`).
-use mathlib.Core.Path.{◌≡◌}
-use Prim.Native.Nat.{◌+◌, ◌-◌, ◌*◌, ◌≤◌, ◌<◌}
-use native.Mathlib.Omega.{arith}
-use lib.ListN.{length, get_or, length-take, length-drop}
+use Prim.Native.Nat.{◌-◌, ◌≤◌, ◌<◌}
+use lib.ListN.{length}
 use Rattle.automaton.specs.Automaton.{Automaton}
-use Rattle.ranking.specs.Ranks.{Exact, FoundOrNot}
-use Rattle.ranking.proofs.Rows.{row_within}
-use Rattle.ranking.proofs.Premises.{whole_row, whole_few}
-use Rattle.ranking.proofs.Along.{Along, along_start, along_end, along_off, along_least, along_step}
-use borrow.Author.Rules.{rules}
+use Rattle.ranking.specs.Ranks.{Exact}
+use Rattle.ranking.proofs.Along.{Along}
 use Rattle.ranking.proofs.rank.Given as goal
 
 abbrev pub invariant-loop-k : goal.invariant-loop-k

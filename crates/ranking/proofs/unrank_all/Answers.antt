@@ -1,18 +1,16 @@
 use mathlib.Core.Path.{◌≡◌, refl, sym, ap, ◌∙◌, subst}
 use mathlib.Core.List.{List, ◌++◌}
-use Prim.Native.Nat.{ℕ, ◌+◌, ◌-◌, ◌*◌, ◌≤◌, ◌<◌}
+use Prim.Native.Nat.{ℕ, ◌+◌, ◌*◌, ◌≤◌, ◌<◌}
 use native.Mathlib.Omega.{arith}
 use native.Mathlib.Nat.{zero-mul}
 use lib.ListN.{length, get_or, take, drop}
 use lib.Seq.{take-length}
 use Rattle.lists.specs.Lists.{concat_map}
-use Rattle.automaton.specs.Automaton.{Automaton}
 use Rattle.automaton.specs.Counting.{N}
 use Rattle.automaton.specs.Ranking.{unrank}
 use Rattle.ranking.specs.Ranks.{Exact, IndicesBelow, with_scenarios}
 use Rattle.ranking.proofs.Rows.{row_within}
 use Rattle.ranking.proofs.Walk.{length-unrank, length_part, walk_step}
-use borrow.Author.Rules.{rules}
 use Rattle.ranking.proofs.unrank_all.Goals as goal
 
 pub loop-n-init : goal.loop-n-init

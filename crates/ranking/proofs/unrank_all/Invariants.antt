@@ -1,20 +1,14 @@
 -- The invariant: the scenarios of the first n indices stand at the front, the other bytes as they were. The part lent begins where they end, at n × h
 -- (`length-unrank`), and comes back with one scenario more (`walk_step`).
-use mathlib.Core.Path.{◌≡◌, refl, sym, ap, ◌∙◌, subst}
-use mathlib.Core.List.{List, ◌++◌}
-use Prim.Native.Nat.{ℕ, ◌+◌, ◌-◌, ◌*◌, ◌≤◌, ◌<◌}
-use native.Mathlib.Omega.{arith}
-use native.Mathlib.Nat.{zero-mul}
-use lib.ListN.{length, get_or, take, drop}
-use lib.Seq.{take-length}
+use mathlib.Core.Path.{◌≡◌}
+use mathlib.Core.List.{◌++◌}
+use Prim.Native.Nat.{◌-◌, ◌*◌, ◌≤◌}
+use lib.ListN.{length, take, drop}
 use Rattle.lists.specs.Lists.{concat_map}
 use Rattle.automaton.specs.Automaton.{Automaton}
 use Rattle.automaton.specs.Counting.{N}
 use Rattle.automaton.specs.Ranking.{unrank}
-use Rattle.ranking.specs.Ranks.{Exact, IndicesBelow, with_scenarios}
-use Rattle.ranking.proofs.Rows.{row_within}
-use Rattle.ranking.proofs.Walk.{length-unrank, length_part, walk_step}
-use borrow.Author.Rules.{rules}
+use Rattle.ranking.specs.Ranks.{Exact, IndicesBelow}
 use Rattle.ranking.proofs.unrank_all.Given as goal
 
 abbrev pub invariant-loop-n : goal.invariant-loop-n

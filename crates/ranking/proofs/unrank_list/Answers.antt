@@ -7,14 +7,13 @@ use borrow.Author.Tests.{lt-ltb, le-ltb}
 use Rattle.automaton.specs.Counting.{N}
 use Rattle.ranking.specs.Ranks.{IndicesBelow}
 use Rattle.ranking.proofs.Walk.{good_all}
-use borrow.Author.Rules.{rules}
 use Rattle.ranking.proofs.unrank_list.Goals as goal
 
 pub returns-then-place-list : goal.returns-then-place-list
 returns-then-place-list c = record {
-      value = c.first_not_below-place.ensures;
-      listed_by = λ A exact is. rw (lt-ltb _ _ c.if-place-list.true);
-    }
+  value = c.first_not_below-place.ensures;
+  listed_by = λ A exact is. rw (lt-ltb _ _ c.if-place-list.true);
+}
 
 pub returns : goal.returns
 returns c =

@@ -1,16 +1,13 @@
 use mathlib.Core.Path.{◌≡◌, refl, sym, ◌∙◌, subst}
-use Prim.Native.Nat.{ℕ, ◌+◌, ◌-◌, ◌*◌, ◌≤◌, ◌<◌}
+use Prim.Native.Nat.{ℕ, ◌+◌, ◌-◌, ◌*◌, ◌≤◌}
 use native.Mathlib.Omega.{arith}
 use native.Mathlib.Nat.{sub-zero, add-mul, mul-le-mul_right}
 use lib.ListN.{length, length-take, length-drop}
-use Rattle.automaton.specs.Automaton.{Automaton}
-use Rattle.automaton.specs.Counting.{N}
-use Rattle.ranking.specs.Ranks.{Exact, Begun}
+use Rattle.ranking.specs.Ranks.{Begun}
 use Rattle.ranking.proofs.Rows.{rows-within}
 use Rattle.ranking.proofs.Walk.{length_part}
 use Rattle.ranking.proofs.Premises.{whole_few}
 use Rattle.ranking.proofs.Parts.{begun_first, begun_all, next_exact, next_below, next_begun}
-use borrow.Author.Rules.{rules}
 use Rattle.ranking.proofs.unrank_whole.Goals as goal
 
 pub loop-at-init : goal.loop-at-init

@@ -1,18 +1,11 @@
 -- The invariant: the first events stand at the front, and the rest is the scenario of what is left of the index from the state reached. The next part is unranked
 -- by the rows of what is left after it (`next_exact`) and follows them (`next_begun`).
-use mathlib.Core.Path.{◌≡◌, refl, sym, ◌∙◌, subst}
-use Prim.Native.Nat.{ℕ, ◌+◌, ◌-◌, ◌*◌, ◌≤◌, ◌<◌}
-use native.Mathlib.Omega.{arith}
-use native.Mathlib.Nat.{sub-zero, add-mul, mul-le-mul_right}
-use lib.ListN.{length, length-take, length-drop}
+use mathlib.Core.Path.{◌≡◌}
+use Prim.Native.Nat.{◌-◌, ◌≤◌, ◌<◌}
+use lib.ListN.{length}
 use Rattle.automaton.specs.Automaton.{Automaton}
 use Rattle.automaton.specs.Counting.{N}
 use Rattle.ranking.specs.Ranks.{Exact, Begun}
-use Rattle.ranking.proofs.Rows.{rows-within}
-use Rattle.ranking.proofs.Walk.{length_part}
-use Rattle.ranking.proofs.Premises.{whole_few}
-use Rattle.ranking.proofs.Parts.{begun_first, begun_all, next_exact, next_below, next_begun}
-use borrow.Author.Rules.{rules}
 use Rattle.ranking.proofs.unrank_whole.Given as goal
 
 abbrev pub invariant-loop-at : goal.invariant-loop-at

@@ -1,5 +1,4 @@
 use mathlib.Core.Path.{◌≡◌, sym, ap, ◌∙◌}
-use mathlib.Core.Logic.{⊎_elim}
 use Prim.Native.Nat.{ℕ, ◌-◌, ◌≤◌}
 use native.Mathlib.Omega.{arith}
 use lib.ListN.{length, take, drop}
@@ -13,8 +12,7 @@ use Rattle.decoding.proofs.Listed.{length_over}
 use Rattle.taking.specs.declared.Taken.TheVariants.{Next, Same}
 use Rattle.taking.specs.Taking.{case_of, outcome, sizes_after}
 use Rattle.reader.proofs.Held.{room}
-use Rattle.reader.proofs.Passing.{Passed, passed_none, taken_good, stops_unended, stops_bad, goes_on, ends_none, ends_served, ends_record, reading_long, reading_whole, answers_refusal, answers_record}
-use borrow.Author.Rules.{rules}
+use Rattle.reader.proofs.Passing.{passed_none, taken_good, stops_unended, stops_bad, goes_on, ends_none, ends_served, ends_record, reading_long, reading_whole, answers_refusal, answers_record}
 use Rattle.lists.proofs.Tests.{uncurry}
 use Rattle.reader.proofs.read.Goals as goal
 use Rattle.reader.proofs.read.Goals.{in-Next, in-Same}
@@ -46,7 +44,6 @@ slice_bounds-decode-end c =
 pub take_line-requires : goal.take_line-requires
 take_line-requires c =
     let h = c.loop-at.invariant.holds in
-
     (h.long, h.wide_stops, h.wide_given, h.wide, h.wide_starts, ap length c.decode-form.ensures.order_after ∙ length_over _ _ ∙ h.wide_order, room _ _ _ _ _ _ _ _ _ h)
 
 pub returns-in-Bad : goal.returns-in-Bad
@@ -55,7 +52,6 @@ returns-in-Bad c =
     let lp = c.loop-at in
     let u = c.until-end in
     let d = c.decode-form in
-
     uncurry (λ v o. record { verdict_value = v; rig_value = o })
     (answers_refusal t c.refused-in-Bad.result c.in-Bad.number lp.line c.refused-in-Bad.ensures
     (reading_whole t c.if-text-gt65535.false (refused c.in-Bad.number lp.line) (stops_bad empty_rig t lp.sizes lp.line lp.at lp.moves lp.stops lp.given lp.counts lp.starts lp.order lp.invariant u.result u.ensures c.if-end-rest.false d.result c.decode-form.ensures.value c.decode-form.new.order c.decode-form.ensures.order_after c.in-Bad.number (sym c.in-Bad.is ∙ c.take_line.ensures.value))))
@@ -93,7 +89,7 @@ loop-at-preserved c =
     let of : (k ≡ 0) × (c.match-take_line.sizes ≡ sizes_after lp.sizes d.result) = elim c.match-take_line.branch [
       | in-Next w ↦ let (n, y) = taken_good k (outcome lp.sizes d.result) (Next w.in-Next.z) lp.sizes tt w.in-Next.ensures.value in (n, w.sizes-is ∙ y)
       | in-Same w ↦ let (n, y) = taken_good k (outcome lp.sizes d.result) Same lp.sizes tt w.in-Same.ensures.value in (n, w.sizes-is ∙ y)
-      ] in
+    ] in
     goes_on empty_rig t lp.sizes lp.line lp.at lp.moves lp.stops lp.given lp.counts lp.starts lp.order lp.invariant u.result u.ensures c.if-end-rest.false d.result d.ensures.value d.new.order d.ensures.order_after
     c.match-take_line.sizes l.moves l.stops l.given l.counts l.starts of.0 of.1 e.moves_after e.stops_after e.given_after e.counts_after e.starts_after
 

@@ -1,6 +1,5 @@
 -- The record beside a refusal is the empty one.
 -- Assumes nothing.
-use borrow.Author.Rules.{rules}
 use Rattle.reader.proofs.refused.Goals as goal
 
 pub returns : goal.returns

@@ -1,11 +1,8 @@
 use mathlib.Core.Path.{◌≡◌, refl, sym, ◌∙◌}
-use Prim.Native.Nat.{◌-◌, ◌≤◌}
 use native.Mathlib.Omega.{arith}
-use lib.ListN.{take}
 use lib.Seq.{take_all}
 use borrow.Author.Tests.{eqb-true}
 use Rattle.sheets.proofs.SharedStarts.{alike_more}
-use borrow.Author.Rules.{rules}
 use Rattle.sheets.proofs.alike.Goals as goal
 
 pub loop-i-init : goal.loop-i-init

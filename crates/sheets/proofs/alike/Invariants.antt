@@ -1,12 +1,7 @@
 -- `sheets::alike`: if of the first i events i are alike, all of them are. Assumes nothing.
-use mathlib.Core.Path.{◌≡◌, refl, sym, ◌∙◌}
+use mathlib.Core.Path.{◌≡◌}
 use Prim.Native.Nat.{◌-◌, ◌≤◌}
-use native.Mathlib.Omega.{arith}
 use lib.ListN.{take}
-use lib.Seq.{take_all}
-use borrow.Author.Tests.{eqb-true}
-use Rattle.sheets.proofs.SharedStarts.{alike_more}
-use borrow.Author.Rules.{rules}
 use Rattle.sheets.proofs.alike.Given as goal
 
 abbrev pub invariant-loop-i : goal.invariant-loop-i

@@ -5,7 +5,6 @@ use lib.ListN.{length-append}
 use Rattle.decimal.proofs.Digits.{decimal-fits}
 use Rattle.line.proofs.Pieces.{fields-short}
 use Rattle.sheets.proofs.Texts.{leg_saved, leg_unsaved, run_long, slot-long}
-use borrow.Author.Rules.{rules}
 use Rattle.sheets.proofs.leg_length.Goals as goal
 
 pub overflow_add-bytes : goal.overflow_add-bytes

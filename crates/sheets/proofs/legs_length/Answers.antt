@@ -1,10 +1,7 @@
-use mathlib.Core.Path.{◌≡◌, ap}
-use Prim.Native.Nat.{◌+◌, ◌-◌, ◌*◌, ◌≤◌}
+use mathlib.Core.Path.{ap}
 use native.Mathlib.Omega.{arith}
-use lib.ListN.{length, drop}
-use Rattle.sheets.specs.Writing.{legs_text}
+use lib.ListN.{length}
 use Rattle.sheets.proofs.Parts.{one_leg, length_more, legs_end}
-use borrow.Author.Rules.{rules}
 use Rattle.sheets.proofs.legs_length.Goals as goal
 
 pub loop-from-init : goal.loop-from-init

@@ -1,12 +1,9 @@
 -- `sheets::legs_length`: the bytes of the legs up to `from` are counted, and with those of the rest they are all. `one_leg` is one leg more.
 -- Assumes nothing.
-use mathlib.Core.Path.{◌≡◌, ap}
+use mathlib.Core.Path.{◌≡◌}
 use Prim.Native.Nat.{◌+◌, ◌-◌, ◌*◌, ◌≤◌}
-use native.Mathlib.Omega.{arith}
 use lib.ListN.{length, drop}
 use Rattle.sheets.specs.Writing.{legs_text}
-use Rattle.sheets.proofs.Parts.{one_leg, length_more, legs_end}
-use borrow.Author.Rules.{rules}
 use Rattle.sheets.proofs.legs_length.Given as goal
 
 abbrev pub invariant-loop-from : goal.invariant-loop-from

@@ -1,15 +1,14 @@
 use mathlib.Core.Path.{◌≡◌, refl, sym, ap}
-use Prim.Native.Nat.{◌+◌, ◌-◌, ◌*◌, ◌<◌, ◌≤◌}
+use Prim.Native.Nat.{◌+◌, ◌<◌}
 use native.Mathlib.Numerals.{add-one}
 use native.Mathlib.Omega.{arith}
 use native.Mathlib.Nat.{suc-mul}
 use lib.ListN.{length}
 use borrow.Author.Tests.{le-leb, lt-leb}
 use Rattle.lists.proofs.Tests.{contra}
-use Rattle.promises.specs.Sheets.{sheet, events, scenario, sheet_text}
+use Rattle.promises.specs.Sheets.{sheet_text}
 use Rattle.promises.proofs.Sheets.{scenario-within}
 use Rattle.sheets.proofs.Parts.{sheet_none, one_part, length_sheet, sheet_longer}
-use borrow.Author.Rules.{rules}
 use Rattle.sheets.proofs.measure.Goals as goal
 
 pub loop-k-init : goal.loop-k-init

@@ -6,7 +6,6 @@ use lib.ListN.{length}
 use Rattle.decimal.proofs.Digits.{decimal-fits}
 use Rattle.sheets.proofs.Texts.{slot-long}
 use Rattle.sheets.proofs.Parts.{length_part, slot_few}
-use borrow.Author.Rules.{rules}
 use Rattle.sheets.proofs.part_length.Goals as goal
 
 pub legs_length-requires : goal.legs_length-requires

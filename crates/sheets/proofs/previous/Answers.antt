@@ -1,10 +1,8 @@
 -- `sheets::previous`: scenario number k - 1, where k is not 0. Assumes nothing.
 use mathlib.Core.Path.{◌∙◌}
-use Prim.Native.Nat.{◌-◌}
 use native.Mathlib.Omega.{arith}
 use Rattle.promises.specs.Sheets.{scenario, previous}
 use Rattle.sheets.proofs.SharedStarts.{previous-next, previous-within}
-use borrow.Author.Rules.{rules}
 use Rattle.sheets.proofs.previous.Goals as goal
 
 pub returns-then-k-eq0 : goal.returns-then-k-eq0

@@ -2,7 +2,6 @@
 use mathlib.Core.Path.{◌∙◌, ap₂}
 use native.Mathlib.Omega.{arith}
 use Rattle.promises.specs.Sheets.{tail}
-use borrow.Author.Rules.{rules}
 use Rattle.sheets.proofs.runs.Goals as goal
 
 pub previous-requires : goal.previous-requires

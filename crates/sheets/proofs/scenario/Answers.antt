@@ -2,7 +2,6 @@
 use native.Mathlib.Nat.{add-sub_cancel_left}
 use Rattle.promises.specs.Demand3.{block}
 use Rattle.promises.specs.Sheets.{scenario}
-use borrow.Author.Rules.{rules}
 use Rattle.sheets.proofs.scenario.Goals as goal
 
 pub returns : goal.returns

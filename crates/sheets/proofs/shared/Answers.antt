@@ -1,10 +1,5 @@
-use mathlib.Core.Path.{◌≡◌}
-use Prim.Native.Nat.{◌+◌, ◌-◌, ◌≤◌, min}
 use native.Mathlib.Omega.{arith}
-use lib.ListN.{length, drop}
-use Rattle.promises.specs.Sheets.{shared}
 use Rattle.sheets.proofs.SharedStarts.{shared_differ, shared_more, shared_end, shared_skip}
-use borrow.Author.Rules.{rules}
 use Rattle.sheets.proofs.shared.Goals as goal
 
 pub shared_blocks-from-requires : goal.shared_blocks-from-requires

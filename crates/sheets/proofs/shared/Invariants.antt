@@ -1,11 +1,8 @@
 -- `sheets::shared`: the first k events are alike, and the start that is shared goes on by as many as the rests share. Assumes nothing.
 use mathlib.Core.Path.{◌≡◌}
 use Prim.Native.Nat.{◌+◌, ◌-◌, ◌≤◌, min}
-use native.Mathlib.Omega.{arith}
 use lib.ListN.{length, drop}
 use Rattle.promises.specs.Sheets.{shared}
-use Rattle.sheets.proofs.SharedStarts.{shared_differ, shared_more, shared_end, shared_skip}
-use borrow.Author.Rules.{rules}
 use Rattle.sheets.proofs.shared.Given as goal
 
 abbrev pub invariant-loop-k : goal.invariant-loop-k

@@ -1,10 +1,7 @@
-use mathlib.Core.Path.{◌≡◌, refl, ap}
-use mathlib.Mathlib.Data.Bool.Basic.{eq-true_of_not-eq-false'}
-use Prim.Native.Nat.{◌-◌, ◌≤◌}
+use mathlib.Core.Path.{refl}
 use native.Mathlib.Omega.{arith}
-use lib.ListN.{take, length-take, length-drop}
+use lib.ListN.{length-take, length-drop}
 use Rattle.sheets.proofs.SharedStarts.{block_more}
-use borrow.Author.Rules.{rules}
 use Rattle.sheets.proofs.shared_blocks.Goals as goal
 
 pub loop-k-init : goal.loop-k-init

@@ -1,11 +1,7 @@
 -- `sheets::shared_blocks`: the first k events are alike. `block_more` is one block more. Assumes nothing.
-use mathlib.Core.Path.{◌≡◌, refl}
-use mathlib.Mathlib.Data.Bool.Basic.{eq-true_of_not-eq-false'}
+use mathlib.Core.Path.{◌≡◌}
 use Prim.Native.Nat.{◌-◌, ◌≤◌}
-use native.Mathlib.Omega.{arith}
-use lib.ListN.{take, length-take, length-drop}
-use Rattle.sheets.proofs.SharedStarts.{block_more}
-use borrow.Author.Rules.{rules}
+use lib.ListN.{take}
 use Rattle.sheets.proofs.shared_blocks.Given as goal
 
 abbrev pub invariant-loop-k : goal.invariant-loop-k

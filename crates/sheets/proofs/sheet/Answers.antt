@@ -7,7 +7,6 @@ use lib.ListN.{length}
 use borrow.Author.Tests.{ltb-true, ltb-false, leb-true, leb-false}
 use Rattle.promises.specs.Sheets.{sheet_text}
 use Rattle.sheets.proofs.Answers.{refused_7, refused_20, too_few, too_many, too_long, all_served}
-use borrow.Author.Rules.{rules}
 use Rattle.lists.proofs.Tests.{uncurry}
 use Rattle.sheets.proofs.sheet.Goals as goal
 

@@ -1,7 +1,6 @@
 -- `sheets::slot_length`: four letters, the field of the slot, and the line end. Assumes nothing.
 use native.Mathlib.Omega.{arith}
 use Rattle.decimal.proofs.Digits.{decimal-fits}
-use borrow.Author.Rules.{rules}
 use Rattle.sheets.proofs.slot_length.Goals as goal
 
 pub overflow_add-result : goal.overflow_add-result

@@ -6,7 +6,6 @@ use lib.ListN.{length, drop, length-drop}
 use lib.Seq.{take_all}
 use Rattle.promises.specs.Sheets.{shared, slot_for, depth_for, tail}
 use Rattle.promises.proofs.Bench.{shared_right}
-use borrow.Author.Rules.{rules}
 use Rattle.sheets.proofs.tail.Goals as goal
 
 pub overflow_mul-depth : goal.overflow_mul-depth

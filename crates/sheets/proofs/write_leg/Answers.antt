@@ -6,8 +6,6 @@ use Rattle.lists.proofs.Fronts.{front_from}
 use Rattle.line.specs.Line.{line_from}
 use Rattle.promises.specs.Text.{bytes}
 use Rattle.sheets.proofs.Texts.{leg_saved, leg_unsaved, run_within, saved_long}
-use borrow.Author.Rules.{rules}
-use Rattle.lists.proofs.Tests.{uncurry}
 use Rattle.sheets.proofs.write_leg.Goals as goal
 
 pub write_events-at-requires : goal.write_events-at-requires
@@ -39,8 +37,6 @@ pub returns-then-run-g : goal.returns-then-run-g
 returns-then-run-g c =
     let st = c.args in
     let es = st.run.now in
-
-
     let taken = c.if-run-g.true in record {
       value = omega (arith, saved_long st.g st.j es taken);
       out_after = rw (leg_saved st.g st.j es taken) (front_from (line_from (bytes "run") es) st.out.now (line_from (bytes "save") (st.j ∷ [])) _ _ _ c.write_events-at.ensures.value c.write_events-at.ensures.out_after c.write_number.ensures.out_after);

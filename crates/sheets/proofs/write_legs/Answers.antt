@@ -1,13 +1,12 @@
 use mathlib.Core.Path.{◌≡◌, refl, sym, ap, ◌∙◌}
-use mathlib.Core.List.{List, [], ◌++◌, append-nil, append_assoc}
-use Prim.Native.Nat.{ℕ, ◌+◌, ◌-◌, ◌≤◌}
+use mathlib.Core.List.{[], ◌++◌, append-nil, append_assoc}
+use Prim.Native.Nat.{◌+◌}
 use native.Mathlib.Omega.{arith}
 use lib.ListN.{length, drop, length-append, length-take, length-drop}
 use Rattle.lists.proofs.Fronts.{front_from}
 use Rattle.promises.specs.Sheets.{leg, text}
 use Rattle.sheets.specs.Writing.{legs_text}
 use Rattle.sheets.proofs.Parts.{one_leg, length_more, legs_end}
-use borrow.Author.Rules.{rules}
 use Rattle.lists.proofs.Tests.{uncurry}
 use Rattle.sheets.proofs.write_legs.Goals as goal
 
@@ -74,7 +73,6 @@ loop-from-preserved c =
     let l = one_leg st.g c.requires.g_nonzero.0 lp.j lp.from st.rest.now _ c.leg-run.ensures c.loop-from-test.true in
     let long = length_more st.g lp.j lp.from st.rest.now _ l in
     let all = ap length lp.invariant.5 ∙ length-append lp.invariant.3 (legs_text st.g lp.j (drop lp.from st.rest.now)) in
-
     let t = text (leg st.g (lp.j + 1) c.leg-run.result.now) in (
       l.within,
       omega (arith, l.some),

@@ -1,16 +1,10 @@
 -- `sheets::write_legs`: the text s of the legs up to `from` stands at the front, and with that of the rest it is all. `one_leg` is one leg more.
 -- Assumes nothing.
-use mathlib.Core.Path.{◌≡◌, refl, sym, ap, ◌∙◌}
-use mathlib.Core.List.{List, [], ◌++◌, append-nil, append_assoc}
+use mathlib.Core.Path.{◌≡◌}
+use mathlib.Core.List.{List, ◌++◌}
 use Prim.Native.Nat.{ℕ, ◌+◌, ◌-◌, ◌≤◌}
-use native.Mathlib.Omega.{arith}
-use lib.ListN.{length, drop, length-append, length-take, length-drop}
-use Rattle.lists.proofs.Fronts.{front_from}
-use Rattle.promises.specs.Sheets.{leg, text}
+use lib.ListN.{length, drop}
 use Rattle.sheets.specs.Writing.{legs_text}
-use Rattle.sheets.proofs.Parts.{one_leg, length_more, legs_end}
-use borrow.Author.Rules.{rules}
-use Rattle.lists.proofs.Tests.{uncurry}
 use Rattle.sheets.proofs.write_legs.Given as goal
 
 abbrev pub invariant-loop-from : goal.invariant-loop-from

@@ -8,7 +8,6 @@ use Rattle.line.specs.Line.{line_from}
 use Rattle.promises.specs.Text.{bytes}
 use Rattle.sheets.specs.Writing.{legs_text}
 use Rattle.sheets.proofs.Parts.{text_part, length_part, slot_few}
-use borrow.Author.Rules.{rules}
 use Rattle.sheets.proofs.write_part.Goals as goal
 
 pub write_number-at-requires : goal.write_number-at-requires
@@ -42,8 +41,7 @@ pub returns : goal.returns
 returns c =
     let st = c.args in
     let slot = (st.h - length st.rest.now) / st.g in
-
- record {
+    record {
       value = omega (arith, length_part st.h st.g st.rest.now);
       out_after = rw (text_part st.h st.g st.rest.now) (front_from (line_from (bytes "load") (slot ∷ [])) st.out.now (legs_text st.g slot st.rest.now) _ _ _ c.write_number-at.ensures.value c.write_number-at.ensures.out_after c.write_legs.ensures.out_after);
     }

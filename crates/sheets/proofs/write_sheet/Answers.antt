@@ -1,6 +1,6 @@
 use mathlib.Core.Path.{◌≡◌, refl, sym, ap, ◌∙◌}
 use mathlib.Core.List.{◌++◌}
-use Prim.Native.Nat.{◌+◌, ◌-◌, ◌<◌, ◌≤◌}
+use Prim.Native.Nat.{◌+◌, ◌<◌}
 use native.Mathlib.Omega.{arith}
 use lib.ListN.{length, drop, length-take, length-drop}
 use Rattle.lists.proofs.Fronts.{front_from}
@@ -8,7 +8,6 @@ use Rattle.promises.specs.Sheets.{text, sheet_text}
 use Rattle.promises.proofs.Sheets.{scenario-within}
 use Rattle.sheets.specs.Writing.{part_of}
 use Rattle.sheets.proofs.Parts.{sheet_none, one_part, length_sheet, sheet_longer}
-use borrow.Author.Rules.{rules}
 use Rattle.sheets.proofs.write_sheet.Goals as goal
 
 pub loop-k-init : goal.loop-k-init
@@ -78,8 +77,7 @@ loop-k-preserved c =
     let enough = c.requires.2 in
     let lt : lp.k < st.m = c.loop-k-test.true in
     let p = one_part st.m st.h st.g c.requires.1 s enough lp.k _ lt c.runs-rest.ensures in
-    let long = length_sheet st.h st.g s lp.k _ p in
- (
+    let long = length_sheet st.h st.g s lp.k _ p in (
       omega arith,
       c.out-1.given.1 ∙ lp.invariant.1,
       omega arith,

@@ -1,15 +1,9 @@
 -- `sheets::write_sheet`: the commands of the first k scenarios stand at the front. `one_part` is one scenario more. Assumes nothing.
-use mathlib.Core.Path.{◌≡◌, refl, sym, ap, ◌∙◌}
+use mathlib.Core.Path.{◌≡◌}
 use mathlib.Core.List.{◌++◌}
-use Prim.Native.Nat.{◌+◌, ◌-◌, ◌<◌, ◌≤◌}
-use native.Mathlib.Omega.{arith}
-use lib.ListN.{length, drop, length-take, length-drop}
-use Rattle.lists.proofs.Fronts.{front_from}
-use Rattle.promises.specs.Sheets.{text, sheet_text}
-use Rattle.promises.proofs.Sheets.{scenario-within}
-use Rattle.sheets.specs.Writing.{part_of}
-use Rattle.sheets.proofs.Parts.{sheet_none, one_part, length_sheet, sheet_longer}
-use borrow.Author.Rules.{rules}
+use Prim.Native.Nat.{◌-◌, ◌≤◌}
+use lib.ListN.{length, drop}
+use Rattle.promises.specs.Sheets.{sheet_text}
 use Rattle.sheets.proofs.write_sheet.Given as goal
 
 abbrev pub invariant-loop-k : goal.invariant-loop-k

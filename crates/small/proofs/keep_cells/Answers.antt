@@ -8,7 +8,6 @@ use Rattle.joint.proofs.Digits.{states_few}
 use Rattle.counting.proofs.Sums.{tabled_bounded}
 use Rattle.filling.proofs.Laws.{flagged, tabled}
 use Rattle.small.proofs.Laws.{last-room, last-cell}
-use borrow.Author.Rules.{rules}
 use Rattle.small.proofs.keep_cells.Goals as goal
 
 pub prune-requires : goal.prune-requires

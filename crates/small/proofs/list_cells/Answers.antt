@@ -16,7 +16,6 @@ use Rattle.filling.proofs.Rows.{cell_refused, cell_passed, cell_exact, cell_few}
 use Rattle.keeping.proofs.Places.{past_trans}
 use Rattle.generator.proofs.Laws.{listed_bad, listed_good}
 use Rattle.small.proofs.Laws.{freed}
-use borrow.Author.Rules.{rules}
 use Rattle.small.proofs.list_cells.Goals as goal
 
 pub returns-then-at-list : goal.returns-then-at-list

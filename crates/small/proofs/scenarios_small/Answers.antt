@@ -4,7 +4,6 @@ use Prim.Native.Nat.{◌*◌}
 use lib.ListN.{length}
 use Rattle.generator.proofs.Laws.{fits_true, fits_false}
 use Rattle.small.proofs.Laws.{early_small, early_keeps, early_small_output, short_small, short_keeps, short_output, small_is, small_keeps, small_output_lem}
-use borrow.Author.Rules.{rules}
 use Rattle.small.proofs.scenarios_small.Goals as goal
 
 pub list_cells-requires : goal.list_cells-requires
@@ -20,7 +19,6 @@ returns-then-fits c =
     let o = c.load-o in
     let e = c.in-Passed.is in
     let g = c.fits in
-
     let fit = fits_true g.result (length a.out.now) (length a.list.now * a.h) g.ensures c.if-fits.true in
     let told = c.list_cells.ensures.result_value ∙ small_is a.text.now a.h (length a.cells.now) o.result o.ensures a.cells.now refl a.list.now a.out.now e fit in
     record {

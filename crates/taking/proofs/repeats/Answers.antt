@@ -1,10 +1,6 @@
-use mathlib.Core.Path.{◌≡◌, refl, sym, ◌∙◌}
-use Prim.Native.Nat.{◌-◌, ◌≤◌}
+use mathlib.Core.Path.{refl, sym, ◌∙◌}
 use native.Mathlib.Omega.{arith}
-use lib.ListN.{length, drop}
-use Rattle.promises.specs.Reading as promised
 use Rattle.taking.proofs.Listed.{repeats_here, repeats_later, repeats_end}
-use borrow.Author.Rules.{rules}
 use Rattle.taking.proofs.repeats.Goals as goal
 
 pub loop-k-init : goal.loop-k-init

@@ -1,12 +1,9 @@
 -- The invariant: the bytes repeat exactly if those from here on do.
 -- Assumes nothing.
-use mathlib.Core.Path.{◌≡◌, refl, sym, ◌∙◌}
+use mathlib.Core.Path.{◌≡◌}
 use Prim.Native.Nat.{◌-◌, ◌≤◌}
-use native.Mathlib.Omega.{arith}
 use lib.ListN.{length, drop}
 use Rattle.promises.specs.Reading as promised
-use Rattle.taking.proofs.Listed.{repeats_here, repeats_later, repeats_end}
-use borrow.Author.Rules.{rules}
 use Rattle.taking.proofs.repeats.Given as goal
 
 abbrev pub invariant-loop-k : goal.invariant-loop-k

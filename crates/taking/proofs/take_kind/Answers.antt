@@ -9,7 +9,6 @@ use Rattle.promises.proofs.Lines.{start_below}
 use Rattle.kinds.specs.Kinds.{as_kind, InRange}
 use Rattle.kinds.proofs.Bands.{ranged, few}
 use Rattle.taking.specs.Taking.{kind_case}
-use borrow.Author.Rules.{rules}
 use Rattle.taking.proofs.take_kind.Goals as goal
 
 pub returns-then-z-eq0 : goal.returns-then-z-eq0
@@ -87,9 +86,9 @@ returns-then-joint-gt1024 c =
 
 pub fill_tables-requires : goal.fill_tables-requires
 fill_tables-requires c = record {
-      moves_len = (c.requires.0, c.requires.1, c.if-z-ge4.false);
-      in_range = (c.args.z.events, sym c.out_of_range.ensures ∙ c.if-out_of_range.false, sym c.equal.ensures ∙ c.if-equal.false);
-    }
+  moves_len = (c.requires.0, c.requires.1, c.if-z-ge4.false);
+  in_range = (c.args.z.events, sym c.out_of_range.ensures ∙ c.if-out_of_range.false, sym c.equal.ensures ∙ c.if-equal.false);
+}
 
 pub overflow_cast-counts : goal.overflow_cast-counts
 overflow_cast-counts c = omega (arith, few (as_kind c.args.k) (c.args.z.events, sym c.out_of_range.ensures ∙ c.if-out_of_range.false, sym c.equal.ensures ∙ c.if-equal.false), c.states-n.ensures)
@@ -107,7 +106,6 @@ unfolding kind_case
 returns c =
     let st = c.args in
     let n = c.states-n.ensures in
-
     let q : kind_case st.z st.k ≡ 0 = rw (← n, ne_eqb _ _ c.if-z-eq0.false, sym c.out_of_range.ensures ∙ c.if-out_of_range.false, lt-leb _ _ c.if-z-ge4.false, sym c.equal.ensures ∙ c.if-equal.false, le-ltb _ _ c.if-joint-gt1024.false) in
     record {
       value = rw (q, ← n, ← c.mon_states.ensures, ← c.band_of.ensures, ← c.day_steps.ensures);

@@ -2,7 +2,6 @@
 -- Assumes nothing.
 use Rattle.taking.specs.Taking.{rig_case, ord_case, kind_case, part_case}
 use Rattle.taking.proofs.Taking.{kept}
-use borrow.Author.Rules.{rules}
 use Rattle.taking.proofs.take_line.Goals as goal
 
 pub returns-in-Rig : goal.returns-in-Rig
@@ -38,7 +37,6 @@ returns-in-Begins c =
     let st = c.args in
     let q = c.in-Begins.is in
     let n = kind_case st.z c.in-Begins.k in
-
     record {
       value = rw q c.take_kind.ensures.value;
       moves_after = rw q c.take_kind.ensures.moves_after;
@@ -53,7 +51,6 @@ returns-in-Continues c =
     let st = c.args in
     let q = c.in-Continues.is in
     let n = part_case st.moves.now st.stops.now st.given.now st.z c.in-Continues.p in
-
     record {
       value = rw q c.take_part.ensures.value;
       moves_after = rw q c.take_part.ensures.moves_after;

@@ -4,7 +4,6 @@ use native.Mathlib.Omega.{arith}
 use borrow.Author.Tests.{le-leb, lt-leb, lt-ltb, le-ltb, eq-eqb, ne_eqb}
 use Rattle.taking.specs.Taking.{open_case}
 use Rattle.taking.proofs.Taking.{some-day}
-use borrow.Author.Rules.{rules}
 use Rattle.taking.proofs.take_open.Goals as goal
 
 pub returns-then-t-eq0 : goal.returns-then-t-eq0

@@ -8,7 +8,6 @@ use lib.Seq.{length-take-le}
 use borrow.Author.Tests.{eq-eqb, ne_eqb}
 use Rattle.taking.specs.Taking.{ord_case}
 use Rattle.taking.proofs.Listed.{front_bad, front_good}
-use borrow.Author.Rules.{rules}
 use Rattle.taking.proofs.take_ord.Goals as goal
 
 pub returns-then-line-ne2 : goal.returns-then-line-ne2

@@ -12,7 +12,6 @@ pub returns-in-Go : goal.returns-in-Go
 returns-in-Go c =
     let st = c.args in
     let q = c.in-Go.is in
-
     let n = go_case st.moves.now st.z c.in-Go.s c.in-Go.e c.in-Go.t in
     record {
       value = rw q c.take_go.ensures.value;
@@ -25,7 +24,6 @@ pub returns-in-Stop : goal.returns-in-Stop
 returns-in-Stop c =
     let st = c.args in
     let q = c.in-Stop.is in
-
     let n = stop_case st.stops.now st.z c.in-Stop.s in
     record {
       value = rw q c.take_stop.ensures.value;
@@ -52,7 +50,6 @@ pub returns-in-Open : goal.returns-in-Open
 returns-in-Open c =
     let st = c.args in
     let q = c.in-Open.is in
-
     let n = open_case st.z c.in-Open.e c.in-Open.a c.in-Open.b in
     record {
       value = rw q c.take_open.ensures.value;
