@@ -27,7 +27,7 @@ returns-in-Passed c =
     let st = c.args in
     let o = c.load-o in
     let e = c.in-Passed.is in
- record {
+    record {
       result_value = c.count_cells.ensures.result_value ∙ count_is st.text.now st.h (length st.cells.now) o.result o.ensures st.cells.now refl e;
       cells_after = count_cells_are st.text.now st.h (length st.cells.now) o.result o.ensures st.cells.now refl e _ c.count_cells.ensures.cells_after;
     }

@@ -38,7 +38,6 @@ returns-else-at-h c =
     let o = c.load-o in
     let e = c.in-Passed.is in
     let g = c.first_not_event-at in
-
     record {
       result_value = c.index_cells.ensures.result_value ∙ index_is st.text.now st.sequence.now (length st.cells.now) o.result o.ensures st.cells.now refl e g.result g.ensures c.if-at-h.false;
       cells_after = index_cells_are st.text.now st.sequence.now (length st.cells.now) o.result o.ensures st.cells.now refl e g.result g.ensures c.if-at-h.false _ c.index_cells.ensures.cells_after;

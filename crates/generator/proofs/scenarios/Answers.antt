@@ -22,7 +22,6 @@ returns-then-fits c =
     let o = c.load-o in
     let e = c.in-Passed.is in
     let g = c.fits in
-
     let fit = fits_true g.result (length st.out.now) (length st.list.now * st.h) g.ensures c.if-fits.true in
     let a = c.list_cells.ensures.result_value ∙ scenarios_are st.text.now st.h (length st.cells.now) o.result o.ensures st.cells.now refl e st.list.now st.out.now fit in
     record {
