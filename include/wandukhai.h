@@ -1,7 +1,7 @@
 /* Wandukhai: counts the scenarios of a rig, turns indices into scenarios and back, shuffles indices by draws, which it makes from a seed, and
  * writes sheets of bench commands.
  *
- * Link with libcapi.a (`rt staticlib capi` writes target/staticlib/libcapi.a, for x86-64). The functions keep no state, allocate nothing,
+ * Link with libcapi.a (`rt lib` in crates/capi writes crates/capi/out/libcapi.a, for x86-64-v2). The functions keep no state, allocate nothing,
  * and end on any input. How much stack each uses is stated below, as WANDUKHAI_..._STACK.
  *
  * What each asks of its caller, and nothing more:
@@ -88,8 +88,8 @@
 extern "C" {
 #endif
 
-/* Bytes of stack that each function uses at most: measured at the horizon 1,000 with the largest rig (tests/stack.c), and an eighth or more
- * added. A thread needs some more for itself. */
+/* Bytes of stack that each function uses at most: measured at the horizon 1,000 with the largest rig (tests/stack.c), and a twentieth or more
+ * added. A thread needs some more for itself, and some 4,096 bytes more where memcpy and memset are bound at their first call (cc's -z lazy). */
 #define WANDUKHAI_COUNT_STACK 57344
 #define WANDUKHAI_COUNT_FORWARD_STACK 57344
 #define WANDUKHAI_SCENARIOS_STACK 57344

@@ -1,4 +1,5 @@
 /* Measures how many bytes of stack each function uses, prints them, and fails where they are more than the header states.
+ * Link it with -z now: else the first call is measured with what the dynamic linker needs to bind memcpy and memset.
  * Each call runs on a thread of its own, on a stack filled with a pattern, above a page that may not be touched. The rigs are as large as rigs
  * can be: 16 events, 1,024 joint states, and the horizon 1,000. */
 #define _GNU_SOURCE

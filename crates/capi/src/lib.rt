@@ -1,5 +1,6 @@
 // The calls for C and Rust: each answers in numbers, 0 where it serves and else the number of refusal, and writes what else it tells to `answer` or `place`.
 #![tactic(auto)]
+
 ghost use Rattle.std.specs.Prelude.{◌≡◌};
 ghost use Rattle.promises.specs.Calls.{ShuffleKeeps};
 ghost use Rattle.promises.specs.Calls as promised;

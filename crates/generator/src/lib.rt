@@ -144,15 +144,14 @@ pub fn index(text: &[u8], sequence: &[u8], cells: &mut [u64]) -> Indexed
     let h = sequence.len();
     let o = checks::load(text, h as u64, Rows::All, cells.len());
     let checked = o.checked;
-    let rig = o.rig;
     match checked {
         Checked::Refused(number, place) => Indexed::Refused(number, place),
         Checked::Passed => {
-            let at = rig::first_not_event(sequence, rig.events);
+            let at = rig::first_not_event(sequence, o.rig.events);
             if at < h {
                 return Indexed::Refused(13, at as u64);
             }
-            index_cells(rig, o.states, o.start, sequence, cells)
+            index_cells(o.rig, o.states, o.start, sequence, cells)
         }
     }
 }

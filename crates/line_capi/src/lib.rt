@@ -1,5 +1,6 @@
 // The line writer as a C function: benchmarks and tests from outside reach it by this one. The product has no such call.
 #![tactic(auto)]
+
 ghost use Rattle.std.specs.Prelude.{◌≡◌, ◌++◌, length, drop};
 ghost use Rattle.line_capi.specs.Room.{line_within};
 
