@@ -294,7 +294,7 @@ fn count_with(
     cells: &mut [u64],
 ) -> io::Result<()> {
     if cells.len() < lent {
-        return;
+        return Ok(());
     }
     say(rt, name)?;
     match generator::count(text, h, &mut cells[..lent]) {
@@ -338,10 +338,10 @@ fn list_with(
     out: &mut [u8],
 ) -> io::Result<()> {
     if cells.len() < rows {
-        return;
+        return Ok(());
     }
     if out.len() < lent {
-        return;
+        return Ok(());
     }
     say(rt, name)?;
     match generator::scenarios(text, h, list, &mut cells[..rows], &mut out[..lent]) {
@@ -373,7 +373,7 @@ fn index_with(
     cells: &mut [u64],
 ) -> io::Result<()> {
     if cells.len() < lent {
-        return;
+        return Ok(());
     }
     say(rt, name)?;
     match generator::index(text, sequence, &mut cells[..lent]) {
