@@ -6,7 +6,7 @@ use std::io;
 fn show(rt: &impl Print, name: &[u8], input: &[u8], from: u64, to: u64) -> io::Result<()> {
     rt.write_all(name)?;
     rt.write_all(b"\n")?;
-    printing::print_part(rt, input, from, to)
+    printing::print_part(&mut io::writer(rt), input, from, to)
 }
 
 // Listings that are served.

@@ -1,11 +1,24 @@
-// Writes the listing of an input to standard output. No contract can say which bytes a write of the system takes: those lent to it are the
-// lines of crate `listing`, one after the other, from the first to the end.
+// Writes the listing of an input, line by line: those of crate `listing`, one after the other, from the first to the end.
 #![tactic(auto)]
 
-use std::io;
+ghost use Rattle.std.specs.Prelude.{OnOk};
+ghost use Rattle.std.specs.Io.KnownBytes.{Appends};
+ghost use Rattle.listing.specs.Listing.{listing};
+ghost use Rattle.printing.specs.Part.{lent, part};
 
-// Lends a line to the system: the first one, and of those that follow it, which are counted from 1, those past `from` and up to `to`.
-fn write_between(rt: &impl Print, line: &[u8], count: u64, from: u64, to: u64) -> io::Result<()> {
+use std::io;
+use std::io::Write;
+
+// Writes a line: the first one, and of those that follow it, which are counted from 1, those past `from` and up to `to`.
+fn write_between<W: Write>(
+    out: &mut W,
+    line: &[u8],
+    count: u64,
+    from: u64,
+    to: u64,
+) -> io::Result<()>
+    ensures { OnOk result (Appends (W.contents out.old) (W.contents out.new) (lent from to count line.now)) }
+{
     if 0 < count {
         if count <= from {
             return Ok(());
@@ -14,11 +27,13 @@ fn write_between(rt: &impl Print, line: &[u8], count: u64, from: u64, to: u64) -
             return Ok(());
         }
     }
-    rt.write_all(line)
+    out.write_all(line)
 }
 
 // Prints the first line of the listing, and of the lines that follow it those from `from` to before `to`, counted from 0.
-pub fn print_part(rt: &impl Print, input: &[u8], from: u64, to: u64) -> io::Result<()> {
+pub fn print_part<W: Write>(out: &mut W, input: &[u8], from: u64, to: u64) -> io::Result<()>
+    ensures { OnOk result (Appends (W.contents out.old) (W.contents out.new) (part input.now from to)) }
+{
     let mut cells = [0u64; 8192];
     let mut table = [0u16; 16384];
     let mut line = [0u8; 4096];
@@ -28,12 +43,14 @@ pub fn print_part(rt: &impl Print, input: &[u8], from: u64, to: u64) -> io::Resu
         if n == 0 {
             return Ok(());
         }
-        write_between(rt, &line[..n], cursor.index, from, to)?;
+        write_between(out, &line[..n], cursor.index, from, to)?;
         cursor = listing::next(cursor, &cells, &table, &mut line);
     }
 }
 
 // Prints the whole listing.
-pub fn print(rt: &impl Print, input: &[u8]) -> io::Result<()> {
-    print_part(rt, input, 0, 1000)
+pub fn print<W: Write>(out: &mut W, input: &[u8]) -> io::Result<()>
+    ensures { OnOk result (Appends (W.contents out.old) (W.contents out.new) (listing input.now)) }
+{
+    print_part(out, input, 0, 1000)
 }
