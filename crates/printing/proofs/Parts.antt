@@ -1,14 +1,14 @@
 -- The lines that are printed before line k, and after the last one the whole part.
 --   printed from to i k == line k of the listing for the input i, if it is printed
 --   before from to i k  == the lines that are printed before line k
-use Rattle.std.proofs.Common.{◌≡◌, ◌⊎◌, inl, inr, List, [], ◌∷◌, ◌++◌, ℕ, zero, suc, ◌+◌, ◌≤◌, ◌<◌, length, take, refl, sym, ap, ap₂, ◌∙◌, arith, length-append, append_assoc}
+use Rattle.std.proofs.Common.{◌≡◌, ◌⊎◌, inl, inr, List, [], ◌∷◌, ◌++◌, ℕ, zero, suc, ◌≤◌, ◌<◌, length, take, refl, sym, ap, ap₂, ◌∙◌, arith, length-append, append_assoc}
 use borrow.Author.Tests.{lt-ltb, le-ltb}
-use Rattle.lists.specs.Lists.{pick, concat_map, range}
+use Rattle.lists.specs.Lists.{concat_map, range}
 use Rattle.lists.proofs.Blocks.{concat_map_snoc}
 use Rattle.lists.proofs.Tests.{split}
 use Rattle.promises.specs.Answer.{Answer, served, refused}
 use Rattle.promises.specs.Text.{bytes}
-use Rattle.line.specs.Line.{field_bytes, line_from, line_of, numbers_of}
+use Rattle.line.specs.Line.{line_from, line_of, numbers_of}
 use Rattle.listing.specs.Listing.{text, answer, head_line, follow, horizon, scenario_line, listing}
 use Rattle.listing.specs.Printing.{line_at, StandsAt}
 use Rattle.listing.specs.declared.Cursor.{Cursor}

@@ -1,5 +1,5 @@
 -- The first 65,546 bytes of a reader, or all of them, decide the listing of all.
-use Rattle.std.proofs.Common.{◌≡◌, refl, ◌⊎◌, inl, inr, List, [], ◌++◌, ℕ, ◌≤◌, ◌<◌, None, Some, IfSome, length, take, sym, ap, ◌∙◌, subst, arith, append-nil}
+use Rattle.std.proofs.Common.{◌≡◌, refl, ◌⊎◌, inl, inr, List, ◌++◌, ℕ, ◌≤◌, ◌<◌, None, Some, IfSome, length, take, sym, ap, ◌∙◌, subst, append-nil}
 use Rattle.std.specs.Io.KnownBytes.{Consumes, IsAtEnd}
 use Rattle.std.specs.declared.option.Option.{Option}
 use lib.Seq.{take_at}

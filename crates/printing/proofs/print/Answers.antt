@@ -1,5 +1,4 @@
 -- The lines of the indices from 0 to before 1,000 are all.
-use Rattle.std.proofs.Common.{rules}
 use Rattle.printing.proofs.Parts.{part_all}
 use Rattle.printing.proofs.print.Goals as goal
 

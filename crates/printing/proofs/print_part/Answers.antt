@@ -1,9 +1,8 @@
 -- Each turn writes line k, if it is one of the part, and brings the cursor to the line after it.
-use Rattle.std.proofs.Common.{◌≡◌, ℕ, suc, ◌<◌, List, ◌++◌, rules, arith, length, take, sym, ap, ◌∙◌, subst}
+use Rattle.std.proofs.Common.{ℕ, suc, ◌<◌, List, ◌++◌, rules, arith, sym, ap, ◌∙◌, subst}
 use Rattle.std.specs.Io.KnownBytes.{Appends}
 use Rattle.std.proofs.KnownBytes.{Appends-nil, Appends-trans}
 use Rattle.listing.proofs.Lines.{nearer}
-use Rattle.printing.specs.Part.{lent}
 use Rattle.printing.proofs.Parts.{before, before_first, before_next, not_past, line_lent, all_before}
 use Rattle.printing.proofs.print_part.Goals as goal
 

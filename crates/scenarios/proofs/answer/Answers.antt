@@ -1,5 +1,5 @@
 -- What was read decides the listing of all, and the listing of what was read is written.
-use Rattle.std.proofs.Common.{ℕ, List, ◌≤◌, ◌<◌, rules, arith, length, take, length-take-le}
+use Rattle.std.proofs.Common.{arith, take, length-take-le}
 use Rattle.std.specs.Io.KnownBytes.{Appends}
 use Rattle.std.proofs.lemmas.Result.{on_ok_weaker}
 use Rattle.scenarios.proofs.Enough.{decided}
