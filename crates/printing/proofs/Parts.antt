@@ -1,7 +1,7 @@
 -- The lines that are printed before line k, and after the last one the whole part.
 --   printed from to i k == line k of the listing for the input i, if it is printed
 --   before from to i k  == the lines that are printed before line k
-use Rattle.std.proofs.Common.{◌≡◌, ◌⊎◌, inl, inr, List, [], ◌∷◌, ◌++◌, ℕ, zero, suc, ◌≤◌, ◌<◌, length, take, refl, sym, ap, ap₂, ◌∙◌, arith, length-append, append_assoc}
+use Rattle.std.proofs.Common.{◌≡◌, ◌⊎◌, inl, inr, List, [], ◌∷◌, ◌++◌, ℕ, zero, suc, ◌≤◌, ◌<◌, length, take, refl, sym, ap, ap₂, ◌∙◌, arith, length-append, append_assoc, append-nil}
 use borrow.Author.Tests.{lt-ltb, le-ltb}
 use Rattle.lists.specs.Lists.{concat_map, range}
 use Rattle.lists.proofs.Blocks.{concat_map_snoc}
@@ -54,7 +54,7 @@ module _ (from to : ℕ) (input : List ℕ) where
   unfolding before range
   before_first = refl
 
-  pub before_next : (k : ℕ) → before (suc k) ≡ before k ++ lent from to k (line_at input k)
+  before_next : (k : ℕ) → before (suc k) ≡ before k ++ lent from to k (line_at input k)
   unfolding before
   before_next k = range_more printed k
 
@@ -73,6 +73,20 @@ module _ (from to : ℕ) (input : List ℕ) where
           ∙ append_assoc (head_line (answer input)) (concat_map line (range n)) (line n)
           ∙ ap (λ (l : List ℕ). head_line (answer input) ++ l) (sym (range_more line n))
 
+  same : (n k : ℕ) → k ≡ n → (rest : List ℕ) × (before n ≡ before k ++ rest)
+  same n k e = ([], sym (ap (λ (i : ℕ). before i ++ []) e ∙ append-nil (before n)))
+
+  -- the lines before line k begin those before a later one
+  begins : (n k : ℕ) → k ≤ n → (rest : List ℕ) × (before n ≡ before k ++ rest)
+  begins zero k le = same zero k (omega arith)
+  begins (suc n) k le = go (begins n k) (split k n)
+    where
+      go : (k ≤ n → (rest : List ℕ) × (before n ≡ before k ++ rest)) → (k ≤ n) ⊎ (n < k) → (rest : List ℕ) × (before (suc n) ≡ before k ++ rest)
+      go earlier (inl h) =
+          let rest = (earlier h).0 in
+          (rest ++ printed n, before_next n ∙ ap (λ (l : List ℕ). l ++ printed n) (earlier h).1 ∙ append_assoc (before k) rest (printed n))
+      go earlier (inr h) = same (suc n) k (omega arith)
+
   -- where a cursor stands
   module _ (k : ℕ) (c : Cursor) (cells table line : List ℕ) (s : StandsAt input k c cells table line) where
     pub not_past : 0 < c.length → k ≤ follow (answer input)
@@ -82,10 +96,19 @@ module _ (from to : ℕ) (input : List ℕ) where
         go (inl past) = omega (arith, s.told, ap length (lines_end input k past))
         go (inr lt) = omega arith
 
-    pub line_lent : 0 < c.length → lent from to c.index (take c.length line) ≡ lent from to k (line_at input k)
+    line_lent : 0 < c.length → lent from to c.index (take c.length line) ≡ lent from to k (line_at input k)
     line_lent some =
         let at : c.index ≡ k = omega (arith, s.comes_next, s.follows, not_past some) in
         ap (λ i. lent from to i (take c.length line)) at ∙ ap (lent from to k) s.written
+
+    -- the line is written, if it is one of the part, after those before it
+    pub line_next : 0 < c.length → before (suc k) ≡ before k ++ lent from to c.index (take c.length line)
+    line_next some = before_next k ∙ ap (λ (l : List ℕ). before k ++ l) (sym (line_lent some))
+
+    pub line_begins : 0 < c.length → (rest : List ℕ) × (part input from to ≡ (before k ++ lent from to c.index (take c.length line)) ++ rest)
+    line_begins some =
+        let later = begins (suc (follow (answer input))) (suc k) (omega (arith, not_past some)) in
+        (later.0, sym before_end ∙ later.1 ∙ ap (λ (l : List ℕ). l ++ later.0) (line_next some))
 
     pub all_before : k ≤ suc (follow (answer input)) → c.length ≡ 0 → before k ≡ part input from to
     all_before le none = go (split (suc (follow (answer input))) k)

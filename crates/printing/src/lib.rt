@@ -1,13 +1,30 @@
 // Writes the listing of an input, line by line: those of crate `listing`, one after the other, from the first to the end.
+// A call that fails has written a front of what it was to write.
 #![tactic(auto)]
 
-ghost use Rattle.std.specs.Prelude.{OnOk};
+ghost use Rattle.std.specs.Prelude.{OnOk, OnErr};
 ghost use Rattle.std.specs.Io.KnownBytes.{Appends};
 ghost use Rattle.listing.specs.Listing.{listing};
-ghost use Rattle.printing.specs.Part.{lent, part};
+ghost use Rattle.printing.specs.Part.{AppendsFront, lent, part};
 
 use std::io;
 use std::io::Write;
+
+// Writes all of `bytes`. A write that fails, or takes nothing, ends it.
+fn write_whole<W: Write>(out: &mut W, bytes: &[u8]) -> io::Result<()>
+    ensures ok { OnOk result (Appends (W.contents out.old) (W.contents out.new) bytes.now) }
+    ensures err { OnErr result (AppendsFront (W.contents out.old) (W.contents out.new) bytes.now) }
+{
+    let mut done = 0;
+    while done < bytes.len() {
+        let n = out.write(&bytes[done..])?;
+        if n == 0 {
+            return Err(io::Error::from(io::ErrorKind::WriteZero));
+        }
+        done += n;
+    }
+    Ok(())
+}
 
 // Writes a line: the first one, and of those that follow it, which are counted from 1, those past `from` and up to `to`.
 fn write_between<W: Write>(
@@ -17,7 +34,8 @@ fn write_between<W: Write>(
     from: u64,
     to: u64,
 ) -> io::Result<()>
-    ensures { OnOk result (Appends (W.contents out.old) (W.contents out.new) (lent from to count line.now)) }
+    ensures ok { OnOk result (Appends (W.contents out.old) (W.contents out.new) (lent from to count line.now)) }
+    ensures err { OnErr result (AppendsFront (W.contents out.old) (W.contents out.new) (lent from to count line.now)) }
 {
     if 0 < count {
         if count <= from {
@@ -27,12 +45,13 @@ fn write_between<W: Write>(
             return Ok(());
         }
     }
-    out.write_all(line)
+    write_whole(out, line)
 }
 
 // Prints the first line of the listing, and of the lines that follow it those from `from` to before `to`, counted from 0.
 pub fn print_part<W: Write>(out: &mut W, input: &[u8], from: u64, to: u64) -> io::Result<()>
-    ensures { OnOk result (Appends (W.contents out.old) (W.contents out.new) (part input.now from to)) }
+    ensures ok { OnOk result (Appends (W.contents out.old) (W.contents out.new) (part input.now from to)) }
+    ensures err { OnErr result (AppendsFront (W.contents out.old) (W.contents out.new) (part input.now from to)) }
 {
     let mut cells = [0u64; 8192];
     let mut table = [0u16; 16384];
@@ -50,7 +69,8 @@ pub fn print_part<W: Write>(out: &mut W, input: &[u8], from: u64, to: u64) -> io
 
 // Prints the whole listing.
 pub fn print<W: Write>(out: &mut W, input: &[u8]) -> io::Result<()>
-    ensures { OnOk result (Appends (W.contents out.old) (W.contents out.new) (listing input.now)) }
+    ensures ok { OnOk result (Appends (W.contents out.old) (W.contents out.new) (listing input.now)) }
+    ensures err { OnErr result (AppendsFront (W.contents out.old) (W.contents out.new) (listing input.now)) }
 {
     print_part(out, input, 0, 1000)
 }

@@ -1,9 +1,10 @@
 -- Each turn writes line k, if it is one of the part, and brings the cursor to the line after it.
-use Rattle.std.proofs.Common.{ℕ, suc, ◌<◌, List, ◌++◌, rules, arith, sym, ap, ◌∙◌, subst}
+use Rattle.std.proofs.Common.{suc, ◌<◌, rules, arith, sym, subst}
 use Rattle.std.specs.Io.KnownBytes.{Appends}
 use Rattle.std.proofs.KnownBytes.{Appends-nil, Appends-trans}
 use Rattle.listing.proofs.Lines.{nearer}
-use Rattle.printing.proofs.Parts.{before, before_first, before_next, not_past, line_lent, all_before}
+use Rattle.printing.proofs.Parts.{before_first, not_past, line_next, line_begins, all_before}
+use Rattle.printing.proofs.Fronts.{err_holds, front_after}
 use Rattle.printing.proofs.print_part.Goals as goal
 
 pub loop-cells-init : goal.loop-cells-init
@@ -11,8 +12,8 @@ loop-cells-init g c =
     let a = c.args in
     (search rules, (0, c.begin-cursor.ensures.stands_at, omega arith, subst (Appends _ _) (sym (before_first a.from a.to a.input.now)) (Appends-nil _)))
 
-pub returns-then-n-eq0 : goal.returns-then-n-eq0
-returns-then-n-eq0 g c =
+pub returns-then-n-eq0-clause-ok : goal.returns-then-n-eq0-clause-ok
+returns-then-n-eq0-clause-ok g c =
     let a = c.args in
     let lp = c.loop-cells in
     let at = lp.invariant.1 in
@@ -30,14 +31,20 @@ loop-cells-preserved g c =
     let a = c.args in
     let lp = c.loop-cells in
     let at = lp.invariant.1 in
-    let some : 0 < lp.cursor.length = omega (arith, c.if-n-eq0.false) in
-    let more = before_next a.from a.to a.input.now at.0
-    ∙ ap (λ (l : List ℕ). before a.from a.to a.input.now at.0 ++ l) (sym (line_lent a.from a.to a.input.now at.0 lp.cursor _ _ lp.line at.1 some)) in (
+    let some : 0 < lp.cursor.length = omega (arith, c.if-n-eq0.false) in (
       search rules,
       (
         suc at.0,
         c.next-cursor.ensures _ at.0 at.1,
         omega (arith, not_past a.from a.to a.input.now at.0 lp.cursor _ _ lp.line at.1 some),
-        subst (Appends _ _) (sym more) (Appends-trans _ _ _ _ _ at.3 c.in_ok-write_between.ensures),
+        subst (Appends _ _) (sym (line_next a.from a.to a.input.now at.0 lp.cursor _ _ lp.line at.1 some)) (Appends-trans _ _ _ _ _ at.3 c.in_ok-write_between.ensures.ok),
       ),
     )
+
+pub returns-in_err-write_between-clause-err : goal.returns-in_err-write_between-clause-err
+returns-in_err-write_between-clause-err g c =
+    let a = c.args in
+    let lp = c.loop-cells in
+    let at = lp.invariant.1 in
+    let line = line_begins a.from a.to a.input.now at.0 lp.cursor _ _ lp.line at.1 (omega (arith, c.if-n-eq0.false)) in
+    err_holds c.from_residual.result (front_after _ _ _ _ _ line.0 _ line.1 at.3 c.in_err-write_between.ensures.err)
