@@ -1,23 +1,58 @@
-// Writes the listing of an input to standard output. No contract can say which bytes a write of the system takes: those lent to it are the
-// lines of crate `listing`, one after the other, from the first to the end.
+// Writes the listing of an input, line by line: those of crate `listing`, one after the other, from the first to the end.
+// A call that fails has written a front of what it was to write.
 #![tactic(auto)]
-use libc::STDOUT_FILENO;
 
-// Lends a line to the system: the first one, and of those that follow it, which are counted from 1, those past `from` and up to `to`.
-fn write_between(line: &[u8], count: u64, from: u64, to: u64) {
+ghost use Rattle.std.specs.Prelude.{OnOk, OnErr};
+ghost use Rattle.std.specs.Io.KnownBytes.{Appends};
+ghost use Rattle.listing.specs.Listing.{listing};
+ghost use Rattle.printing.specs.Part.{AppendsFront, lent, part};
+
+use std::io;
+use std::io::Write;
+
+// Writes all of `bytes`. A write that fails, or takes nothing, ends it.
+fn write_whole<W: Write>(out: &mut W, bytes: &[u8]) -> io::Result<()>
+    ensures ok { OnOk result (Appends (W.contents out.old) (W.contents out.new) bytes.now) }
+    ensures err { OnErr result (AppendsFront (W.contents out.old) (W.contents out.new) bytes.now) }
+{
+    let mut done = 0;
+    while done < bytes.len() {
+        let n = out.write(&bytes[done..])?;
+        if n == 0 {
+            return Err(io::Error::from(io::ErrorKind::WriteZero));
+        }
+        done += n;
+    }
+    Ok(())
+}
+
+// Writes a line: the first one, and of those that follow it, which are counted from 1, those past `from` and up to `to`.
+fn write_between<W: Write>(
+    out: &mut W,
+    line: &[u8],
+    count: u64,
+    from: u64,
+    to: u64,
+) -> io::Result<()>
+    ensures ok { OnOk result (Appends (W.contents out.old) (W.contents out.new) (lent from to count line.now)) }
+    ensures err { OnErr result (AppendsFront (W.contents out.old) (W.contents out.new) (lent from to count line.now)) }
+{
     if 0 < count {
         if count <= from {
-            return;
+            return Ok(());
         }
         if to < count {
-            return;
+            return Ok(());
         }
     }
-    io::write_all(STDOUT_FILENO, line);
+    write_whole(out, line)
 }
 
 // Prints the first line of the listing, and of the lines that follow it those from `from` to before `to`, counted from 0.
-pub fn print_part(input: &[u8], from: u64, to: u64) {
+pub fn print_part<W: Write>(out: &mut W, input: &[u8], from: u64, to: u64) -> io::Result<()>
+    ensures ok { OnOk result (Appends (W.contents out.old) (W.contents out.new) (part input.now from to)) }
+    ensures err { OnErr result (AppendsFront (W.contents out.old) (W.contents out.new) (part input.now from to)) }
+{
     let mut cells = [0u64; 8192];
     let mut table = [0u16; 16384];
     let mut line = [0u8; 4096];
@@ -25,14 +60,17 @@ pub fn print_part(input: &[u8], from: u64, to: u64) {
     loop {
         let n = cursor.length;
         if n == 0 {
-            return;
+            return Ok(());
         }
-        write_between(&line[..n], cursor.index, from, to);
+        write_between(out, &line[..n], cursor.index, from, to)?;
         cursor = listing::next(cursor, &cells, &table, &mut line);
     }
 }
 
 // Prints the whole listing.
-pub fn print(input: &[u8]) {
-    print_part(input, 0, 1000);
+pub fn print<W: Write>(out: &mut W, input: &[u8]) -> io::Result<()>
+    ensures ok { OnOk result (Appends (W.contents out.old) (W.contents out.new) (listing input.now)) }
+    ensures err { OnErr result (AppendsFront (W.contents out.old) (W.contents out.new) (listing input.now)) }
+{
+    print_part(out, input, 0, 1000)
 }

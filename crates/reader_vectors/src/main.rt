@@ -2,23 +2,24 @@
 // marked, `stop` and their number; or `no`, the number and the place.
 // The texts of standard input each have a name up to a line end before them and byte 28 after them; those at the limit of 65,535 bytes are made here.
 #![tactic(auto)]
+
 ghost use Rattle.std.specs.Prelude.{◌≤◌, length};
 
-use libc::{STDIN_FILENO, STDOUT_FILENO};
 use reader::Verdict;
 use rig::Rig;
+use std::io;
 
-fn say(bytes: &[u8]) {
-    io::write_all(STDOUT_FILENO, bytes);
+fn say(rt: &impl Print, bytes: &[u8]) -> io::Result<()> {
+    rt.write_all(bytes)
 }
 
-fn say_number(n: u64) {
-    say(b"\t");
-    io::print_decimal(STDOUT_FILENO, n);
+fn say_number(rt: &impl Print, n: u64) -> io::Result<()> {
+    say(rt, b"\t")?;
+    rt.print(n)
 }
 
-fn say_byte(byte: u8) {
-    say_number(byte as u64);
+fn say_byte(rt: &impl Print, byte: u8) -> io::Result<()> {
+    say_number(rt, byte as u64)
 }
 
 // 1 where the entry at place i is another than `none` and among the first `width` of its sixteen, else 0.
@@ -40,49 +41,50 @@ fn entries_in(table: &[u8], none: u8, width: usize) -> u64 {
     n
 }
 
-fn say_marks(marks: u64) {
+fn say_marks(rt: &impl Print, marks: u64) -> io::Result<()> {
     if marks > 0 {
-        say(b"\tstop");
-        say_number(marks);
+        say(rt, b"\tstop")?;
+        say_number(rt, marks)?;
     }
+    Ok(())
 }
 
-fn say_record(r: Rig) {
-    say(b"\tread");
-    say_number(r.events as u64);
+fn say_record(rt: &impl Print, r: Rig) -> io::Result<()> {
+    say(rt, b"\tread")?;
+    say_number(rt, r.events as u64)?;
     let order = r.order;
     for i in 0..16 {
         if i < r.events {
-            say_byte(order[i]);
+            say_byte(rt, order[i])?;
         }
     }
-    say_number(entries_in(&r.moves, 255, r.events));
+    say_number(rt, entries_in(&r.moves, 255, r.events))?;
     let counts = r.counts;
     let starts = r.starts;
     for m in 0..4 {
         if m < r.monitors {
-            say_byte(counts[m]);
-            say_byte(starts[m]);
+            say_byte(rt, counts[m])?;
+            say_byte(rt, starts[m])?;
         }
     }
-    say_marks(entries_in(&r.stops, 0, 16));
+    say_marks(rt, entries_in(&r.stops, 0, 16))
 }
 
-fn show(name: &[u8], text: &[u8]) {
-    say(name);
+fn show(rt: &impl Print, name: &[u8], text: &[u8]) -> io::Result<()> {
+    say(rt, name)?;
     let r = reader::read(text);
     let v = r.verdict;
     match v {
         Verdict::Readable => {
-            say_record(r.rig);
+            say_record(rt, r.rig)?;
         }
         Verdict::Refused(number, place) => {
-            say(b"\tno");
-            say_number(number);
-            say_number(place);
+            say(rt, b"\tno")?;
+            say_number(rt, number)?;
+            say_number(rt, place)?;
         }
     }
-    say(b"\n");
+    say(rt, b"\n")
 }
 
 // How many bytes stand before byte b.
@@ -93,48 +95,50 @@ fn before(s: &[u8], b: u8) -> usize
 }
 
 // A stored text: its name, a line end, its bytes.
-fn show_stored(stored: &[u8]) {
+fn show_stored(rt: &impl Print, stored: &[u8]) -> io::Result<()> {
     let end = before(stored, b'\n');
     if end < stored.len() {
         let start = end + 1;
-        show(&stored[..end], &stored[start..]);
+        show(rt, &stored[..end], &stored[start..])?;
     }
+    Ok(())
 }
 
-fn show_all(stored: &[u8]) {
+fn show_all(rt: &impl Print, stored: &[u8]) -> io::Result<()> {
     let mut at = 0;
     while at < stored.len() {
         let rest = &stored[at..];
         let end = before(rest, 28);
-        show_stored(&rest[..end]);
+        show_stored(rt, &rest[..end])?;
         at += end + 1;
     }
+    Ok(())
 }
 
 // Texts of line ends, at the limit of 65,535 bytes and past it.
-fn line_ends() {
+fn line_ends(rt: &impl Print) -> io::Result<()> {
     let most = [b'\n'; 65535];
-    show(b"65,535 line ends", &most);
+    show(rt, b"65,535 line ends", &most)?;
     let over = [b'\n'; 65536];
-    show(b"65,536 line ends", &over);
+    show(rt, b"65,536 line ends", &over)
 }
 
 // A line of 65,534 bytes, ended, and with one byte more, and not ended.
-fn long_line() {
+fn long_line(rt: &impl Print) -> io::Result<()> {
     let mut ended = [b'x'; 65535];
     ended[65534] = b'\n';
-    show(b"one line of 65,534 bytes", &ended);
+    show(rt, b"one line of 65,534 bytes", &ended)?;
     let mut over = [b'x'; 65536];
     over[65534] = b'\n';
-    show(b"one line of 65,534 bytes, and one byte", &over);
+    show(rt, b"one line of 65,534 bytes, and one byte", &over)?;
     let unended = [b'x'; 65534];
-    show(b"65,534 bytes unended", &unended);
+    show(rt, b"65,534 bytes unended", &unended)
 }
 
-fn main() {
-    let mut stored = io::large_buffer();
-    let n = io::read_full(STDIN_FILENO, &mut stored);
-    show_all(&stored[..n]);
-    line_ends();
-    long_line();
+fn main(rt: HostRuntime) -> io::Result<()> {
+    let mut stored = [0u8; 65536];
+    let n = input::read_full(&mut rt.stdin(), &mut stored)?;
+    show_all(&rt, &stored[..n])?;
+    line_ends(&rt)?;
+    long_line(&rt)
 }

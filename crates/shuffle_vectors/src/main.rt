@@ -1,13 +1,15 @@
 // Runs the shuffle on small lists of draws and on lists of 1,000, and writes what it answers and leaves; then the published vectors of SplitMix64 as
 // the code makes them, and what the draws call answers and leaves. Scratch begins with 7 everywhere and output with 9, so that what is kept shows.
 #![tactic(auto)]
-use shuffle::Answered;
 
-fn main() {
+use shuffle::Answered;
+use std::io;
+
+fn main(rt: HostRuntime) -> io::Result<()> {
     let again = [4u64, 4, 4];
-    run(5, &again, 8, 4);
+    run(&rt, 5, &again, 8, 4)?;
     let none = [0u64; 0];
-    run(0, &none, 1, 1);
+    run(&rt, 0, &none, 1, 1)?;
     let ends = [
         18446744073709551614u64,
         1,
@@ -15,206 +17,249 @@ fn main() {
         18446744073709551613,
         4,
     ];
-    run(18446744073709551615, &ends, 12, 7);
+    run(&rt, 18446744073709551615, &ends, 12, 7)?;
     let equal = [18446744073709551614u64; 8];
-    run(18446744073709551615, &equal, 16, 8);
+    run(&rt, 18446744073709551615, &equal, 16, 8)?;
     let near = [100u64, 101, 100, 102, 101, 100, 7, 7];
-    run(1000, &near, 17, 9);
-    refusals();
-    full_shuffle();
-    thousand_clustered();
-    raws(1234567);
-    seeds();
+    run(&rt, 1000, &near, 17, 9)?;
+    refusals(&rt)?;
+    full_shuffle(&rt)?;
+    thousand_clustered(&rt)?;
+    raws(&rt, 1234567)?;
+    seeds(&rt)
 }
 
 // Calls that are refused.
-fn refusals() {
+fn refusals(rt: &impl Print) -> io::Result<()> {
     let more = [1u64, 1, 2];
-    run(2, &more, 6, 3);
+    run(rt, 2, &more, 6, 3)?;
     let low = [0u64, 0];
-    run(2, &low, 4, 2);
+    run(rt, 2, &low, 4, 2)?;
     let high = [3u64, 18446744073709551615];
-    run(18446744073709551615, &high, 4, 2);
+    run(rt, 18446744073709551615, &high, 4, 2)?;
     let bad = [9u64, 9, 9];
-    run(5, &bad, 5, 2);
-    run(5, &bad, 6, 2);
+    run(rt, 5, &bad, 5, 2)?;
+    run(rt, 5, &bad, 6, 2)
 }
 
 // Draws from a seed: served, and refused.
-fn seeds() {
-    draw(5, 5, 1234567, 1, 6);
-    draw(1, 1, 0, 1, 1);
-    draw(0, 0, 0, 0, 1);
-    draw(18446744073709551615, 4, 1234567, 255, 5);
-    draw(9223372036854775816, 4, 3, 3, 4);
-    draw(9223372036854775816, 4, 3, 2, 4);
-    draw(9223372036854775816, 4, 3, 1, 4);
-    draw(5, 5, 1234567, 0, 6);
-    draw(5, 0, 1234567, 0, 6);
-    draw(4, 5, 1234567, 0, 5);
-    draw(4, 5, 1234567, 0, 4);
+fn seeds(rt: &impl Print) -> io::Result<()> {
+    draw(rt, 5, 5, 1234567, 1, 6)?;
+    draw(rt, 1, 1, 0, 1, 1)?;
+    draw(rt, 0, 0, 0, 0, 1)?;
+    draw(rt, 18446744073709551615, 4, 1234567, 255, 5)?;
+    draw(rt, 9223372036854775816, 4, 3, 3, 4)?;
+    draw(rt, 9223372036854775816, 4, 3, 2, 4)?;
+    draw(rt, 9223372036854775816, 4, 3, 1, 4)?;
+    draw(rt, 5, 5, 1234567, 0, 6)?;
+    draw(rt, 5, 0, 1234567, 0, 6)?;
+    draw(rt, 4, 5, 1234567, 0, 5)?;
+    draw(rt, 4, 5, 1234567, 0, 4)
 }
 
 // One case, with as much scratch and output as is said: at most 24 and 12 numbers.
-fn run(n: u64, draws: &[u64], scratch_len: usize, out_len: usize) {
+fn run(
+    rt: &impl Print,
+    n: u64,
+    draws: &[u64],
+    scratch_len: usize,
+    out_len: usize,
+) -> io::Result<()> {
     let mut scratch = [7u64; 24];
     let mut out = [9u64; 12];
     if scratch_len <= 24 {
         if out_len <= 12 {
-            show(n, draws, &mut scratch[..scratch_len], &mut out[..out_len]);
+            show(
+                rt,
+                n,
+                draws,
+                &mut scratch[..scratch_len],
+                &mut out[..out_len],
+            )?;
         }
     }
+    Ok(())
 }
 
 // The first five raw numbers of a seed.
-fn raws(seed: u64) {
-    io::write_all(1, b"seed");
-    number(seed);
-    io::write_all(1, b" raw");
-    let first = raw(seed);
-    let second = raw(first);
-    let third = raw(second);
-    let fourth = raw(third);
-    raw(fourth);
-    io::write_all(1, b"\n");
+fn raws(rt: &impl Print, seed: u64) -> io::Result<()> {
+    rt.write_all(b"seed")?;
+    number(rt, seed)?;
+    rt.write_all(b" raw")?;
+    let first = raw(rt, seed)?;
+    let second = raw(rt, first)?;
+    let third = raw(rt, second)?;
+    let fourth = raw(rt, third)?;
+    raw(rt, fourth)?;
+    rt.write_all(b"\n")
 }
 
 // Writes the raw number that follows a state; gives back the state after it.
-fn raw(s: u64) -> u64 {
+fn raw(rt: &impl Print, s: u64) -> io::Result<u64> {
     let next = splitmix::next_state(s);
-    number(splitmix::mix(next));
-    next
+    number(rt, splitmix::mix(next))?;
+    Ok(next)
 }
 
 // One call for draws, with as much output as is said: at most 12 numbers.
-fn draw(n: u64, z: u64, seed: u64, limit: u8, out_len: usize) {
+fn draw(rt: &impl Print, n: u64, z: u64, seed: u64, limit: u8, out_len: usize) -> io::Result<()> {
     let mut out = [9u64; 12];
     if out_len <= 12 {
-        show_draws(n, z, seed, limit, &mut out[..out_len]);
+        show_draws(rt, n, z, seed, limit, &mut out[..out_len])?;
     }
+    Ok(())
 }
 
 // The buffers of a full shuffle of 1,000.
-fn full_shuffle() {
+fn full_shuffle(rt: &impl Print) -> io::Result<()> {
     let mut draws = [0u64; 1000];
     let mut scratch = [7u64; 2003];
     let mut out = [9u64; 1000];
     let mut inverse = [0u64; 1000];
-    full(&mut draws, &mut scratch, &mut out, &mut inverse);
+    full(rt, &mut draws, &mut scratch, &mut out, &mut inverse)
 }
 
 // The buffers of 1,000 clustered draws.
-fn thousand_clustered() {
+fn thousand_clustered(rt: &impl Print) -> io::Result<()> {
     let mut draws = [0u64; 1000];
     let mut scratch = [7u64; 2003];
     let mut out = [9u64; 1000];
-    clustered(&mut draws, &mut scratch, &mut out);
+    clustered(rt, &mut draws, &mut scratch, &mut out)
 }
 
 // A shuffle of as many numbers as there are draws; then how many outputs its inverse takes back, and how many are those that tracing back
 // gives.
-fn full(draws: &mut [u64], scratch: &mut [u64], out: &mut [u64], inverse: &mut [u64]) {
-    io::write_all(1, b"full");
+fn full(
+    rt: &impl Print,
+    draws: &mut [u64],
+    scratch: &mut [u64],
+    out: &mut [u64],
+    inverse: &mut [u64],
+) -> io::Result<()> {
+    rt.write_all(b"full")?;
     spread_draws(draws);
     answer(
+        rt,
         shuffle::shuffle(draws.len() as u64, draws, scratch, out),
         draws,
         scratch,
-    );
-    judge(draws, out, inverse);
+    )?;
+    judge(rt, draws, out, inverse)
 }
 
 // How many outputs the inverse takes back, and how many are right.
-fn judge(draws: &[u64], out: &[u64], inverse: &mut [u64]) {
+fn judge(rt: &impl Print, draws: &[u64], out: &[u64], inverse: &mut [u64]) -> io::Result<()> {
     invert(out, inverse);
-    number(inverted(out, inverse));
-    number(right(draws, out));
-    io::write_all(1, b"\n");
+    number(rt, inverted(out, inverse))?;
+    number(rt, right(draws, out))?;
+    rt.write_all(b"\n")
 }
 
 // Draws out of 2^64 - 1 numbers that all fall on fifty places at the end; then how many outputs are those that tracing back gives.
-fn clustered(draws: &mut [u64], scratch: &mut [u64], out: &mut [u64]) {
-    io::write_all(1, b"clustered");
+fn clustered(
+    rt: &impl Print,
+    draws: &mut [u64],
+    scratch: &mut [u64],
+    out: &mut [u64],
+) -> io::Result<()> {
+    rt.write_all(b"clustered")?;
     cluster_draws(draws);
     answer(
+        rt,
         shuffle::shuffle(18446744073709551615, draws, scratch, out),
         draws,
         scratch,
-    );
-    number(right(draws, out));
-    io::write_all(1, b"\n");
+    )?;
+    number(rt, right(draws, out))?;
+    rt.write_all(b"\n")
 }
 
 // The call, the answer, how much scratch is kept, and the whole output afterwards.
-fn show(n: u64, draws: &[u64], scratch: &mut [u64], out: &mut [u64]) {
-    io::write_all(1, b"n");
-    number(n);
-    io::write_all(1, b" draws");
-    list(draws);
-    answer(shuffle::shuffle(n, draws, scratch, out), draws, scratch);
-    io::write_all(1, b" output");
-    list(out);
-    io::write_all(1, b"\n");
+fn show(
+    rt: &impl Print,
+    n: u64,
+    draws: &[u64],
+    scratch: &mut [u64],
+    out: &mut [u64],
+) -> io::Result<()> {
+    rt.write_all(b"n")?;
+    number(rt, n)?;
+    rt.write_all(b" draws")?;
+    list(rt, draws)?;
+    answer(rt, shuffle::shuffle(n, draws, scratch, out), draws, scratch)?;
+    rt.write_all(b" output")?;
+    list(rt, out)?;
+    rt.write_all(b"\n")
 }
 
 // The call for draws, the answer, and the whole output afterwards.
-fn show_draws(n: u64, z: u64, seed: u64, limit: u8, out: &mut [u64]) {
-    io::write_all(1, b"n");
-    number(n);
-    io::write_all(1, b" z");
-    number(z);
-    io::write_all(1, b" seed");
-    number(seed);
-    io::write_all(1, b" limit");
-    number(limit as u64);
-    outcome(draws::draws(n, z, seed, limit, out));
-    io::write_all(1, b" output");
-    list(out);
-    io::write_all(1, b"\n");
+fn show_draws(
+    rt: &impl Print,
+    n: u64,
+    z: u64,
+    seed: u64,
+    limit: u8,
+    out: &mut [u64],
+) -> io::Result<()> {
+    rt.write_all(b"n")?;
+    number(rt, n)?;
+    rt.write_all(b" z")?;
+    number(rt, z)?;
+    rt.write_all(b" seed")?;
+    number(rt, seed)?;
+    rt.write_all(b" limit")?;
+    number(rt, limit as u64)?;
+    outcome(rt, draws::draws(n, z, seed, limit, out))?;
+    rt.write_all(b" output")?;
+    list(rt, out)?;
+    rt.write_all(b"\n")
 }
 
 // The answer.
-fn outcome(r: Answered) {
+fn outcome(rt: &impl Print, r: Answered) -> io::Result<()> {
     match r {
         Answered::Served => {
-            io::write_all(1, b" served");
+            rt.write_all(b" served")?;
         }
         Answered::Refused(refusal, place) => {
-            io::write_all(1, b" no");
-            number(refusal);
-            number(place);
+            rt.write_all(b" no")?;
+            number(rt, refusal)?;
+            number(rt, place)?;
         }
     }
+    Ok(())
 }
 
 // The answer, and how many scratch numbers still are 7: all of them after a refusal, else those past twice the draws.
-fn answer(r: Answered, draws: &[u64], scratch: &[u64]) {
+fn answer(rt: &impl Print, r: Answered, draws: &[u64], scratch: &[u64]) -> io::Result<()> {
     match r {
         Answered::Served => {
-            io::write_all(1, b" served kept");
-            number(sevens(scratch, 2 * draws.len()));
+            rt.write_all(b" served kept")?;
+            number(rt, sevens(scratch, 2 * draws.len()))?;
         }
         Answered::Refused(refusal, place) => {
-            io::write_all(1, b" no");
-            number(refusal);
-            number(place);
-            io::write_all(1, b" kept");
-            number(sevens(scratch, 0));
+            rt.write_all(b" no")?;
+            number(rt, refusal)?;
+            number(rt, place)?;
+            rt.write_all(b" kept")?;
+            number(rt, sevens(scratch, 0))?;
         }
     }
+    Ok(())
 }
 
 // Each number after a blank.
-fn list(s: &[u64]) {
+fn list(rt: &impl Print, s: &[u64]) -> io::Result<()> {
     for i in 0..s.len() {
-        number(s[i]);
+        number(rt, s[i])?;
     }
+    Ok(())
 }
 
 // A number after a blank.
-fn number(x: u64) {
-    io::write_all(1, b" ");
-    io::print_decimal(1, x);
+fn number(rt: &impl Print, x: u64) -> io::Result<()> {
+    rt.write_all(b" ")?;
+    rt.print(x)
 }
 
 // How many of the scratch numbers from `start` on are 7.

@@ -1,0 +1,2 @@
+-- What a reader has given.
+pub mod Fronts

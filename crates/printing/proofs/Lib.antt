@@ -1,0 +1,3 @@
+-- The laws of the crate.
+pub mod Fronts
+pub mod Parts

@@ -1,0 +1,2 @@
+-- The part of a listing that is printed.
+pub mod Part
