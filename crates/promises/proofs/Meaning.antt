@@ -124,6 +124,9 @@ module _ (E : ℕ) (es : List ℕ) where
   placed_fits (m ∷ ms) [] j = absurd j
   placed_fits (m ∷ ms) (x ∷ xs) j = (refl, j.0, placed_fits ms xs j.1)
 
+  standing_fits : (ms : List Monitor) → ((m : Monitor) → In m ms → Kept E m) → Fit es (standing es ms)
+  standing_fits ms k = rw (standing-placed es ms) (placed_fits ms (starts_of ms) (starts_joint ms k))
+
   idle_admits : (w : List ℕ) → automaton.Admits (idle es) 0 w ↔ Over es w
   unfolding idle Steps
   idle_admits w = let (to, from) = says_admits (idle es) (λ s w. Unit {0}) (λ s u w h. (λ p. (omega arith, tt), λ p. tt)) (λ s h. tt) 0 w (omega arith) in (λ a. (to a).0, λ o. from (o, tt))
@@ -300,6 +303,13 @@ module _ (t : List ℕ) (r : Readable t) where
   -- from the start
   pub text_admits : (v : List ℕ) → AllAdmit t v ↔ automaton.Admits (rig_automaton t) (start t) v
   text_admits v = rw start_number (Iff.trans (start_admits t v) (from_admits _ starting v))
+
+  -- which leads each to a marked state exactly when it leads the joint automaton to a state that may stop
+  pub text_stops : (v : List ℕ) → automaton.Admits (rig_automaton t) (start t) v → AllMayStop t v ↔ ((rig_automaton t).stop (walk (rig_automaton t) (start t) v) ≡ true)
+  unfolding AllMayStop AllMayStopFrom
+  text_stops v a =
+      let (to, from) = every_start MayStop (monitors (decoded t)) v in
+      rw start_number (Iff.trans (from, to) (from_stops (starts_of (monitors (decoded t))) starting v (rw start_number at a)))
 
   pub text_carried : (v : List ℕ) (k : ℕ) → CarriedOn t v k ↔ automaton.CarriedOn (rig_automaton t) k (start t) v
   text_carried v k = rw start_number (Iff.trans (start_carried t v k) (from_carried _ starting v k))
