@@ -15,7 +15,7 @@
 --   index_of l x     == where x first stands in l, from 0
 --   first_of f l     == what f finds in the first element of l in which it finds something
 --   is_some o        == something was found
--- Membership `In` is the library's List-as-Memᴰ, indexing its getD. Assumes nothing.
+-- Membership `In` is the library's `Memᴰ`. Assumes nothing.
 use Rattle.std.specs.Prelude.{◌↔◌, ◌≢◌, Bool, true, false, ◌||◌, ℕ, zero, suc, ◌+◌, ◌<◌, set, eqb}
 use mathlib.Core.List.{List, [], ◌∷◌, ◌++◌, Memᴰ as In}
 use Rattle.std.proofs.Math.Option.{Option, none as nothing, some, or_else}

@@ -144,7 +144,7 @@ pub record Values : Type 0 where
   pub one_state_none : count one_state 0 (lent 1) ≡ refused 9 0
   pub B_admitted : admitted (rig_automaton B) 1 (start B) ≡ 2
   pub B_within : passes_within (rig_automaton B) ≡ 2
-  -- full-cell: state 0 goes on to itself by one event, state 1 by both; 2 is no state
+  -- full_cell: state 0 goes on to itself by one event, state 1 by both; 2 is no state
   pub full_served : count full_cell 0 (lent 2) ≡ served (1 ∷ 1 ∷ [])
   pub full_states : (rig_automaton full_cell).states ≡ 2
   pub full_start : start full_cell ≡ 0
