@@ -1,0 +1,2 @@
+-- The papers' number and place of each refusal.
+pub mod Numbers
