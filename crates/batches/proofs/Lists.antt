@@ -1,12 +1,11 @@
 -- A batch of scenarios, from its first event to its last, and batches one after the other. Assumes nothing.
 use mathlib.Core.Path.{◌≡◌, refl, sym, ap, ◌∙◌}
-use mathlib.Core.Logic.{◌⊎◌, inl, inr}
 use mathlib.Core.List.{List, [], ◌++◌, append-nil, append_assoc}
 use Prim.Native.Nat.{ℕ, ◌+◌, ◌-◌, ◌*◌, ◌≤◌, ◌<◌}
 use native.Mathlib.Omega.{arith}
-use native.Mathlib.Nat.{add-mul, mul-le-mul_right, eq-or-lt_of_le}
-use lib.ListN.{length, get_or, take, drop, set, length-take, length-drop, take-append-drop, drop_of_length-le}
-use lib.Seq.{take-add, take_at, drop_at, drop-drop, ext_get_or, get_or-take, get_or-drop, get_or-set_same, get_or-set_other}
+use native.Mathlib.Nat.{add-mul, mul-le-mul_right}
+use lib.ListN.{length, get_or, take, drop, length-take, length-drop, take-append-drop, drop_of_length-le}
+use lib.Seq.{take-add, take_at, drop_at, drop-drop, ext_get_or, get_or-take, get_or-drop}
 use Rattle.lists.specs.Lists.{concat_map}
 use Rattle.lists.proofs.Blocks.{concat_map-append, blocks_are}
 use Rattle.automaton.specs.Automaton.{Automaton}
@@ -15,27 +14,25 @@ use Rattle.automaton.specs.Ranking.{unrank}
 use Rattle.ranking.specs.Ranks.{IndicesBelow, with_scenarios}
 use Rattle.ranking.proofs.Walk.{length-unrank, length_concat_map_sized}
 use Rattle.keeping.specs.Keeping.{Past}
-use Rattle.batches.specs.Batches.{AllBegun, Copied}
+use Rattle.batches.specs.declared.Standing.{Standing}
+use Rattle.batches.specs.Batches.{AllBegun, StatesBelow, Copied}
 use Rattle.keeping.proofs.Places.{place_below}
 
--- one index more is copied
-pub copied_more : (is left : List ℕ) (k : ℕ) → k < length left → ((j : ℕ) → j < k → get_or left j 0 ≡ get_or is j 0) → (j : ℕ) → j < k + 1 → get_or (set left k (get_or is k 0)) j 0 ≡ get_or is j 0
-copied_more is left k lt so_far j l = go (eq-or-lt_of_le {n = j} {m = k} (omega arith))
-  where
-    go : (j ≡ k) ⊎ (j < k) → get_or (set left k (get_or is k 0)) j 0 ≡ get_or is j 0
-    go (inl e) = rw e (get_or-set_same left k (get_or is k 0) 0 lt)
-    go (inr h) = get_or-set_other left k j (get_or is k 0) 0 (λ e. omega arith) ∙ so_far j h
+-- each state is x at first
+pub states_first : (p x : ℕ) (is : List ℕ) (standings : List Standing) → length standings ≡ length is → x < p → Copied x is standings → StatesBelow p standings
+unfolding StatesBelow Copied
+states_first p x is standings long lt copied k l = let at = copied k (omega arith) in rw at lt
 
 module _ (A : Automaton) (x h : ℕ) (is : List ℕ) (below : IndicesBelow (N A h x) is) where
   -- nothing is written, and each scenario is left whole
-  pub begun_none : (states left out : List ℕ) → N A h x < most → ((k : ℕ) → k < length is → get_or states k 0 ≡ x) → Copied is left → AllBegun A x h is (h - h) h states left out
+  pub begun_none : (standings : List Standing) (out : List ℕ) → N A h x < most → Copied x is standings → AllBegun A x h is (h - h) h standings out
   unfolding AllBegun Copied IndicesBelow
-  begun_none states left out few here copied k lt =
+  begun_none standings out few copied k lt =
       let z : h - h ≡ 0 = omega arith in
-      rw (here k lt, copied k lt, z) (record { not_cut_off = few; is_below = below k lt; written = λ j l. absurd (omega arith); rest = refl })
+      rw (copied k lt, z) (record { not_cut_off = few; is_below = below k lt; written = λ j l. absurd (omega arith); rest = refl })
 
   -- each scenario is written whole, in its own h bytes
-  module _ (states left out after : List ℕ) (all : AllBegun A x h is (h - 0) 0 states left after) (past : Past (length is * h) out after)
+  module _ (standings : List Standing) (out after : List ℕ) (all : AllBegun A x h is (h - 0) 0 standings after) (past : Past (length is * h) out after)
       (long : length after ≡ length out) (fits : length is * h ≤ length out) where
     block : (k : ℕ) → k < length is → take h (drop (k * h) after) ≡ unrank A h x (get_or is k 0)
     unfolding AllBegun IndicesBelow
@@ -54,6 +51,9 @@ module _ (A : Automaton) (x h : ℕ) (is : List ℕ) (below : IndicesBelow (N A 
         (λ j l. get_or-drop (length is * h) after j 0 ∙ past (length is * h + j) (omega arith) ∙ sym (get_or-drop (length is * h) out j 0)))
 
 -- ---- batches one after the other
+
+pub part_times : (n to h : ℕ) → n ≤ to → (to - n) * h ≡ to * h - n * h
+part_times n to h le = let e : n + (to - n) ≡ to = omega arith in omega (arith, add-mul n (to - n) h, ap (λ (k : ℕ). k * h) e)
 
 module _ (A : Automaton) (x h : ℕ) (is : List ℕ) (below : IndicesBelow (N A h x) is) where
   part_below : (n m : ℕ) → n + m ≤ length is → IndicesBelow (N A h x) (take m (drop n is))
@@ -89,7 +89,7 @@ module _ (A : Automaton) (x h : ℕ) (is : List ℕ) (below : IndicesBelow (N A 
         let w : take (n * h) out ≡ concat_map f (take n is) = ap (take (n * h)) now ∙ take_at (concat_map f (take n is)) (drop (n * h) d) (n * h) len in
         let r : drop (n * h) out ≡ drop (n * h) d = ap (drop (n * h)) now ∙ drop_at (concat_map f (take n is)) (drop (n * h) d) (n * h) len in
         let order : n * h ≤ to * h = mul-le-mul_right h le in
-        let sub : (to - n) * h ≡ to * h - n * h = omega (arith, add-mul n (to - n) h, ap (λ (k : ℕ). k * h) (split_to)) in
+        let sub = part_times n to h le in
         let none : drop (length part * h) (take (to * h - n * h) (drop (n * h) out)) ≡ [] =
         drop_of_length-le (take (to * h - n * h) (drop (n * h) out)) {i = length part * h} (rw (part_long, sub, length-take) (omega arith)) in
         let past : n * h + (to * h - n * h) ≡ to * h = omega arith in

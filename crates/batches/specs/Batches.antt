@@ -1,9 +1,10 @@
 -- Scenarios that are written part by part.
---   StatesBelow p m states       == each of the m states is below p
+--   nowhere                      == where a scenario stands that is none of them
+--   StatesBelow p standings      == each scenario's state is below p
 --   AllBegun A x h is at b ..    == every scenario of a list of indices is begun, each in its h bytes
 --   PartsBy                      == n events more of each scenario are written, and nothing past them
 --   BlockBy                      == each scenario is written until 16 × q events are left, and every sixteenth row is still kept
---   Copied is left               == the numbers at the front are the indices
+--   Copied x is standings        == each scenario stands at x with its whole index
 --   Listed A p x h is ..         == the scenarios of the indices are written, and every sixteenth row is still kept
 --   BatchBy                      == the same, whatever automaton the table and the rows are those of
 -- What a buffer holds afterwards has its name with a prime. Assumes nothing.
@@ -13,26 +14,30 @@ use Rattle.automaton.specs.Counting.{N, most}
 use Rattle.counting.specs.Tabled.{Tabled}
 use Rattle.ranking.specs.Ranks.{HoldsRows, Begun, IndicesBelow, with_scenarios}
 use Rattle.keeping.specs.Keeping.{Sixteenths, Past}
+use Rattle.batches.specs.declared.Standing.{Standing}
 
-unfoldable pub StatesBelow : ℕ → ℕ → List ℕ → Type 0
-StatesBelow p m states = (k : ℕ) → k < m → get_or states k 0 < p
+abbrev pub nowhere : Standing
+nowhere = record { state = 0; left = 0 }
 
-unfoldable pub AllBegun : Automaton → ℕ → ℕ → List ℕ → ℕ → ℕ → List ℕ → List ℕ → List ℕ → Type 0
-AllBegun A x h is at b states left out =
-    (k : ℕ) → k < length is → Begun A x h (get_or is k 0) at b (get_or states k 0) (get_or left k 0) (k * h) out
+unfoldable pub StatesBelow : ℕ → List Standing → Type 0
+StatesBelow p standings = (k : ℕ) → k < length standings → (get_or standings k nowhere).state < p
 
-abbrev pub PartsBy : List ℕ → List ℕ → ℕ → ℕ → ℕ → ℕ → ℕ → List ℕ → List ℕ → List ℕ → List ℕ → List ℕ → List ℕ → Type 0
-PartsBy t rows p h at n m states left out states' left' out' =
-    (A : Automaton) (b x : ℕ) (is : List ℕ) → Tabled A p t → HoldsRows A b n rows → length is ≡ m
-    → AllBegun A x h is at (b + n) states left out → AllBegun A x h is (at + n) b states' left' out' × Past (m * h) out out'
+unfoldable pub AllBegun : Automaton → ℕ → ℕ → List ℕ → ℕ → ℕ → List Standing → List ℕ → Type 0
+AllBegun A x h is at b standings out =
+    (k : ℕ) → k < length is → Begun A x h (get_or is k 0) at b (get_or standings k nowhere).state (get_or standings k nowhere).left (k * h) out
 
-abbrev pub BlockBy : List ℕ → ℕ → ℕ → ℕ → ℕ → ℕ → List ℕ → List ℕ → List ℕ → List ℕ → List ℕ → List ℕ → List ℕ → List ℕ → Type 0
-BlockBy t p h rest q m cells cells' states left out states' left' out' =
-    (A : Automaton) (x : ℕ) (is : List ℕ) → Tabled A p t → Sixteenths A p (h / 16) cells → length is ≡ m → AllBegun A x h is (h - rest) rest states left out
-    → AllBegun A x h is (h - 16 * q) (16 * q) states' left' out' × Past (m * h) out out' × Sixteenths A p (h / 16) cells' × Past ((h / 16 + 16) * p) cells cells'
+abbrev pub PartsBy : List ℕ → List ℕ → ℕ → ℕ → ℕ → ℕ → List Standing → List ℕ → List Standing → List ℕ → Type 0
+PartsBy t rows p h at n standings out standings' out' =
+    (A : Automaton) (b x : ℕ) (is : List ℕ) → Tabled A p t → HoldsRows A b n rows → length is ≡ length standings
+    → AllBegun A x h is at (b + n) standings out → AllBegun A x h is (at + n) b standings' out' × Past (length is * h) out out'
 
-unfoldable pub Copied : List ℕ → List ℕ → Type 0
-Copied is left = (k : ℕ) → k < length is → get_or left k 0 ≡ get_or is k 0
+abbrev pub BlockBy : List ℕ → ℕ → ℕ → ℕ → ℕ → List ℕ → List ℕ → List Standing → List ℕ → List Standing → List ℕ → Type 0
+BlockBy t p h rest q cells cells' standings out standings' out' =
+    (A : Automaton) (x : ℕ) (is : List ℕ) → Tabled A p t → Sixteenths A p (h / 16) cells → length is ≡ length standings → AllBegun A x h is (h - rest) rest standings out
+    → AllBegun A x h is (h - 16 * q) (16 * q) standings' out' × Past (length is * h) out out' × Sixteenths A p (h / 16) cells' × Past ((h / 16 + 16) * p) cells cells'
+
+unfoldable pub Copied : ℕ → List ℕ → List Standing → Type 0
+Copied x is standings = (k : ℕ) → k < length is → get_or standings k nowhere ≡ record { state = x; left = get_or is k 0 }
 
 pub record Listed (A : Automaton) (p x h : ℕ) (is cells cells' out out' : List ℕ) : Type 0 where
   pub written : out' ≡ with_scenarios A h x is out

@@ -1,32 +1,31 @@
 -- What rows 1 to 8 and 16 to 18 come to, for a call on a text.
---   checked_or c a                  == the refusal that c tells, or a where it tells none
+--   checked_or o a                  == the refusal that o tells, or a where it tells none
 --   rows_for k h                    == how many rows of cells a call needs that keeps the rows k
 --   FitsFor r states x rows h room == the record r has so many joint states and starts in x, and h and the room for so many rows of cells are as sized
 --   Fits r states x h room         == so for all rows up to h
 --   Ready t rows h room r states x == the record r stands for the readable text t, and fits
 --   ChecksSizes r rows h room o    == o tells rows 7 and 8 of the record r
 --   Loads t rows h room o          == o tells rows 1 to 8 and 16 to 18
--- Nothing is left free: the record is that of the text, and beside a refusal the states and the start are told as 0. None of these refusals is one
--- after which the cells are filled. Assumes nothing.
-use Rattle.std.specs.Prelude.{◌≡◌, false, List, ℕ, ◌+◌, ◌*◌, ◌≤◌, ◌<◌, length}
+-- Nothing is left free: the record is that of the text. None of these refusals is one after which the cells are filled. Assumes nothing.
+use Rattle.std.specs.Prelude.{◌≡◌, false, List, ℕ, ◌+◌, ◌*◌, ◌≤◌, ◌<◌, length, Result, Ok, Err, IfOk, IfErr}
 use Rattle.rig.specs.declared.Rig.{Rig}
 use Rattle.rig.specs.Record.{record_automaton, record_start, WellFormed}
-use Rattle.promises.specs.Answer.{Answer, refused}
+use Rattle.promises.specs.Answer.{Answer}
 use Rattle.promises.specs.Text.{decoded, events_of, Readable}
 use Rattle.promises.specs.Rig.{rig_automaton, start}
 use Rattle.promises.specs.Calls.{size_rows, fills, sized_for}
 use Rattle.promises.specs.Small.{small_rows}
 use Rattle.promises.specs.Forward.{forward_rows}
+use Rattle.refusal.specs.declared.Refusal.{Refusal}
+use Rattle.refusal.specs.Numbers.{refused_by}
 use Rattle.reader.specs.Reading.{record_of}
-use Rattle.checks.specs.declared.Checked.{Checked}
-use Rattle.checks.specs.declared.Checked.TheVariants.{Passed, Refused}
 use Rattle.checks.specs.declared.Rows.{Rows}
 use Rattle.checks.specs.declared.Rows.TheVariants.{All, Sixteenths, Two}
-use Rattle.checks.specs.declared.Loaded.{Loaded}
+use Rattle.checks.specs.declared.loaded.Loaded.{Loaded}
 
-abbrev pub checked_or : Checked → Answer → Answer
-checked_or Passed a = a
-checked_or (Refused number place) a = refused number place
+abbrev pub checked_or : {A : Type 0} → Result A Refusal → Answer → Answer
+checked_or (Ok x) a = a
+checked_or (Err e) a = refused_by e
 
 abbrev pub rows_for : Rows → ℕ → ℕ
 rows_for All h = h + 1
@@ -51,16 +50,14 @@ pub record Ready (t : List ℕ) (rows h room : ℕ) (r : Rig) (states x : ℕ) :
   pub starts : x ≡ start t
   pub fits : FitsFor r states x rows h room
 
-pub record ChecksSizes (r : Rig) (rows h room : ℕ) (o : Loaded) : Type 0 where
-  pub answer : (a : Answer) → size_rows rows (record_automaton r).states h room a ≡ checked_or o.checked a
-  pub untouched : (n p : ℕ) → o.checked ≡ Refused n p → fills (refused n p) ≡ false
-  pub refused_states : (n p : ℕ) → o.checked ≡ Refused n p → (o.states ≡ 0) × (o.start ≡ 0)
-  pub same : o.rig ≡ r
-  pub passed : o.checked ≡ Passed → FitsFor r o.states o.start rows h room
+pub record ChecksSizes (r : Rig) (rows h room : ℕ) (o : Result Loaded Refusal) : Type 0 where
+  pub answer : (a : Answer) → size_rows rows (record_automaton r).states h room a ≡ checked_or o a
+  pub untouched : IfErr o (λ e. fills (refused_by e) ≡ false)
+  pub same : IfOk o (λ l. l.rig ≡ r)
+  pub passed : IfOk o (λ l. FitsFor r l.states l.start rows h room)
 
-pub record Loads (t : List ℕ) (rows h room : ℕ) (o : Loaded) : Type 0 where
-  pub answer : (cells : List ℕ) (a : Answer) → length cells ≡ room → sized_for t rows h cells a ≡ checked_or o.checked a
-  pub untouched : (n p : ℕ) → o.checked ≡ Refused n p → fills (refused n p) ≡ false
-  pub refused_states : (n p : ℕ) → o.checked ≡ Refused n p → (o.states ≡ 0) × (o.start ≡ 0)
-  pub is_record : o.rig ≡ record_of t
-  pub ready : o.checked ≡ Passed → Ready t rows h room o.rig o.states o.start
+pub record Loads (t : List ℕ) (rows h room : ℕ) (o : Result Loaded Refusal) : Type 0 where
+  pub answer : (cells : List ℕ) (a : Answer) → length cells ≡ room → sized_for t rows h cells a ≡ checked_or o a
+  pub untouched : IfErr o (λ e. fills (refused_by e) ≡ false)
+  pub is_record : IfOk o (λ l. l.rig ≡ record_of t)
+  pub ready : IfOk o (λ l. Ready t rows h room l.rig l.states l.start)

@@ -36,18 +36,17 @@ fn powers_of_ten() -> [u64; 20]
     POWERS
 }
 
-// How many digits n has: a number below ten to the power k, and not below the power before, has k. The table is copied before the loop,
-// since a constant that is indexed within it would be stored anew at each turn.
+// How many digits n has: as many as the place of the first power above n. The table is copied first, since a constant that is searched
+// would be stored anew at each turn.
 pub fn count_digits(n: u64) -> usize
     ensures { result ≡ length (decimal n) }
 {
     let powers = powers_of_ten();
-    for k in 1..powers.len() {
-        if n < powers[k] {
-            return k;
-        }
+    let above_one = &powers[1..];
+    match above_one.iter().position(|&power| n < power) {
+        Some(place) => place + 1,
+        None => powers.len(),
     }
-    powers.len()
 }
 
 // Writes the digits of n at the front of `out`, the last one first, and gives how many they are; the rest of `out` keeps its contents.
@@ -62,11 +61,12 @@ pub fn write(n: u64, out: &mut [u8]) -> usize
     let ten = powers[1];
     let mut left = n;
     let mut at = digits - 1;
+    // The loop goes by what is left, and not by the places, so that a number below ten takes no division.
     while ten <= left {
-        out[at] = 48 + (left % ten) as u8;
+        out[at] = b'0' + (left % ten) as u8;
         at -= 1;
         left /= ten;
     }
-    out[0] = 48 + left as u8;
+    out[0] = b'0' + left as u8;
     digits
 }

@@ -8,7 +8,7 @@ use std::io;
 fn show(rt: &impl Print, n: u64) -> io::Result<()> {
     let mut line = [0; 21];
     let at = decimal::write(n, &mut line);
-    line[at] = 10;
+    line[at] = b'\n';
     let end = at + 1;
     rt.write_all(&line[..end])
 }
@@ -17,17 +17,18 @@ fn show(rt: &impl Print, n: u64) -> io::Result<()> {
 fn show_around(rt: &impl Print, n: u64) -> io::Result<()>
     requires { (1 ≤ n) × (n ≤ 18446744073709551614) }
 {
-    show(rt, n - 1)?;
-    show(rt, n)?;
-    show(rt, n + 1)
+    for near in [n - 1, n, n + 1] {
+        show(rt, near)?;
+    }
+    Ok(())
 }
 
 // The powers are made by multiplying, apart from the writer's table.
 fn show_powers(rt: &impl Print) -> io::Result<()> {
     let mut power: u64 = 1;
     show_around(rt, power)?;
-    while power <= u64::MAX / 10 {
-        power *= 10;
+    while let Some(next) = power.checked_mul(10) {
+        power = next;
         show_around(rt, power)?;
     }
     Ok(())
@@ -35,10 +36,15 @@ fn show_powers(rt: &impl Print) -> io::Result<()> {
 
 fn main(rt: HostRuntime) -> io::Result<()> {
     show_powers(&rt)?;
-    show(&rt, 12345)?;
-    show(&rt, 102030405060708090)?;
-    show(&rt, 4294967296)?;
-    show(&rt, 9223372036854775808)?;
-    show(&rt, 18446744073709551614)?;
-    show(&rt, 18446744073709551615)
+    for n in [
+        12345,
+        102030405060708090,
+        4294967296,
+        9223372036854775808,
+        18446744073709551614,
+        18446744073709551615,
+    ] {
+        show(&rt, n)?;
+    }
+    Ok(())
 }

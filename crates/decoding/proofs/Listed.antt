@@ -1,15 +1,12 @@
 -- The numbers of an `ord` line, read one by one and written over the front of a list. Assumes nothing.
---   Reads l at from es == of the fields after the byte at `at`, the numbers es are read, and those after the byte at `from` are left
+--   Reads fs gs es == of the fields fs the numbers es are read, and gs are left
 use mathlib.Core.Path.{◌≡◌, refl, sym, ap, ◌∙◌}
 use mathlib.Core.Bool.{true, false}
 use mathlib.Core.List.{List, [], ◌∷◌, ◌++◌, map, append-nil, append_assoc}
 use mathlib.Core.Option.{Option, none, some, none-ne-some}
-use Prim.Native.Nat.{ℕ, suc, ◌+◌, ◌-◌, ◌≤◌, ◌<◌, min}
+use Prim.Native.Nat.{ℕ, suc, ◌+◌, ◌≤◌, ◌<◌, min}
 use native.Mathlib.Omega.{arith}
-use lib.ListN.{length, take, drop, set, length-append, length-drop}
-use lib.Seq.{drop-drop}
-use lib.Dec.{ltb}
-use borrow.Author.Tests.{lt-ltb, le-ltb, ltb-true, ltb-false}
+use lib.ListN.{length, take, set, length-append}
 use Rattle.lists.specs.Lists.{index_of}
 use Rattle.lists.proofs.Tests.{contra, case}
 use Rattle.lists.specs.Decimal.{decimal}
@@ -18,8 +15,7 @@ use Rattle.promises.specs.Text.{Line, rig, ord, begins, continues, other, bytes,
 use Rattle.promises.specs.Spelling.{Spelled}
 use Rattle.promises.proofs.Spelling.{same_tells, fields-spelled, spelling}
 use Rattle.decoding.specs.Forms.{over, fields_from, on_first, leading, listed_in}
-use Rattle.decoding.proofs.Parts.{index_of_le}
-use Rattle.decoding.proofs.Numbers.{rest-whole, fields-first, decode_ord}
+use Rattle.decoding.proofs.Numbers.{fields-first, decode_ord}
 
 -- ---- the list that is written over
 
@@ -52,85 +48,56 @@ unfoldable pub prefixed : List ℕ → Option (List ℕ) → Option (List ℕ)
 prefixed es none = none
 prefixed es (some l) = some (es ++ l)
 
-pub record Reads (l : List ℕ) (at from : ℕ) (es : List ℕ) : Type 0 where
-  pub left : numbers (fields_from l at) ≡ prefixed es (numbers (fields_from l from))
-  pub led : leading (fields_from l at) ≡ es ++ leading (fields_from l from)
-  pub few : length es ≤ from
+pub record Reads (fs gs : List (List ℕ)) (es : List ℕ) : Type 0 where
+  pub left : numbers fs ≡ prefixed es (numbers gs)
+  pub led : leading fs ≡ es ++ leading gs
+  pub few : length es + length gs ≡ length fs
 
--- the fields of the rest after its first are those of the line after the next byte 9
-fields-onward : (l : List ℕ) (from end : ℕ) → fields_from (drop (from + 1) l) end ≡ fields_from l (from + (end + 1))
-unfolding fields_from
-fields-onward l from end = case (ltb end (length (drop (from + 1) l)))
-    (λ p. let h = ltb-true end (length (drop (from + 1) l)) p in rw (p, lt-ltb (from + (end + 1)) (length l) (omega (arith, length-drop (from + 1) l))) (ap fields (drop-drop (end + 1) (from + 1) l ∙ ap (λ n. drop n l) (next from end))))
-    (λ p. let h = ltb-false end (length (drop (from + 1) l)) p in rw (p, le-ltb (from + (end + 1)) (length l) (omega (arith, length-drop (from + 1) l))))
+pub reads_none : (fs : List (List ℕ)) → Reads fs fs []
+unfolding prefixed
+reads_none fs = record { left = go (numbers fs); led = refl; few = omega arith }
   where
-    next : (a b : ℕ) → a + 1 + (b + 1) ≡ a + (b + 1) + 1
-    next a b = omega arith
+    go : (o : Option (List ℕ)) → o ≡ prefixed [] o
+    go none = refl
+    go (some ns) = refl
 
-module _ (l : List ℕ) (at : ℕ) where
-  pub reads_none : Reads l at at []
-  unfolding prefixed
-  reads_none = record { left = go (numbers (fields_from l at)); led = refl; few = omega arith }
-    where
-      go : (o : Option (List ℕ)) → o ≡ prefixed [] o
-      go none = refl
-      go (some ns) = refl
+module _ (fs gs : List (List ℕ)) (es : List ℕ) (R : Reads fs gs es) where
+  -- f is the first field of those that are left
+  module _ (f : List ℕ) (rest : List (List ℕ)) (parted : gs ≡ f ∷ rest) where
+    first_left : numbers gs ≡ ahead (number f) (numbers rest)
+    unfolding numbers
+    first_left = ap numbers parted
 
-  module _ (from : ℕ) (es : List ℕ) (R : Reads l at from es) where
-    module _ (h : from < length l) (end : ℕ) (e : end ≡ index_of (take (length l - (from + 1)) (drop (from + 1) l)) 9) where
-      end_is : end ≡ index_of (drop (from + 1) l) 9
-      end_is = rw (rest-whole l (from + 1)) at e
+    first_led : leading gs ≡ on_first (number f) (leading rest)
+    unfolding leading
+    first_led = ap leading parted
 
-      pub end_le : from + (end + 1) ≤ length l
-      end_le = omega (arith, end_is, index_of_le (drop (from + 1) l) 9, length-drop (from + 1) l)
+    -- one field more
+    pub reads_more : (n : ℕ) → some n ≡ number f → Reads fs rest (es ++ (n ∷ []))
+    unfolding prefixed ahead on_first
+    reads_more n q = record {
+      left = R.left ∙ ap (prefixed es) (rw (← q) at first_left) ∙ go (numbers rest);
+      led = R.led ∙ ap (λ ns. es ++ ns) (rw (← q) at first_led) ∙ sym (append_assoc es (n ∷ []) (leading rest));
+      few = rw length-append (omega (arith, R.few, ap length parted));
+    }
+      where
+        go : (o : Option (List ℕ)) → prefixed es (ahead (some n) o) ≡ prefixed (es ++ (n ∷ [])) o
+        go none = refl
+        go (some ns) = ap some (sym (append_assoc es (n ∷ []) ns))
 
-      -- the first field of those that are left
-      abbrev field : List ℕ
-      field = take end (take (length l - (from + 1)) (drop (from + 1) l))
+    -- one that is no number
+    pub reads_bad : none ≡ number f → (any_number (λ es. ord es) fs ≡ other) × (leading fs ≡ es)
+    unfolding any_number prefixed ahead on_first
+    reads_bad q =
+        let z : numbers fs ≡ none = R.left ∙ ap (prefixed es) (rw (← q) at first_left) in
+        (rw z, R.led ∙ ap (λ ns. es ++ ns) (rw (← q) at first_led) ∙ append-nil es)
 
-      parted : fields_from l from ≡ field ∷ fields_from l (from + (end + 1))
-      parted = rw (rest-whole l (from + 1)) (here ∙ first ∙ ap (λ fs. take end (drop (from + 1) l) ∷ fs) (fields-onward l from end))
-        where
-          here : fields_from l from ≡ fields (drop (from + 1) l)
-          here = unfold fields_from in rw (lt-ltb from (length l) h)
-
-          first : fields (drop (from + 1) l) ≡ take end (drop (from + 1) l) ∷ fields_from (drop (from + 1) l) end
-          first = rw end_is (fields-first (drop (from + 1) l))
-
-      first_left : numbers (fields_from l from) ≡ ahead (number field) (numbers (fields_from l (from + (end + 1))))
-      unfolding numbers
-      first_left = ap numbers parted
-
-      first_led : leading (fields_from l from) ≡ on_first (number field) (leading (fields_from l (from + (end + 1))))
-      unfolding leading
-      first_led = ap leading parted
-
-      -- one field more
-      pub reads_more : (n : ℕ) → some n ≡ number field → Reads l at (from + (end + 1)) (es ++ (n ∷ []))
-      unfolding prefixed ahead on_first
-      reads_more n q = record {
-        left = R.left ∙ ap (prefixed es) (rw (← q) at first_left) ∙ go (numbers (fields_from l (from + (end + 1))));
-        led = R.led ∙ ap (λ ns. es ++ ns) (rw (← q) at first_led) ∙ sym (append_assoc es (n ∷ []) (leading (fields_from l (from + (end + 1)))));
-        few = rw length-append (omega (arith, R.few));
-      }
-        where
-          go : (o : Option (List ℕ)) → prefixed es (ahead (some n) o) ≡ prefixed (es ++ (n ∷ [])) o
-          go none = refl
-          go (some ns) = ap some (sym (append_assoc es (n ∷ []) ns))
-
-      -- one that is no number
-      pub reads_bad : none ≡ number field → (any_number (λ es. ord es) (fields_from l at) ≡ other) × (leading (fields_from l at) ≡ es)
-      unfolding any_number prefixed ahead on_first
-      reads_bad q =
-          let z : numbers (fields_from l at) ≡ none = R.left ∙ ap (prefixed es) (rw (← q) at first_left) in
-          (rw z, R.led ∙ ap (λ ns. es ++ ns) (rw (← q) at first_led) ∙ append-nil es)
-
-    -- none is left
-    pub reads_all : length l ≤ from → (any_number (λ es. ord es) (fields_from l at) ≡ ord es) × (leading (fields_from l at) ≡ es)
-    unfolding any_number fields_from prefixed numbers leading
-    reads_all h =
-        let z : numbers (fields_from l at) ≡ some es = R.left ∙ rw (le-ltb from (length l) h, append-nil) in
-        (rw z, R.led ∙ rw (le-ltb from (length l) h, append-nil))
+  -- none is left
+  pub reads_all : gs ≡ [] → (any_number (λ es. ord es) fs ≡ ord es) × (leading fs ≡ es)
+  unfolding any_number prefixed numbers leading
+  reads_all h =
+      let z : numbers fs ≡ some es = R.left ∙ rw (h, append-nil) in
+      (rw z, R.led ∙ rw (h, append-nil))
 
 -- ---- what decoding a line leaves of a list
 
@@ -164,7 +131,7 @@ module _ (l os : List ℕ) where
   pub leaves : Leaves (decode l) os (over (listed_in l) os)
   unfolding listed_in
   leaves = case (same (take (index_of l 9) l) (bytes "ord"))
-      (λ p. rw (p, decode_ord l (index_of l 9) refl p) (listed (numbers (fields_from l (index_of l 9))) refl))
+      (λ p. rw (p, decode_ord l (take (index_of l 9) l) (fields_from l (index_of l 9)) (fields-first l) p) (listed (numbers (fields_from l (index_of l 9))) refl))
       (λ p. rw p (unfold over in others (decode l) refl p))
     where
       listed : (o : Option (List ℕ)) → numbers (fields_from l (index_of l 9)) ≡ o → Leaves (any_number (λ es. ord es) (fields_from l (index_of l 9))) os (over (leading (fields_from l (index_of l 9))) os)

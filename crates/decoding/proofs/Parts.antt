@@ -1,32 +1,32 @@
 -- The pieces of a list of bytes, found at the first byte that parts them. Assumes nothing.
 use mathlib.Core.Path.{◌≡◌, refl, ap}
-use mathlib.Core.Bool.{Bool, true, false, ◌&&◌}
+use mathlib.Core.Bool.{Bool, true, false, ◌&&◌, cond}
 use mathlib.Core.List.{List, [], ◌∷◌}
 use Prim.Native.Nat.{ℕ, suc, ◌+◌, ◌≤◌, ◌<◌}
 use native.Mathlib.Numerals.{add-one}
 use native.Mathlib.Omega.{arith}
-use lib.ListN.{length, get_or, take, drop, drop_of_length-le}
-use lib.Seq.{drop-cons}
-use lib.Dec.{eqb}
-use borrow.Author.Tests.{eq-eqb, ne_eqb}
+use lib.ListN.{length, take, drop}
+use lib.Dec.{eqb, ltb}
+use borrow.Author.Tests.{ltb-true, ltb-false}
+use Rattle.std.specs.Prelude.{Option, Some, None, MatchOption}
+use Rattle.std.specs.List.{position_or_len}
+use Rattle.std.specs.Cmp.Lexicographic.{pointwise}
 use Rattle.lists.specs.Lists.{pick, index_of}
 use Rattle.lists.proofs.Tests.{case}
 use Rattle.promises.specs.Text.{onto, split_on, same}
 
--- ---- where a byte first stands, stepped over
+-- ---- where a byte first stands
 
-module _ (s : List ℕ) (b i : ℕ) where
-  pub index_of_here : i < length s → get_or s i 0 ≡ b → index_of (drop i s) b ≡ 0
-  unfolding index_of
-  index_of_here h q = rw (drop-cons s i 0 h, eq-eqb _ _ q)
+position_is : (l : List ℕ) (b : ℕ) → position_or_len (λ x. eqb x b) l ≡ index_of l b
+unfolding index_of
+position_is [] b = refl
+position_is (x ∷ l) b = case (eqb x b) (λ p. rw p) (λ p. rw (p, position_is l b) (omega arith))
 
-  pub index_of_more : i < length s → (get_or s i 0 ≡ b → ⊥) → index_of (drop i s) b ≡ suc (index_of (drop (i + 1) s) b)
-  unfolding index_of
-  index_of_more h q = rw (drop-cons s i 0 h, ne_eqb _ _ q, add-one)
-
-  pub index_of_end : length s ≤ i → index_of (drop i s) b ≡ 0
-  unfolding index_of
-  index_of_end h = rw (drop_of_length-le s {i = i} h)
+-- what `position` finds
+pub first_at : (l : List ℕ) (b : ℕ) (o : Option ℕ) → o ≡ cond (ltb (position_or_len (λ x. eqb x b) l) (length l)) (Some (position_or_len (λ x. eqb x b) l)) None → MatchOption o (length l ≤ index_of l b) (λ i. (i ≡ index_of l b) × (i < length l))
+first_at l b o e = rw (e, position_is l b) (case (ltb (index_of l b) (length l))
+    (λ p. rw p (refl, ltb-true _ _ p))
+    (λ p. rw p (ltb-false _ _ p)))
 
 pub index_of_le : (l : List ℕ) (b : ℕ) → index_of l b ≤ length l
 unfolding index_of
@@ -53,18 +53,12 @@ split_on-first b (x ∷ l) h = case (eqb x b) (λ p. rw p) (λ p. let z = rw p a
 
 -- ---- two lists, byte by byte
 
-module _ (s t : List ℕ) (i : ℕ) where
-  pub same_more : i < length s → i < length t → get_or s i 0 ≡ get_or t i 0 → same (drop i s) (drop i t) ≡ same (drop (i + 1) s) (drop (i + 1) t)
-  unfolding same
-  same_more h k q = rw (drop-cons s i 0 h, drop-cons t i 0 k, eq-eqb _ _ q, add-one)
-
-  pub same_differs : i < length s → i < length t → (get_or s i 0 ≡ get_or t i 0 → ⊥) → same (drop i s) (drop i t) ≡ false
-  unfolding same
-  same_differs h k q = rw (drop-cons s i 0 h, drop-cons t i 0 k, ne_eqb _ _ q)
-
-  pub same_end : length s ≤ i → length t ≤ i → same (drop i s) (drop i t) ≡ true
-  unfolding same
-  same_end h k = rw (drop_of_length-le s {i = i} h, drop_of_length-le t {i = i} k)
+pub same_is : (s t : List ℕ) → same s t ≡ pointwise eqb s t
+unfolding same
+same_is [] [] = refl
+same_is [] (b ∷ t) = refl
+same_is (a ∷ s) [] = refl
+same_is (a ∷ s) (b ∷ t) = ap (λ x. eqb a b && x) (same_is s t)
 
 pub same_length : (s t : List ℕ) → (length s ≡ length t → ⊥) → same s t ≡ false
 unfolding same

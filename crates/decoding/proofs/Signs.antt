@@ -1,22 +1,22 @@
--- Signed numbers, and the forms of fields that are such numbers. Assumes nothing.
-use mathlib.Core.Path.{◌≡◌, refl, sym, ap, ◌∙◌}
+-- Signed numbers. Assumes nothing.
+use mathlib.Core.Path.{◌≡◌, refl, sym, ap}
+use mathlib.Core.Bool.{Bool, true, false}
 use mathlib.Core.List.{List, [], ◌∷◌}
-use mathlib.Core.Option.{Option, none, some}
-use Prim.Native.Nat.{ℕ, zero, suc, ◌+◌, ◌-◌, ◌≤◌, ◌<◌}
+use mathlib.Core.Option.{Option, none, some, none-ne-some}
+use Prim.Native.Nat.{ℕ, zero, suc, ◌≤◌, ◌<◌}
 use native.Mathlib.Omega.{arith}
 use lib.IntN.{ℤ, pos, negsuc, ◌-ℤ◌, +ℤ_idl}
-use lib.ListN.{length, get_or, take, drop}
-use borrow.Author.Tests.{eq-eqb, ne_eqb}
+use lib.ListN.{length, take, drop}
+use lib.Dec.{eqb}
+use borrow.Author.Tests.{ne_eqb, eqb-true}
 use mir.Syntax.{w64}
 use mir.Val.{SFits}
+use Rattle.std.specs.Cmp.Lexicographic.{pointwise}
 use Rattle.lists.specs.Lists.{index_of}
-use Rattle.promises.specs.Text.{Line, other, fields, number, minus, plus, signed, field, end_or, end, one_signed, two_signed, then_signed}
+use Rattle.lists.proofs.Tests.{contra, case}
+use Rattle.promises.specs.Text.{number, minus, plus, signed}
 use Rattle.promises.proofs.Spelling.{spelling}
-use Rattle.decoding.specs.declared.Field.{Field}
-use Rattle.decoding.specs.declared.Field.TheVariants.{More}
-use Rattle.decoding.specs.Forms.{field_of, signed_or}
-use Rattle.decoding.proofs.Parts.{split_on-whole, split_on-first}
-use Rattle.decoding.proofs.Numbers.{rest-whole, end_or-more, Short, short_by, next_by}
+use Rattle.decoding.proofs.Numbers.{number-free}
 
 -- ---- signed numbers
 
@@ -33,77 +33,31 @@ unfolding minus
 minus-some zero h = absurd (h refl)
 minus-some (suc n) h = ap some (+ℤ_idl (negsuc n))
 
-pub signed-empty : (s : List ℕ) → length s ≡ 0 → signed s ≡ none
+-- by whether a minus sign comes first
+abbrev pub signed-first : List ℕ → Bool
+signed-first s = pointwise eqb (take 1 s) (45 ∷ [])
+
+pub signed-plus : (s : List ℕ) → signed-first s ≡ false → signed s ≡ plus (number s)
+unfolding signed plus number
+signed-plus [] q = refl
+signed-plus (b ∷ s) q = case (eqb b 45) (λ p. contra (rw p) q) (λ p. rw p)
+
+pub signed-minus : (s : List ℕ) → signed-first s ≡ true → signed s ≡ minus (number (drop 1 s))
 unfolding signed
-signed-empty [] h = refl
-signed-empty (b ∷ s) h = absurd (omega arith)
+signed-minus [] q = contra q refl
+signed-minus (b ∷ s) q = case (eqb b 45) (λ p. rw p) (λ p. contra q (rw p))
 
-pub signed-plus : (s : List ℕ) → 0 < length s → (get_or s 0 0 ≡ 45 → ⊥) → signed s ≡ plus (number s)
-unfolding signed
-signed-plus [] h q = absurd (omega arith)
-signed-plus (b ∷ s) h q = rw (ne_eqb b 45 q)
+pub signed-free : (f : List ℕ) (x : ℤ) → some x ≡ signed f → length f ≤ index_of f 9
+unfolding signed index_of minus plus
+signed-free [] x q = omega arith
+signed-free (b ∷ f) x q = case (eqb b 45)
+    (λ p. rw (ne_eqb b 9 (λ e. omega (arith, eqb-true b 45 p))) (minus-free (number f) refl (rw p at q)))
+    (λ p. plus-free (number (b ∷ f)) refl (rw p at q))
+  where
+    minus-free : (o : Option ℕ) → number f ≡ o → some x ≡ minus o → suc (length f) ≤ suc (index_of f 9)
+    minus-free none e h = absurd (none-ne-some x (sym h))
+    minus-free (some n) e h = omega (arith, number-free f n (sym e))
 
-pub signed-minus : (s : List ℕ) → 0 < length s → get_or s 0 0 ≡ 45 → signed s ≡ minus (number (take (length s - 1) (drop 1 s)))
-unfolding signed
-signed-minus [] h q = absurd (omega arith)
-signed-minus (b ∷ s) h q = rw (eq-eqb b 45 q) (ap (λ f. minus (number f)) (sym (rest-whole (b ∷ s) 1)))
-
--- ---- forms, by their fields
-
--- by the first field, which the first byte 9 ends, and by whether it is a signed number
-module _ (rest : ℤ → List (List ℕ) → Line) where
-  field_none : (f : List ℕ) (fs : List (List ℕ)) → none ≡ signed f → field signed rest (f ∷ fs) ≡ other
-  unfolding field
-  field_none f fs q = rw (sym q)
-
-  field_some : (f : List ℕ) (fs : List (List ℕ)) (x : ℤ) → some x ≡ signed f → field signed rest (f ∷ fs) ≡ rest x fs
-  unfolding field
-  field_some f fs x q = rw (sym q)
-
-  -- a form that needs a further field, or that no field may follow
-  field_cannot : (f : List ℕ) (fs : List (List ℕ)) → ((x : ℤ) → rest x fs ≡ other) → field signed rest (f ∷ fs) ≡ other
-  field_cannot f fs never = go (signed f) refl
-    where
-      go : (o : Option ℤ) → signed f ≡ o → field signed rest (f ∷ fs) ≡ other
-      go none q = field_none f fs (sym q)
-      go (some x) q = field_some f fs x (sym q) ∙ never x
-
-module _ (l : List ℕ) (next : ℕ) (e : next ≡ index_of l 9) where
-  last_field : length l ≤ next → fields l ≡ l ∷ []
-  unfolding fields
-  last_field h = split_on-whole 9 l (rw (← e) h)
-
-  first_field : next < length l → fields l ≡ take next l ∷ fields (take (length l - (next + 1)) (drop (next + 1) l))
-  unfolding fields
-  first_field h = rw (rest-whole l (next + 1), e) (split_on-first 9 l (rw (← e) h))
-
-  pub one_signed_last : length l ≤ next → (o : Option ℤ) → o ≡ signed l → (f : ℤ → Line) → one_signed f (fields l) ≡ signed_or f o
-  unfolding one_signed end end_or
-  one_signed_last h none q f = rw (last_field h) (field_none (λ a. end (f a)) l [] q)
-  one_signed_last h (some x) q f = rw (last_field h) (field_some (λ a. end (f a)) l [] x q)
-
-  pub one_signed_more : next < length l → (f : ℤ → Line) → one_signed f (fields l) ≡ other
-  unfolding one_signed end
-  one_signed_more h f = rw (first_field h) (field_cannot (λ a. end (f a)) (take next l) _ (λ x. end_or-more (f x) (λ fs. other) (take (length l - (next + 1)) (drop (next + 1) l))))
-
-  module _ (f : ℤ → ℤ → Line) where
-    pub two_signed_last : length l ≤ next → two_signed f (fields l) ≡ other
-    unfolding two_signed one_signed field
-    two_signed_last h = rw (last_field h) (field_cannot (λ a. one_signed (f a)) l [] (λ x. refl))
-
-    pub two_signed_none : next < length l → none ≡ signed (take next l) → two_signed f (fields l) ≡ other
-    unfolding two_signed
-    two_signed_none h q = rw (first_field h) (field_none (λ a. one_signed (f a)) (take next l) _ q)
-
-    pub two_signed_next : next < length l → (x : ℤ) → some x ≡ signed (take next l) → two_signed f (fields l) ≡ one_signed (f x) (fields (take (length l - (next + 1)) (drop (next + 1) l)))
-    unfolding two_signed
-    two_signed_next h x q = rw (first_field h) (field_some (λ a. one_signed (f a)) (take next l) _ x q)
-
-module _ (f : ℕ → ℤ → Line) where
-  pub then_signed_short : (l : List ℕ) (x : Field) → x ≡ field_of l → Short x → then_signed f (fields l) ≡ other
-  unfolding then_signed one_signed field
-  then_signed_short = short_by (λ a. one_signed (f a)) (λ a. refl)
-
-  pub then_signed_next : (l : List ℕ) (n next : ℕ) → More n next ≡ field_of l → then_signed f (fields l) ≡ one_signed (f n) (fields (take (length l - next) (drop next l)))
-  unfolding then_signed
-  then_signed_next = next_by (λ a. one_signed (f a))
+    plus-free : (o : Option ℕ) → number (b ∷ f) ≡ o → some x ≡ plus o → length (b ∷ f) ≤ index_of (b ∷ f) 9
+    plus-free none e h = absurd (none-ne-some x (sym h))
+    plus-free (some n) e h = number-free (b ∷ f) n (sym e)

@@ -1,39 +1,25 @@
 -- The steps of a draw and of the list of draws.
 -- Why: each is one step of its definition. Assumes nothing.
 use mathlib.Core.Path.{◌≡◌, refl, sym, ap, ◌∙◌}
-use mathlib.Core.Bool.{Bool, true, false, not}
+use mathlib.Core.Bool.{true, false, not}
 use mathlib.Core.List.{List, [], ◌∷◌, ◌++◌, append_assoc, append-nil}
 use mathlib.Core.Option.{none, some}
 use Prim.Native.Nat.{ℕ, suc, ◌+◌, ◌-◌, ◌%◌, ◌^◌, ◌≤◌, ◌<◌}
 use native.Mathlib.Omega.{arith}
-use native.Mathlib.Nat.{mod-eq-sub-mod, sub-zero}
+use native.Mathlib.Nat.{sub-zero}
 use native.Mathlib.Numerals.{add-one}
 use mathlib.Mathlib.Data.Bool.Basic.{eq-true_of_not-eq-false', eq-false_of_not-eq-true'}
 use lib.ListN.{length, set, drop, length-append}
-use borrow.Author.Tests.{lt-ltb, le-ltb}
 use Rattle.lists.proofs.Fronts.{front_put}
 use Rattle.promises.specs.Answer.{refused}
 use Rattle.promises.specs.Calls.{output_after}
 use Rattle.promises.specs.SplitMix.{next_state, mix, raw}
 use Rattle.promises.specs.Draws.{thrown_away, taken, Outcome, drawn, failed, onto, draws_from, outcome, said, draws, draws_output}
 use Rattle.promises.proofs.Draws.{draws_is, draws_owed}
-use Rattle.draws.specs.Making.{Enough, taken_of, first_failed, AllMade}
+use Rattle.std.specs.Prelude.{Some, None, IsSome}
+use Rattle.std.specs.Prelude.{Option as Choice}
+use Rattle.draws.specs.Making.{taken_of, first_failed, AllMade}
 use Rattle.draws.specs.declared.Draw.{Draw}
-
--- ---- one raw number
-
--- one w less leaves the same remainder
-pub remainder_is : (w : ℕ) → w ≤ 2 ^ 64 → 2 ^ 64 % w ≡ (2 ^ 64 - w) % w
-remainder_is w l = mod-eq-sub-mod l
-
-module _ (w e r : ℕ) (enough : Enough w e) where
-  pub enough_kept : e ≤ r → thrown_away (2 ^ 64) w r ≡ false
-  unfolding thrown_away
-  enough_kept h = le-ltb r (2 ^ 64 % w) (omega (arith, enough.0))
-
-  pub less_thrown : 2 ^ 60 ≤ w → r < e → thrown_away (2 ^ 64) w r ≡ true
-  unfolding thrown_away
-  less_thrown l h = lt-ltb r (2 ^ 64 % w) (omega (arith, enough.1 l))
 
 -- ---- one draw
 
@@ -79,14 +65,6 @@ unfolding onto
 failed-onto z d (drawn ds) = refl
 failed-onto z d (failed i) = refl
 
--- what the code gives back of a draw: it is not made
-pub not_made : (limit w s : ℕ) (t : Draw) → taken_of t ≡ taken limit w s → not t.made ≡ true → taken limit w s ≡ none
-not_made limit w s t q e = sym (rw (eq-false_of_not-eq-true' {a = t.made} e) at q)
-
--- or it is
-pub is_made : (limit w s : ℕ) (t : Draw) → taken_of t ≡ taken limit w s → not t.made ≡ false → taken limit w s ≡ some (t.raw, t.state)
-is_made limit w s t q e = sym (rw (eq-true_of_not-eq-false' {a = t.made} e) at q)
-
 not-drawn : (i : ℕ) (ds : List ℕ) → failed i ≡ drawn ds → ⊥
 not-drawn i ds q = let z : ◌≡◌ {A = ℕ} 0 1 = cc in omega arith
 
@@ -111,24 +89,23 @@ module _ (limit n z : ℕ) (o : Outcome) (out₀ : List ℕ) where
   written_first s q (ds, e) = record { front = []; rest = ds; all = e; ahead = rw sub-zero (sym q ∙ e); long = refl; holds = refl }
 
   module _ (i s : ℕ) (out : List ℕ) (w : Written limit n z o out₀ i s out) where
-    pub written_more : (t : Draw) → i < z → z ≤ length out₀ → taken_of t ≡ taken limit (n - i) s → Written limit n z o out₀ (i + 1) t.state (set out i (i + t.raw % (n - i)))
-    written_more t lt room q = go (not t.made) refl
-      where
-        d : ℕ
-        d = i + t.raw % (n - i)
+    -- so that draw i is made
+    pub written_made : (t : Choice Draw) → i < z → taken_of t ≡ taken limit (n - i) s → IsSome t
+    written_made None lt q = absurd (not-drawn i w.rest (sym (from_failed limit n z i s lt (sym q)) ∙ w.ahead))
+    written_made (Some d) lt q = refl
 
-        go : (b : Bool) → not t.made ≡ b → Written limit n z o out₀ (i + 1) t.state (set out i d)
-        go true e = absurd (not-drawn i w.rest (sym (from_failed limit n z i s lt (not_made limit (n - i) s t q e)) ∙ w.ahead))
-        go false e =
-            let (es, a, c) = onto-drawn d _ w.rest (sym (from_more limit n z i s lt t.raw t.state (is_made limit (n - i) s t q e)) ∙ w.ahead) in
-            record {
-              front = w.front ++ d ∷ [];
-              rest = es;
-              all = w.all ∙ ap (λ l. drawn (w.front ++ l)) (sym c) ∙ ap drawn (sym (append_assoc w.front (d ∷ []) es));
-              ahead = a;
-              long = rw length-append (omega (arith, w.long));
-              holds = ap (λ l. set l i d) w.holds ∙ ap (λ k. set (w.front ++ drop (length w.front) out₀) k d) (sym w.long) ∙ front_put w.front out₀ d (omega (arith, w.long));
-            }
+    pub written_more : (t : Draw) → i < z → z ≤ length out₀ → some (t.raw, t.state) ≡ taken limit (n - i) s → Written limit n z o out₀ (i + 1) t.state (set out i (i + t.raw % (n - i)))
+    written_more t lt room q =
+        let d = i + t.raw % (n - i) in
+        let (es, a, c) = onto-drawn d _ w.rest (sym (from_more limit n z i s lt t.raw t.state (sym q)) ∙ w.ahead) in
+        record {
+          front = w.front ++ d ∷ [];
+          rest = es;
+          all = w.all ∙ ap (λ l. drawn (w.front ++ l)) (sym c) ∙ ap drawn (sym (append_assoc w.front (d ∷ []) es));
+          ahead = a;
+          long = rw length-append (omega (arith, w.long));
+          holds = ap (λ l. set l i d) w.holds ∙ ap (λ k. set (w.front ++ drop (length w.front) out₀) k d) (sym w.long) ∙ front_put w.front out₀ d (omega (arith, w.long));
+        }
 
     pub written_all : z ≤ i → o ≡ drawn w.front
     written_all h = w.all ∙ ap drawn (ap (λ l. w.front ++ l) (nothing w.rest (sym (from_end limit n z i s h) ∙ w.ahead)) ∙ append-nil w.front)

@@ -1,7 +1,7 @@
--- What a pruned rig's flags and table are to those who count. Assumes nothing.
+-- What is known of a rig that is lent, and what its flags and its table are, once it is pruned, to those who count. Assumes nothing.
 use mathlib.Core.Path.{◌≡◌, sym, ap, ◌∙◌}
 use mathlib.Core.List.{List}
-use Prim.Native.Nat.{ℕ, ◌+◌, ◌*◌}
+use Prim.Native.Nat.{ℕ, ◌+◌, ◌*◌, ◌≤◌}
 use native.Mathlib.Omega.{arith}
 use native.Mathlib.Nat.{mul-le-mul_right}
 use lib.ListN.{get_or, get_or-append}
@@ -9,10 +9,13 @@ use Rattle.lists.proofs.Tables.{length-tabulate, get_or-tabulate, get_or-stack}
 use Rattle.automaton.specs.Automaton.{Automaton}
 use Rattle.automaton.specs.Pruning.{live}
 use Rattle.automaton.specs.Table.{entry_into, row_into, rows_into, with_table, Pruned, live_flags, with_flags}
-use Rattle.rig.specs.declared.Rig.{Rig}
 use Rattle.rig.specs.Record.{record_automaton, WellFormed}
 use Rattle.pruning.proofs.Entries.{length_row_into, length_rows_into, record_distinct, record_few, record_only}
-use Rattle.counting.specs.Tabled.{Tabled, Flagged}
+use Rattle.joint.proofs.Digits.{states_few}
+use Rattle.checks.specs.declared.loaded.Loaded.{Loaded}
+use Rattle.checks.proofs.Records.{well_formed_of}
+use Rattle.counting.specs.Tabled.{Tabled, Flagged, Bounded}
+use Rattle.counting.proofs.Sums.{tabled_bounded}
 
 module _ (A : Automaton) where
   -- the flags stand at the front
@@ -31,13 +34,26 @@ module _ (A : Automaton) where
       ∙ get_or-stack (row_into A (live A)) 16 (length_row_into A (live A)) A.states x c 0 h k
       ∙ get_or-tabulate (entry_into A (live A) x) 16 c 0 k
 
--- the pruned table of a record
-pub tabled : (r : Rig) (p : ℕ) (t d : List ℕ) → WellFormed r → p ≡ (record_automaton r).states → t ≡ with_table (record_automaton r) d → Tabled (record_automaton r) p t
-tabled r p t d w e q =
-    record {
-      states = sym e;
-      pruned = pruned (record_automaton r) t d q;
-      distinct = record_distinct r w;
-      few_events = record_few r w;
-      only_events = record_only r w;
+-- ---- the rig that is lent
+
+module _ (o : Loaded) where
+  pub known : WellFormed o.rig
+  known = well_formed_of o.rig o.well_formed
+
+  -- 'The joint states number P, the product of all S, at most 1,024.'
+  pub few : o.states ≤ 1024
+  few = omega (arith, o.joint, states_few o.rig known)
+
+  -- its pruned table
+  module _ (t d : List ℕ) (q : t ≡ with_table (record_automaton o.rig) d) where
+    pub tabled : Tabled (record_automaton o.rig) o.states t
+    tabled = record {
+      states = sym o.joint;
+      pruned = pruned (record_automaton o.rig) t d q;
+      distinct = record_distinct o.rig known;
+      few_events = record_few o.rig known;
+      only_events = record_only o.rig known;
     }
+
+    pub bounded : Bounded o.states t
+    bounded = tabled_bounded (record_automaton o.rig) o.states t tabled few

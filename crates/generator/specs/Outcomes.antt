@@ -3,33 +3,27 @@
 --   list_from, index_from                  == what Scenarios and Index answer from row 9 on
 --   output_from                           == what Scenarios leaves in its output
 -- Assumes nothing.
-use Rattle.std.specs.Prelude.{List, [], ◌∷◌, ℕ, length}
+use Rattle.std.specs.Prelude.{⊤, List, [], ◌∷◌, ℕ, length, Result}
 use Rattle.lists.specs.Lists.{concat_map}
 use Rattle.automaton.specs.Automaton.{Automaton}
 use Rattle.automaton.specs.Counting.{N}
 use Rattle.automaton.specs.Ranking.{unrank}
-use Rattle.promises.specs.Answer.{Answer, served, refused}
+use Rattle.promises.specs.Answer.{Answer}
 use Rattle.promises.specs.Calls.{count_rows, indices_row, sequence_row, output_after}
-use Rattle.generator.specs.declared.Counted as counted
-use Rattle.generator.specs.declared.Listed as listed
-use Rattle.generator.specs.declared.Indexed as indexed
-use Rattle.generator.specs.declared.Counted.TheVariants.{Served as CountServed, Refused as CountRefused}
-use Rattle.generator.specs.declared.Listed.TheVariants.{Served as ListServed, Refused as ListRefused}
-use Rattle.generator.specs.declared.Indexed.TheVariants.{Served as IndexServed, Refused as IndexRefused}
+use Rattle.refusal.specs.declared.Refusal.{Refusal}
+use Rattle.refusal.specs.Numbers.{answered}
+use Rattle.filling.specs.declared.Counted.{Counted}
 
 -- 'Gives N and the passes.'
-abbrev pub count_answer : counted.Counted → Answer
-count_answer (CountServed n passes) = served (n ∷ passes ∷ [])
-count_answer (CountRefused number place) = refused number place
+abbrev pub count_answer : Result Counted Refusal → Answer
+count_answer = answered (λ c. c.count ∷ c.passes ∷ [])
 
-abbrev pub list_answer : listed.Listed → Answer
-list_answer ListServed = served []
-list_answer (ListRefused number place) = refused number place
+abbrev pub list_answer : Result ⊤ Refusal → Answer
+list_answer = answered (λ _. [])
 
 -- 'Gives its index.'
-abbrev pub index_answer : indexed.Indexed → Answer
-index_answer (IndexServed i) = served (i ∷ [])
-index_answer (IndexRefused number place) = refused number place
+abbrev pub index_answer : Result ℕ Refusal → Answer
+index_answer = answered (λ i. i ∷ [])
 
 -- ---- once the checks before row 9 are passed, for the automaton A and its start x
 

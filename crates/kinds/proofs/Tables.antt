@@ -4,15 +4,17 @@
 --   OfKind mv sp m E k ps == it has the moves and marks of a monitor of the kind k with the further lines ps
 use mathlib.Core.Path.{◌≡◌, refl, sym, ap, ◌∙◌}
 use mathlib.Core.Logic.{◌≢◌, ⊎_elim}
-use mathlib.Core.Bool.{true}
-use mathlib.Core.List.{List, [], ◌∷◌}
+use mathlib.Core.Bool.{Bool, true, false}
+use mathlib.Core.List.{List, [], ◌∷◌, ◌++◌, append_assoc}
 use mathlib.Core.Option.{or_else}
 use Prim.Native.Nat.{ℕ, zero, suc, ◌+◌, ◌≤◌, ◌<◌}
 use native.Mathlib.Nat.{eq-or-lt_of_le, le_of_suc-le-suc, not-suc-le-zero}
 use native.Mathlib.Numerals.{add-one}
 use native.Mathlib.Omega.{arith}
 use lib.IntN.{ℤ}
-use lib.ListN.{length, set}
+use mir.Val.{bool_byte as from_bool}
+use lib.ListN.{length, set, take, drop, get_or, replicate, length-append, length-replicate, take-append-drop}
+use lib.Seq.{drop-cons, set_at, length-take-le}
 use lib.Dec.{ltb, eqb}
 use borrow.Author.Tests.{ltb-true, ltb-false, le-ltb, eq-eqb, ne_eqb}
 use Rattle.lists.specs.Lists.{pick, overwrite, first_of}
@@ -34,7 +36,29 @@ pub record OfKind (mv sp : List ℕ) (m E : ℕ) (k : Kind) (ps : List Part) : T
   pub moves : (s u : ℕ) → s < states_of k → u < E → move_at mv m s u ≡ entry_of (states_of k) (next_of k ps s u)
   pub marks : (s : ℕ) → s < states_of k → stop_at sp m s ≡ pick (marked_of k ps s) 1 0
 
+-- a mark as its entry
+pub mark_entry : (b : Bool) → from_bool b ≡ pick b 1 0
+mark_entry true = refl
+mark_entry false = refl
+
 -- ---- the entries of a row
+
+-- all sixteen are the same at first
+pub filled_row : (l : List ℕ) (at z n : ℕ) → at + n ≤ length l → take at l ++ (replicate n z ++ drop (at + n) l) ≡ overwrite l (λ u. at + u) (λ u. z) n
+unfolding overwrite
+filled_row l at z zero h = let q : at + 0 ≡ at = omega arith in ap (λ k. take at l ++ drop k l) q ∙ take-append-drop at l
+filled_row l at z (suc n) h =
+    let q : at + suc n ≡ suc (at + n) = omega arith in
+    let rest = drop (suc (at + n)) l in
+    ap (λ k. take at l ++ (replicate (suc n) z ++ drop k l)) q
+    ∙ ap (λ r. take at l ++ r) (sym (later n rest))
+    ∙ sym (append_assoc (take at l) (replicate n z) (z ∷ rest))
+    ∙ sym (set_at (take at l ++ replicate n z) (get_or l (at + n) 0) rest z (at + n) (rw (length-append, length-replicate {A = ℕ} n z, length-take-le at l (omega arith))))
+    ∙ ap (λ r. set r (at + n) z) (append_assoc (take at l) (replicate n z) (get_or l (at + n) 0 ∷ rest) ∙ ap (λ r. take at l ++ (replicate n z ++ r)) (sym (drop-cons l (at + n) 0 (omega arith))) ∙ filled_row l at z n (omega arith))
+  where
+    later : (n : ℕ) (r : List ℕ) → replicate n z ++ z ∷ r ≡ z ∷ (replicate n z ++ r)
+    later zero r = refl
+    later (suc n) r = ap (λ l. z ∷ l) (later n r)
 
 -- those of the events that a row names are written over the others
 module _ (l : List ℕ) (at : ℕ) where

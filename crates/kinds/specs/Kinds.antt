@@ -1,9 +1,6 @@
 -- The kinds of monitor in the words of `promises`, and the tables that a line fills that begins one, gives a step or hours. Paper 02 no. 5 to 7.
 --   as_kind k           == the kind k, as `promises` writes it
 --   InRange k          == the numbers of k are in their ranges, in a rig with some number of events
---   mon_states k        == how many states a `go` or `stop` line can name: those of a `mon`, 0 of any other kind
---   band_of k           == the band in which an `amp` line moves: that of a `bal`, the empty one of any other kind
---   day_steps k         == how many steps the hours of an `open` line can be of: those of a `day`, 0 of any other kind
 --   row_at r u          == where the row r moves on event u
 --   entry_of S t        == the state t of S states as an entry of the move table: 255 where it is no state
 --   with_rows mv m k n  == the move table mv with the moves of monitor m, of the kind k, from its first n states on each of the sixteen events that there can be
@@ -13,8 +10,8 @@
 --   with_step mv m k e d == with its moves, of the kind k, on the event e, of the step d
 --   hour_of T a b first s x == the move from step s of a day of T steps, where it was x before, with hours from a up to b more, which are the first or not
 --   with_hours mv m T e a b first == with its moves, of a `day` of T steps, on the event e with these hours more
--- A new Kind is one clause each of as_kind, mon_states, band_of and day_steps; its automaton is that of promises/specs/Rig. Assumes nothing.
-use Rattle.std.specs.Prelude.{◌≡◌, Bool, false, ◌&&◌, List, [], ◌∷◌, ℕ, zero, suc, ◌%◌, ℤ, pos, leb, ltb, eqb}
+-- A new Kind is one clause of as_kind; its automaton is that of promises/specs/Rig. Assumes nothing.
+use Rattle.std.specs.Prelude.{◌≡◌, Bool, false, ◌&&◌, List, [], ◌∷◌, ℕ, zero, suc, ◌%◌, ℤ, leb, ltb, eqb}
 use Rattle.lists.specs.Lists.{pick, overwrite}
 use Rattle.promises.specs.Text as text
 use Rattle.promises.specs.Text.{mon, gap, reply, bal, day, amp, states_of}
@@ -23,7 +20,6 @@ use Rattle.promises.specs.Rig.{next_of, marked_of}
 use Rattle.rig.specs.Record.{move_index, move_at, stop_index}
 use Rattle.decoding.specs.declared.Kind.{Kind}
 use Rattle.decoding.specs.declared.Kind.TheVariants.{Mon, Gap, Reply, Bal, Day}
-use Rattle.kinds.specs.declared.Band.{Band}
 use Rattle.kinds.specs.declared.Row.{Row}
 
 abbrev pub as_kind : Kind → text.Kind
@@ -35,30 +31,6 @@ as_kind (Day T) = day T
 
 abbrev pub InRange : text.Kind → Type 0
 InRange k = (E : ℕ) × (is_out_of_range E k ≡ false) × (equal k ≡ false)
-
-abbrev pub mon_states : Kind → ℕ
-mon_states (Mon S a) = S
-mon_states (Gap e n) = 0
-mon_states (Reply a b lo hi) = 0
-mon_states (Bal lo hi) = 0
-mon_states (Day T) = 0
-
-abbrev pub empty_band : Band
-empty_band = record { lo = pos 1; hi = pos 0 }
-
-abbrev pub band_of : Kind → Band
-band_of (Mon S a) = empty_band
-band_of (Gap e n) = empty_band
-band_of (Reply a b lo hi) = empty_band
-band_of (Bal lo hi) = record { lo = lo; hi = hi }
-band_of (Day T) = empty_band
-
-abbrev pub day_steps : Kind → ℕ
-day_steps (Mon S a) = 0
-day_steps (Gap e n) = 0
-day_steps (Reply a b lo hi) = 0
-day_steps (Bal lo hi) = 0
-day_steps (Day T) = T
 
 abbrev pub row_at : Row → ℕ → ℕ
 row_at r u = pick (eqb u r.a) r.x (pick (eqb u r.b) r.y r.z)

@@ -1,4 +1,4 @@
-// The kinds of monitor: what a line that begins one says, each function up to `mark` by the kind; then the tables of any kind, and the moves on one event.
+// The kinds of monitor: what a line that begins one says, each function up to `is_marked` by the kind; then the tables of any kind, and the moves on one event.
 #![tactic(auto)]
 
 ghost use Rattle.std.specs.Prelude.{◌≡◌, false, ◌&&◌, [], ℕ, suc, ◌+◌, ◌%◌, ◌≤◌, ◌<◌, pos, neg_ℤ, length, set, leb, ltb, eqb};
@@ -7,16 +7,10 @@ ghost use Rattle.promises.specs.Text.{bal, states_of, start_of};
 ghost use Rattle.promises.specs.Reading as promised;
 ghost use Rattle.promises.specs.Rig.{gap_next, reply_next, bal_next, next_of, marked_of};
 ghost use Rattle.rig.specs.Record.{stop_index};
-ghost use Rattle.kinds.specs.Kinds.{as_kind, InRange, mon_states, band_of, day_steps, row_at, entry_of, with_rows, kind_moves, kind_stops, with_step, hour_of, with_hours};
+ghost use Rattle.kinds.specs.Kinds.{as_kind, InRange, row_at, entry_of, with_rows, kind_moves, kind_stops, with_step, hour_of, with_hours};
 
 use decoding::Kind;
-
-// The band of a `bal`, from lo to hi; of any other kind the empty one, from 1 to 0.
-#[derive(Clone, Copy)]
-pub struct Band {
-    pub lo: i64,
-    pub hi: i64,
-}
+use rig::NO_MOVE;
 
 // The moves of a monitor from one state: on event a to x, on b to y, on any other to z.
 #[derive(Clone, Copy)]
@@ -28,24 +22,11 @@ struct Row {
     z: usize,
 }
 
-// Whether n is not 'from lo to hi'.
-fn outside(lo: usize, hi: usize, n: usize) -> bool
-    ensures { result ≡ promised.outside lo hi n }
-{
-    if n < lo {
-        return true;
-    }
-    hi < n
-}
-
 // Whether the signed number x is not 'from lo to hi'.
 pub fn outside_signed(lo: i64, hi: i64, x: i64) -> bool
     ensures { result ≡ promised.outsideℤ lo hi x }
 {
-    if x < lo {
-        return true;
-    }
-    hi < x
+    !(lo..=hi).contains(&x)
 }
 
 // Whether a number of the line is out of its range.
@@ -53,40 +34,11 @@ pub fn out_of_range(k: Kind, events: usize) -> bool
     ensures { result ≡ promised.is_out_of_range events (as_kind k) }
 {
     match k {
-        Kind::Mon(s, a) => {
-            if outside(1, 32, s) {
-                return true;
-            }
-            s <= a // the start is no state
-        }
-        Kind::Gap(e, n) => {
-            if events <= e {
-                return true; // no event
-            }
-            outside(2, 32, n)
-        }
-        Kind::Reply(a, b, lo, hi) => {
-            if events <= a {
-                return true; // no event
-            }
-            if events <= b {
-                return true; // no event
-            }
-            if lo < 1 {
-                return true;
-            }
-            if hi < lo {
-                return true;
-            }
-            31 < hi
-        }
-        Kind::Bal(lo, hi) => {
-            if outside_signed(-15, 0, lo) {
-                return true;
-            }
-            outside_signed(0, 15, hi)
-        }
-        Kind::Day(t) => outside(2, 32, t),
+        Kind::Mon(s, start) => !(1..=32).contains(&s) || s <= start,
+        Kind::Gap(e, n) => events <= e || !(2..=32).contains(&n),
+        Kind::Reply(a, b, lo, hi) => events <= a || events <= b || lo < 1 || hi < lo || 31 < hi,
+        Kind::Bal(lo, hi) => outside_signed(-15, 0, lo) || outside_signed(0, 15, hi),
+        Kind::Day(t) => !(2..=32).contains(&t),
     }
 }
 
@@ -95,13 +47,12 @@ pub fn equal(k: Kind) -> bool
     ensures { result ≡ promised.equal (as_kind k) }
 {
     match k {
-        Kind::Mon(_, _) => false,
-        Kind::Gap(_, _) => false,
         Kind::Reply(a, b, _, _) => a == b,
-        Kind::Bal(_, _) => false,
-        Kind::Day(_) => false,
+        _ => false,
     }
 }
+
+// `InRange` is a clause of those that need it, here and below: each takes the kind apart by a `match`, which a struct around it would make longer.
 
 // How many states a `bal` has: 'It has hi−lo+1 states'.
 fn band_states(lo: i64, hi: i64) -> usize
@@ -112,6 +63,7 @@ fn band_states(lo: i64, hi: i64) -> usize
 }
 
 // How many states the monitor has.
+#[tactic(auto, unfolding(promises::specs::Text::states_of))]
 pub fn states(k: Kind) -> usize
     requires { InRange (as_kind k) }
     ensures { result ≡ states_of (as_kind k) }
@@ -126,68 +78,15 @@ pub fn states(k: Kind) -> usize
 }
 
 // The state that it starts in.
+#[tactic(auto, unfolding(promises::specs::Text::start_of))]
 pub fn start(k: Kind) -> usize
     requires { InRange (as_kind k) }
     ensures { result ≡ start_of (as_kind k) }
 {
     match k {
         Kind::Mon(_, a) => a,
-        Kind::Gap(_, _) => 0,
-        Kind::Reply(_, _, _, _) => 0,
         Kind::Bal(lo, _) => (0 - lo) as usize, // the difference 0
-        Kind::Day(_) => 0,
-    }
-}
-
-// Whether it is a `mon`.
-fn is_mon(k: Kind) -> bool
-    ensures { result ≡ promised.is_mon (as_kind k) }
-{
-    match k {
-        Kind::Mon(_, _) => true,
-        Kind::Gap(_, _) => false,
-        Kind::Reply(_, _, _, _) => false,
-        Kind::Bal(_, _) => false,
-        Kind::Day(_) => false,
-    }
-}
-
-// How many states a `go` or `stop` line can name: those of a `mon`.
-pub fn mon_states(k: Kind) -> usize
-    ensures { result ≡ mon_states k }
-{
-    match k {
-        Kind::Mon(s, _) => s,
-        Kind::Gap(_, _) => 0,
-        Kind::Reply(_, _, _, _) => 0,
-        Kind::Bal(_, _) => 0,
-        Kind::Day(_) => 0,
-    }
-}
-
-// The band in which an `amp` line moves: that of a `bal`.
-pub fn band_of(k: Kind) -> Band
-    ensures { result ≡ band_of k }
-{
-    match k {
-        Kind::Mon(_, _) => Band { lo: 1, hi: 0 },
-        Kind::Gap(_, _) => Band { lo: 1, hi: 0 },
-        Kind::Reply(_, _, _, _) => Band { lo: 1, hi: 0 },
-        Kind::Bal(lo, hi) => Band { lo, hi },
-        Kind::Day(_) => Band { lo: 1, hi: 0 },
-    }
-}
-
-// How many steps the hours of an `open` line can be of: those of a `day`.
-pub fn day_steps(k: Kind) -> usize
-    ensures { result ≡ day_steps k }
-{
-    match k {
-        Kind::Mon(_, _) => 0,
-        Kind::Gap(_, _) => 0,
-        Kind::Reply(_, _, _, _) => 0,
-        Kind::Bal(_, _) => 0,
-        Kind::Day(t) => t,
+        _ => 0,
     }
 }
 
@@ -204,14 +103,15 @@ fn event_row(e: usize, x: usize, z: usize) -> Row
     }
 }
 
-// The row of a monitor that moves to t on every event; 16 is none.
+// The row of a monitor that moves to t on every event.
 fn same_row(t: usize) -> Row
     ensures { (u : ℕ) → row_at result u ≡ t }
 {
-    event_row(16, t, t)
+    event_row(0, t, t)
 }
 
 // The row of a `gap` in state s: 'The state of `gap` is the number of coming steps that bar e'.
+#[tactic(auto, unfolding(promises::specs::Rig::gap_next))]
 fn gap_row(e: usize, n: usize, s: usize) -> Row
     requires { 1 ≤ n }
     ensures { (u : ℕ) → row_at result u ≡ gap_next e n s u }
@@ -223,6 +123,7 @@ fn gap_row(e: usize, n: usize, s: usize) -> Row
 }
 
 // The row of a `reply` in state s: '0 with nothing due, 1 just after a, and one more each step'.
+#[tactic(auto, unfolding(promises::specs::Rig::reply_next))]
 fn reply_row(a: usize, b: usize, lo: usize, hi: usize, s: usize) -> Row
     requires { (hi ≤ 31) × (s ≤ 31) }
     ensures { (u : ℕ) → row_at result u ≡ reply_next a b lo hi s u }
@@ -244,7 +145,8 @@ fn reply_row(a: usize, b: usize, lo: usize, hi: usize, s: usize) -> Row
     }
 }
 
-// Where a `bal` moves from s by a step d: 'state j is the difference lo+j', 'admitted if the running difference stays from lo to hi'.
+// Where a `bal` moves from s by a step d: 'state j is the difference lo+j', 'admitted if the running difference stays from lo to hi'. As in `next_of`, the number of
+// its states, which is no state, stands for no move.
 fn bal_next(lo: i64, hi: i64, d: i64, s: usize) -> usize
     requires { InRange (bal lo hi) × (promised.outsideℤ (neg_ℤ (pos 15)) (pos 15) d ≡ false) × (s ≤ 31) }
     ensures { result ≡ bal_next lo hi d s }
@@ -261,11 +163,7 @@ fn day_next(t: usize, s: usize) -> usize
     requires { (s < t) × (t ≤ 32) }
     ensures { result ≡ suc s % t }
 {
-    let next = s + 1;
-    if next == t {
-        return 0;
-    }
-    next
+    (s + 1) % t
 }
 
 // Its row in state s, without further lines; a number that is no state where it does not admit the event.
@@ -282,27 +180,26 @@ fn row_in(k: Kind, s: usize) -> Row
     }
 }
 
-// 1 where its state s is marked without further lines, else 0.
-fn mark(k: Kind, s: usize) -> u8
-    ensures { result ≡ pick (marked_of (as_kind k) [] s) 1 0 }
+// Whether its state s is marked without further lines.
+#[tactic(auto, unfolding(promises::specs::Rig::marked_of))]
+fn is_marked(k: Kind, s: usize) -> bool
+    ensures { result ≡ marked_of (as_kind k) [] s }
 {
     match k {
-        Kind::Mon(_, _) => 0,
-        Kind::Gap(_, _) => 1,
-        Kind::Reply(_, _, _, _) => { if s == 0 { 1 } else { 0 } }
-        Kind::Bal(_, _) => 1,
-        Kind::Day(_) => 1,
+        Kind::Mon(_, _) => false,
+        Kind::Reply(_, _, _, _) => s == 0,
+        _ => true,
     }
 }
 
 // ---- the tables of a monitor
 
-// A state as an entry of the move table: 255 where it is none of the n.
+// A state as an entry of the move table: 255 where it is none of the n. The entry is a byte, and no option, as the record's table is one of bytes (`move_at`).
 fn entry(n: usize, t: usize) -> u8
     requires { n ≤ 32 }
     ensures { result ≡ entry_of n t }
 {
-    if t < n { t as u8 } else { 255 }
+    if t < n { t as u8 } else { NO_MOVE }
 }
 
 // Writes the move x on event e, if there can be such an event, into the row of entries from `at` on.
@@ -321,16 +218,14 @@ fn fill_row(moves: &mut [u8], at: usize, r: Row, n: usize)
     ensures { moves.new ≡ overwrite moves.old (λ u. at + u) (λ u. entry_of n (row_at r u)) 16 }
 {
     let z = entry(n, r.z);
-    for u in 0..16 {
-        moves[at + u] = z;
-    }
+    moves[at..at + 16].fill(z);
     put_move(moves, at, r.b, entry(n, r.y));
     put_move(moves, at, r.a, entry(n, r.x)); // where both are one event, this move stands
 }
 
-// The moves of monitor m from each of its states.
-fn fill_moves(moves: &mut [u8], m: usize, k: Kind)
-    requires moves_len { (length moves.old ≡ 2048) × (m < 4) }
+// The moves of monitor m from each of its states. By the state's number s, here and below, which is where a move or a mark stands and what it is of.
+fn fill_moves(moves: &mut [u8; 2048], m: usize, k: Kind)
+    requires place { m < 4 }
     requires in_range { InRange (as_kind k) }
     ensures { moves.new ≡ with_rows moves.old m (as_kind k) (states_of (as_kind k)) }
 {
@@ -342,24 +237,25 @@ fn fill_moves(moves: &mut [u8], m: usize, k: Kind)
 }
 
 // The marks of the states of monitor m.
-fn fill_marks(stops: &mut [u8], m: usize, k: Kind)
-    requires stops_len { (length stops.old ≡ 128) × (m < 4) }
+fn fill_marks(stops: &mut [u8; 128], m: usize, k: Kind)
+    requires place { m < 4 }
     requires in_range { InRange (as_kind k) }
     ensures { stops.new ≡ overwrite stops.old (stop_index m) (λ s. pick (marked_of (as_kind k) [] s) 1 0) (states_of (as_kind k)) }
 {
     for s in 0..states(k) {
-        stops[m * 32 + s] = mark(k, s);
+        stops[m * 32 + s] = u8::from(is_marked(k, s));
     }
 }
 
 // Writes what the line says into the tables of monitor m: all moves and marks of its kind. A `mon` line leaves them as they are.
-pub fn fill_tables(moves: &mut [u8], stops: &mut [u8], m: usize, k: Kind)
-    requires moves_len { (length moves.old ≡ 2048) × (length stops.old ≡ 128) × (m < 4) }
+#[tactic(auto, unfolding(crate::specs::Kinds::kind_moves, crate::specs::Kinds::kind_stops))]
+pub fn fill_tables(moves: &mut [u8; 2048], stops: &mut [u8; 128], m: usize, k: Kind)
+    requires place { m < 4 }
     requires in_range { InRange (as_kind k) }
     ensures moves_after { moves.new ≡ kind_moves moves.old m (as_kind k) }
     ensures stops_after { stops.new ≡ kind_stops stops.old m (as_kind k) }
 {
-    if is_mon(k) {
+    if matches!(k, Kind::Mon(_, _)) {
         return;
     }
     fill_moves(moves, m, k);
@@ -369,8 +265,8 @@ pub fn fill_tables(moves: &mut [u8], stops: &mut [u8], m: usize, k: Kind)
 // ---- the moves on one event
 
 // The moves of monitor m, a `bal` from lo to hi, on event e of the step d.
-pub fn fill_step(moves: &mut [u8], m: usize, lo: i64, hi: i64, e: usize, d: i64)
-    requires moves_len { (length moves.old ≡ 2048) × (m < 4) × (e < 16) }
+pub fn fill_step(moves: &mut [u8; 2048], m: usize, lo: i64, hi: i64, e: usize, d: i64)
+    requires place { (m < 4) × (e < 16) }
     requires in_range { InRange (bal lo hi) × (promised.outsideℤ (neg_ℤ (pos 15)) (pos 15) d ≡ false) }
     ensures { moves.new ≡ with_step moves.old m (bal lo hi) e d }
 {
@@ -381,31 +277,30 @@ pub fn fill_step(moves: &mut [u8], m: usize, lo: i64, hi: i64, e: usize, d: i64)
     }
 }
 
-// Whether step s is one of the hours from a up to but not including b.
-fn in_hours(a: usize, b: usize, s: usize) -> bool
-    ensures { result ≡ (leb a s && ltb s b) }
-{
-    if s < a {
-        return false;
-    }
-    s < b
-}
-
 // The move from step s of a day of t steps, with the hours of one `open` line more: to the next step in them; from another step as before, or none if the line
 // is the first of its event.
 fn hour(t: usize, a: usize, b: usize, first: bool, s: usize, before: u8) -> u8
     requires { (s < t) × (t ≤ 32) }
     ensures { result ≡ hour_of t a b first s before }
 {
-    if in_hours(a, b, s) {
+    if (a..b).contains(&s) {
         return day_next(t, s) as u8;
     }
-    if first { 255 } else { before }
+    if first { NO_MOVE } else { before }
 }
 
 // The moves of monitor m, a `day` of t steps, on event e with one `open` line more: 'Several lines add up', and the first closes the steps not in its hours.
-pub fn fill_hours(moves: &mut [u8], m: usize, t: usize, e: usize, a: usize, b: usize, first: bool)
-    requires { (length moves.old ≡ 2048) × (m < 4) × (e < 16) × (t ≤ 32) }
+// (The loop of `fill_step` with another entry: one function would take it as a closure, and a clause of it.)
+pub fn fill_hours(
+    moves: &mut [u8; 2048],
+    m: usize,
+    t: usize,
+    e: usize,
+    a: usize,
+    b: usize,
+    first: bool,
+)
+    requires { (m < 4) × (e < 16) × (t ≤ 32) }
     ensures { moves.new ≡ with_hours moves.old m t e a b first }
 {
     for s in 0..t {

@@ -1,3 +1,3 @@
--- The laws of this crate, and examples of its definitions.
+-- The lemmas of this crate, and examples of its definitions.
 pub mod Pieces
 pub mod Examples

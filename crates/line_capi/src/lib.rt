@@ -5,7 +5,7 @@ ghost use Rattle.std.specs.Prelude.{◌≡◌, ◌++◌, length, drop};
 ghost use Rattle.line_capi.specs.Room.{line_within};
 
 // Writes the line of an index and its events at the front of `out` and gives its length. Where `out` has fewer than 21 + 4 × events
-// bytes it gives 0 and writes nothing. The rest of `out` keeps its contents.
+// bytes it gives 0, since C takes no Option, and writes nothing. The rest of `out` keeps its contents.
 #[unsafe(no_mangle)]
 pub extern "C" fn wandukhai_line(index: u64, events: &[u8], out: &mut [u8]) -> usize
     ensures value { result ≡ length (line_within index events.now (length out.old)) }

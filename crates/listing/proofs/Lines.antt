@@ -1,17 +1,15 @@
 -- A cursor stands at the first line when it is begun, and one line further after each step. Assumes nothing.
 use mathlib.Core.Path.{◌≡◌, sym, ap, ◌∙◌}
-use mathlib.Core.Logic.{⊎_elim}
-use mathlib.Core.List.{List, []}
-use Prim.Native.Nat.{ℕ, suc, ◌+◌, ◌-◌, ◌*◌, ◌≤◌, ◌<◌, min}
+use mathlib.Core.List.{List}
+use Prim.Native.Nat.{ℕ, suc, ◌+◌, ◌-◌, ◌≤◌, ◌<◌}
 use native.Mathlib.Omega.{arith}
 use lib.ListN.{length, take, length-take}
 use lib.Seq.{take_at}
-use Rattle.lists.proofs.Tests.{split}
 use Rattle.promises.specs.Rig.{rig_automaton, start}
-use Rattle.listing.specs.Listing.{text, answer, head_line, horizon, scenario_line}
+use Rattle.listing.specs.Listing.{text, answer, head_line, follow, horizon, scenario_line}
 use Rattle.listing.specs.Printing.{line_at, Leads, Begins, StandsAt}
 use Rattle.listing.specs.declared.Cursor.{Cursor}
-use Rattle.listing.proofs.Whole.{later_line, lines_end}
+use Rattle.listing.proofs.Whole.{later_line}
 
 module _ (input : List ℕ) (c : Cursor) (cells table : List ℕ) where
   pub stands_first : (line left : List ℕ) → length cells ≡ 8192 → Begins (answer input) (rig_automaton (text input)) (start (text input)) (horizon input) c line left cells table
@@ -50,26 +48,13 @@ module _ (input : List ℕ) (c : Cursor) (cells table : List ℕ) where
         line_is : scenario_line (text input) c.horizon c.index ≡ line_at input (suc k)
         line_is = rw ((s.serves (omega arith)).0, at) (sym (later_line input k (omega (arith, s.comes_next, s.follows))))
 
-    pub stands_ended : c.lines ≤ c.index → StandsAt input (suc k) (record { length = 0; index = c.index; lines = c.lines; horizon = c.horizon; states = c.states; start = c.start }) cells table line
-    stands_ended le = record {
-      limits = record { short = s.limits.short; start_below = s.limits.start_below; few_states = s.limits.few_states; enough = s.limits.enough; few_lines = s.limits.few_lines };
-      told = rw none_left;
-      written = rw none_left;
-      comes_next = omega (arith, s.comes_next);
-      follows = s.follows;
-      idle = s.idle;
-      serves = λ some. let z = s.serves some in (z.0, record { starts = z.1.starts; exact = z.1.exact; below = z.1.below });
-    }
-      where
-        none_left : line_at input (suc k) ≡ []
-        none_left = lines_end input (suc k) (omega (arith, s.comes_next, s.follows))
+    -- whether a line follows
+    pub ended : c.lines ≤ c.index → follow (answer input) ≤ k
+    ended le = omega (arith, s.comes_next, s.follows)
+
+    pub going : c.index < c.lines → k < follow (answer input)
+    going lt = omega (arith, s.comes_next, s.follows)
 
     -- a step brings the end nearer
-    pub nearer : (r : Cursor) (left : List ℕ) → 0 < c.length → StandsAt input (suc k) r cells table left → 2 * (r.lines - r.index) + min r.length 1 < 2 * (c.lines - c.index) + min c.length 1
-    nearer r left some t = ⊎_elim ended going (split c.lines k)
-      where
-        ended : c.lines ≤ k → 2 * (r.lines - r.index) + min r.length 1 < 2 * (c.lines - c.index) + min c.length 1
-        ended le = omega (arith, s.comes_next, t.comes_next, s.follows, t.follows, t.told, ap length (lines_end input (suc k) (omega (arith, s.follows))))
-
-        going : k < c.lines → 2 * (r.lines - r.index) + min r.length 1 < 2 * (c.lines - c.index) + min c.length 1
-        going lt = omega (arith, s.comes_next, t.comes_next, s.follows, t.follows)
+    pub nearer : (r : Cursor) (left : List ℕ) → k < follow (answer input) → StandsAt input (suc k) r cells table left → r.lines - r.index < c.lines - c.index
+    nearer r left lt t = omega (arith, s.comes_next, t.comes_next, s.follows, t.follows)

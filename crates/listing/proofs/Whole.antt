@@ -6,7 +6,7 @@
 use mathlib.Core.Path.{◌≡◌, refl, sym, ap, ap₂, ◌∙◌}
 use mathlib.Core.Logic.{◌⊎◌, inl, inr}
 use mathlib.Core.List.{List, [], ◌∷◌, ◌++◌, append_assoc}
-use mathlib.Core.Option.{Option, none, some}
+use mathlib.Core.Option.{Option, none, some, none-ne-some}
 use Prim.Native.Nat.{ℕ, zero, suc, ◌+◌, ◌≤◌, ◌<◌}
 use native.Mathlib.Omega.{arith}
 use lib.ListN.{length, take, drop, length-drop}
@@ -21,10 +21,9 @@ use Rattle.promises.specs.Text.{same}
 use Rattle.promises.specs.Reading.{reading}
 use Rattle.promises.specs.Calls.{sized_for, count}
 use Rattle.decoding.proofs.Numbers.{number-long}
-use Rattle.listing.specs.Listing.{first_line, asked_in, asked, text, owned, answer, head_line, follow, horizon, scenario_line, listing}
+use Rattle.listing.specs.Listing.{asked_in, asked, text, owned, answer, head_line, follow, horizon, scenario_line, listing}
 use Rattle.listing.specs.Printing.{line_at}
-use Rattle.listing.proofs.Asking.{word}
-use Rattle.listing.proofs.Beginning.{asked-unended, given}
+use Rattle.listing.proofs.Asking.{word, asked-ended, asked-unended}
 
 -- ---- line by line
 
@@ -83,10 +82,6 @@ asked-long : (l : List ℕ) → 9 < length l → asked_in l ≡ none
 unfolding asked_in
 asked-long l h = case (same (take 4 l) word) (λ p. rw p (number-long (drop 4 l) (omega (arith, length-drop 4 l)))) (λ p. rw p)
 
-asked-ended : (input : List ℕ) → index_of input 10 < length input → asked input ≡ asked_in (take (index_of input 10) input)
-unfolding asked first_line
-asked-ended input lt = rw (lt-ltb (index_of input 10) (length input) lt)
-
 asked_far : (input : List ℕ) → 9 < index_of input 10 → asked input ≡ none
 asked_far input far = go (split (length input) (index_of input 10))
   where
@@ -140,7 +135,7 @@ module _ (input : List ℕ) (n : ℕ) (long : 65546 ≤ n) (past : n ≤ length 
           (answer-long input h le (omega arith) q)
         where
           within : (10 ≤ index_of input 10) ⊎ (index_of input 10 < 10) → index_of input 10 ≤ 9
-          within (inl far) = let z : ◌≡◌ {A = ℕ} 0 1 = ap given (sym (asked_far input (omega arith)) ∙ q) in absurd (omega arith)
+          within (inl far) = absurd (none-ne-some h (sym (asked_far input (omega arith)) ∙ q))
           within (inr lt) = omega arith
 
   pub cut_long : listing (take n input) ≡ listing input

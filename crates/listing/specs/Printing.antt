@@ -1,5 +1,4 @@
 -- The listing as a cursor writes it, line by line.
---   asked_as o at            == the horizon o, with the place where the rig text begins, as `ask` tells it
 --   line_at i k              == line k of the listing for the input i, from 0; empty once the listing has ended
 --   OwnedBuffers c t l      == the cells, the table and the line have the lengths that the program owns
 --   WithinLimits c room     == the cells of c's horizon and joint states are among `room` cells, and within the limits of paper 01
@@ -7,30 +6,24 @@
 --   Lists A x c cells table == the cells and the table serve the lines that c tells, for the automaton A from its start x
 --   EventsBy t .. i es left == the scenario of index i is at the front of `left`
 --   Begins a A x h c d l .. == c tells the first line for the answer a, at the front of l; where lines follow it, they are served, for the horizon h
---   BeginsRefused, BeginsCounted, BeginsText == the same for a refusal, for the automaton of a record, and for a text
+--   BeginsRefused, BeginsText == the same for a refusal, and for a text that is served
 --   LeadsNext c .. n d l    == the line of c's next index is at the front of l
 --   Serves t c cells table  == the cells and the table serve the lines that c tells, for the text t
 --   StandsAt i k c .. l     == the line k of the listing for i stands at the front of l, and c tells what comes after it
---   Stands, Moves           == c stands at some line; r stands at the line after it
+--   Stands                  == c stands at some line
+--   Moves c o ..            == o stands at the line after the one at which c stands; or is none, where no line follows
 -- What stands in the line's buffer past the line, and in the table past its rows, is left free: nobody reads it. Assumes nothing.
-use Rattle.std.specs.Prelude.{◌≡◌, List, [], ◌++◌, ℕ, zero, suc, ◌*◌, ◌≤◌, ◌<◌, min, length, take, drop, ltb}
-use Rattle.std.proofs.Math.Option.{Option, none, some}
+use Rattle.std.specs.Prelude.{◌≡◌, List, [], ◌++◌, ℕ, zero, suc, ◌*◌, ◌≤◌, ◌<◌, min, length, take, drop, ltb, Option, None, Some}
 use Rattle.lists.specs.Lists.{pick}
 use Rattle.automaton.specs.Automaton.{Automaton}
 use Rattle.automaton.specs.Counting.{N}
 use Rattle.automaton.specs.Ranking.{unrank}
 use Rattle.promises.specs.Answer.{Answer, refused}
 use Rattle.promises.specs.Rig.{rig_automaton, start}
-use Rattle.promises.specs.Calls.{count_from, count}
+use Rattle.promises.specs.Calls.{count}
 use Rattle.ranking.specs.Ranks.{Exact}
 use Rattle.listing.specs.Listing.{text, answer, head_line, follow, horizon, scenario_line}
-use Rattle.listing.specs.declared.Asked.{Asked}
-use Rattle.listing.specs.declared.Asked.TheVariants.{Horizon, Bad}
 use Rattle.listing.specs.declared.Cursor.{Cursor}
-
-abbrev pub asked_as : Option ℕ → ℕ → Asked
-asked_as none at = Bad
-asked_as (some h) at = Horizon h at
 
 unfoldable pub line_at : List ℕ → ℕ → List ℕ
 line_at input zero = head_line (answer input)
@@ -77,10 +70,6 @@ pub record Begins (a : Answer) (A : Automaton) (x h : ℕ) (c : Cursor) (line le
 abbrev pub BeginsRefused : ℕ → ℕ → Cursor → List ℕ → List ℕ → Type 0
 BeginsRefused number place c line left = (A : Automaton) (x h : ℕ) (cells table : List ℕ) → Begins (refused number place) A x h c line left cells table
 
--- what Count answers from row 9 on, from the start x
-abbrev pub BeginsCounted : Automaton → ℕ → ℕ → Cursor → List ℕ → List ℕ → List ℕ → List ℕ → Type 0
-BeginsCounted A x h c line left cells table = Begins (count_from A h x) A x h c line left cells table
-
 -- the line of the index that comes next, wherever the lines are served
 abbrev pub LeadsNext : Cursor → List ℕ → List ℕ → ℕ → List ℕ → List ℕ → Type 0
 LeadsNext c cells table n line left = (t : List ℕ) → Serves t c cells table → c.index < c.lines → Leads (scenario_line t c.horizon c.index) n line left
@@ -101,6 +90,7 @@ pub record StandsAt (input : List ℕ) (k : ℕ) (c : Cursor) (cells table line 
 abbrev pub Stands : Cursor → List ℕ → List ℕ → List ℕ → Type 0
 Stands c cells table line = (input : List ℕ) × ((k : ℕ) × StandsAt input k c cells table line)
 
--- wherever c stands, r stands one line further, with the line in `left`
-abbrev pub Moves : Cursor → Cursor → List ℕ → List ℕ → List ℕ → List ℕ → Type 0
-Moves c r cells table line left = (input : List ℕ) (k : ℕ) → StandsAt input k c cells table line → StandsAt input (suc k) r cells table left
+-- wherever c stands, r stands one line further, with the line in `left`; where no line follows, the line's buffer is as it was
+abbrev pub Moves : Cursor → Option Cursor → List ℕ → List ℕ → List ℕ → List ℕ → Type 0
+Moves c None cells table line left = (input : List ℕ) (k : ℕ) → StandsAt input k c cells table line → (follow (answer input) ≤ k) × (left ≡ line)
+Moves c (Some r) cells table line left = (input : List ℕ) (k : ℕ) → StandsAt input k c cells table line → (k < follow (answer input)) × StandsAt input (suc k) r cells table left

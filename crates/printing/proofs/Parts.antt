@@ -12,34 +12,12 @@ use Rattle.line.specs.Line.{line_from, line_of, numbers_of}
 use Rattle.listing.specs.Listing.{text, answer, head_line, follow, horizon, scenario_line, listing}
 use Rattle.listing.specs.Printing.{line_at, StandsAt}
 use Rattle.listing.specs.declared.Cursor.{Cursor}
-use Rattle.listing.proofs.Whole.{later_line, lines_end}
+use Rattle.listing.proofs.Whole.{later_line}
 use Rattle.printing.specs.Part.{chosen, lent, part}
 
 range_more : (f : ℕ → List ℕ) (n : ℕ) → concat_map f (range (suc n)) ≡ concat_map f (range n) ++ f n
 unfolding range
 range_more f n = concat_map_snoc f (range n) n
-
--- ---- no line is empty
-
-from_some : (first ns : List ℕ) → 0 < length (line_from first ns)
-from_some first ns = rw (length-append, length-append) (omega arith)
-
-numbers_some : (word : List ℕ) (a b : ℕ) → 0 < length (numbers_of word a b)
-unfolding numbers_of
-numbers_some word a b = from_some word (a ∷ b ∷ [])
-
-head_some : (a : Answer) → 0 < length (head_line a)
-head_some (served values) = numbers_some (bytes "count") _ _
-head_some (refused number place) = numbers_some (bytes "no") number place
-
-scenario_some : (t : List ℕ) (h k : ℕ) → 0 < length (scenario_line t h k)
-unfolding scenario_line line_of
-scenario_some t h k = from_some _ _
-
-line_some : (input : List ℕ) (k : ℕ) → k ≤ follow (answer input) → 0 < length (line_at input k)
-unfolding line_at
-line_some input zero le = head_some (answer input)
-line_some input (suc k) le = rw (lt-ltb k (follow (answer input)) le) (scenario_some (text input) (horizon input) k)
 
 -- ---- the lines before line k
 
@@ -89,33 +67,23 @@ module _ (from to : ℕ) (input : List ℕ) where
 
   -- where a cursor stands
   module _ (k : ℕ) (c : Cursor) (cells table line : List ℕ) (s : StandsAt input k c cells table line) where
-    pub not_past : 0 < c.length → k ≤ follow (answer input)
-    not_past some = go (split (suc (follow (answer input))) k)
-      where
-        go : (suc (follow (answer input)) ≤ k) ⊎ (k < suc (follow (answer input))) → k ≤ follow (answer input)
-        go (inl past) = omega (arith, s.told, ap length (lines_end input k past))
-        go (inr lt) = omega arith
-
-    line_lent : 0 < c.length → lent from to c.index (take c.length line) ≡ lent from to k (line_at input k)
-    line_lent some =
-        let at : c.index ≡ k = omega (arith, s.comes_next, s.follows, not_past some) in
+    line_lent : k ≤ follow (answer input) → lent from to c.index (take c.length line) ≡ lent from to k (line_at input k)
+    line_lent le =
+        let at : c.index ≡ k = omega (arith, s.comes_next, s.follows) in
         ap (λ i. lent from to i (take c.length line)) at ∙ ap (lent from to k) s.written
 
     -- the line is written, if it is one of the part, after those before it
-    pub line_next : 0 < c.length → before (suc k) ≡ before k ++ lent from to c.index (take c.length line)
-    line_next some = before_next k ∙ ap (λ (l : List ℕ). before k ++ l) (sym (line_lent some))
+    pub line_next : k ≤ follow (answer input) → before (suc k) ≡ before k ++ lent from to c.index (take c.length line)
+    line_next le = before_next k ∙ ap (λ (l : List ℕ). before k ++ l) (sym (line_lent le))
 
-    pub line_begins : 0 < c.length → (rest : List ℕ) × (part input from to ≡ (before k ++ lent from to c.index (take c.length line)) ++ rest)
-    line_begins some =
-        let later = begins (suc (follow (answer input))) (suc k) (omega (arith, not_past some)) in
-        (later.0, sym before_end ∙ later.1 ∙ ap (λ (l : List ℕ). l ++ later.0) (line_next some))
+    pub line_begins : k ≤ follow (answer input) → (rest : List ℕ) × (part input from to ≡ (before k ++ lent from to c.index (take c.length line)) ++ rest)
+    line_begins le =
+        let later = begins (suc (follow (answer input))) (suc k) (omega arith) in
+        (later.0, sym before_end ∙ later.1 ∙ ap (λ (l : List ℕ). l ++ later.0) (line_next le))
 
-    pub all_before : k ≤ suc (follow (answer input)) → c.length ≡ 0 → before k ≡ part input from to
-    all_before le none = go (split (suc (follow (answer input))) k)
-      where
-        go : (suc (follow (answer input)) ≤ k) ⊎ (k < suc (follow (answer input))) → before k ≡ part input from to
-        go (inl past) = let last : k ≡ suc (follow (answer input)) = omega arith in ap before last ∙ before_end
-        go (inr lt) = absurd (omega (arith, s.told, line_some input k (omega arith)))
+    -- after the last line all are written
+    pub all_before : k ≤ follow (answer input) → follow (answer input) ≤ k → before (suc k) ≡ part input from to
+    all_before le past = let last : k ≡ follow (answer input) = omega arith in ap (λ n. before (suc n)) last ∙ before_end
 
 -- ---- the whole
 

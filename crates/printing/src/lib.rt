@@ -10,23 +10,25 @@ ghost use Rattle.printing.specs.Part.{AppendsFront, lent, part};
 use std::io;
 use std::io::Write;
 
-// Writes all of `bytes`. A write that fails, or takes nothing, ends it.
+// Writes all of `bytes`. A write that fails, or takes nothing, ends it. (The library's `write_all` does not tell what was written before an `Err`, as
+// the clause `err` does.)
 fn write_whole<W: Write>(out: &mut W, bytes: &[u8]) -> io::Result<()>
     ensures ok { OnOk result (Appends (W.contents out.old) (W.contents out.new) bytes.now) }
     ensures err { OnErr result (AppendsFront (W.contents out.old) (W.contents out.new) bytes.now) }
 {
-    let mut done = 0;
-    while done < bytes.len() {
-        let n = out.write(&bytes[done..])?;
+    let mut left = bytes;
+    while !left.is_empty() {
+        let n = out.write(left)?;
         if n == 0 {
             return Err(io::Error::from(io::ErrorKind::WriteZero));
         }
-        done += n;
+        left = &left[n..];
     }
     Ok(())
 }
 
 // Writes a line: the first one, and of those that follow it, which are counted from 1, those past `from` and up to `to`.
+// (`count` is 0 for the first line, as `lent`, which the clauses cite, has it.)
 fn write_between<W: Write>(
     out: &mut W,
     line: &[u8],
@@ -37,13 +39,8 @@ fn write_between<W: Write>(
     ensures ok { OnOk result (Appends (W.contents out.old) (W.contents out.new) (lent from to count line.now)) }
     ensures err { OnErr result (AppendsFront (W.contents out.old) (W.contents out.new) (lent from to count line.now)) }
 {
-    if 0 < count {
-        if count <= from {
-            return Ok(());
-        }
-        if to < count {
-            return Ok(());
-        }
+    if 0 < count && (count <= from || to < count) {
+        return Ok(());
     }
     write_whole(out, line)
 }
@@ -58,12 +55,11 @@ pub fn print_part<W: Write>(out: &mut W, input: &[u8], from: u64, to: u64) -> io
     let mut line = [0u8; 4096];
     let mut cursor = listing::begin(input, &mut cells, &mut table, &mut line);
     loop {
-        let n = cursor.length;
-        if n == 0 {
+        write_between(out, &line[..cursor.length], cursor.index, from, to)?;
+        let Some(next) = listing::next(cursor, &cells, &table, &mut line) else {
             return Ok(());
-        }
-        write_between(out, &line[..n], cursor.index, from, to)?;
-        cursor = listing::next(cursor, &cells, &table, &mut line);
+        };
+        cursor = next;
     }
 }
 

@@ -7,7 +7,6 @@ use mathlib.Core.List.{List, [], ◌∷◌}
 use Prim.Native.Nat.{ℕ, suc, ◌+◌, ◌-◌, ◌^◌, ◌≤◌, ◌<◌, min}
 use native.Mathlib.Omega.{arith}
 use native.Mathlib.Numerals.{add-one}
-use native.Mathlib.Nat.{sub-zero, zero-add}
 use lib.ListN.{length, get_or, drop, length-drop, drop_of_length-le}
 use lib.Seq.{drop-cons}
 use borrow.Author.Tests.{lt-ltb, le-ltb}
@@ -20,7 +19,7 @@ use Rattle.automaton.proofs.Ranking.{before-room}
 use Rattle.counting.proofs.Sums.{N_all}
 use Rattle.ranking.specs.declared.Found.{Found}
 use Rattle.ranking.specs.Ranks.{FoundEvent, ranked_as}
-use Rattle.ranking.specs.declared.Ranked.TheVariants.{Index, Violation}
+use Rattle.std.specs.Prelude.{Ok, Err}
 
 -- the first k events of s lead from x to `at` by live states, and their counts before are `index` together
 pub record Along (A : Automaton) (x : ℕ) (s : List ℕ) (k at index : ℕ) : Type 0 where
@@ -29,17 +28,14 @@ pub record Along (A : Automaton) (x : ℕ) (s : List ℕ) (k at index : ℕ) : T
   pub room : index + N A (length s - k) at ≤ N A (length s) x
 
 module _ (A : Automaton) (x : ℕ) (s : List ℕ) where
-  pub along_start : Along A x s 0 x 0
-  along_start = record { first_violation_on = sym (zero-add _); rank_on = sym (zero-add _); room = rw (sub-zero (length s)) (omega arith) }
-
-  pub along_end : (k at index : ℕ) → k ≡ length s → Along A x s k at index → Index index ≡ ranked_as A x s
+  pub along_end : (k at index : ℕ) → k ≡ length s → Along A x s k at index → Ok index ≡ ranked_as A x s
   unfolding ranked_as first_violation rank
   along_end k at index e is =
       let none : drop k s ≡ [] = drop_of_length-le s {i = k} (omega arith) in
       let o : first_violation A x s ≡ k + 0 = is.first_violation_on ∙ ap (λ (l : List ℕ). k + first_violation A at l) none in
       let r : rank A x s ≡ index + 0 = is.rank_on ∙ ap (λ (l : List ℕ). index + rank A at l) none in
       let i : index ≡ rank A x s = omega arith in
-      rw (le-ltb (first_violation A x s) (length s) (omega arith)) (ap Index i)
+      rw (le-ltb (first_violation A x s) (length s) (omega arith)) (ap Ok i)
 
   module _ (k at index : ℕ) (hk : k < length s) (least : N A (length s) x < most) (is : Along A x s k at index) where
     rest : drop k s ≡ get_or s k 0 ∷ drop (suc k) s
@@ -51,7 +47,7 @@ module _ (A : Automaton) (x : ℕ) (s : List ℕ) where
     pub along_least : N A (length s - 1 - k + 1) at < most
     along_least = let q = ap (λ (n : ℕ). N A n at) more_left in omega (arith, is.room)
 
-    pub along_off : live A (A.next at (get_or s k 0)) ≡ false → Violation k ≡ ranked_as A x s
+    pub along_off : live A (A.next at (get_or s k 0)) ≡ false → Err k ≡ ranked_as A x s
     unfolding ranked_as first_violation
     along_off dead =
         let z : first_violation A at (get_or s k 0 ∷ drop (suc k) s) ≡ 0 = rw dead in

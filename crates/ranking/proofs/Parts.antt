@@ -4,9 +4,12 @@ use mathlib.Core.Logic.{◌⊎◌, inl, inr}
 use mathlib.Core.List.{List, ◌++◌, append_assoc, append-nil}
 use Prim.Native.Nat.{ℕ, zero, suc, ◌+◌, ◌-◌, ◌*◌, ◌≤◌, ◌<◌}
 use native.Mathlib.Omega.{arith}
-use native.Mathlib.Nat.{add-mul, zero-add, add-zero}
-use lib.ListN.{length, get_or, take, drop, length-append, length-take, length-drop, get_or-append}
-use lib.Seq.{ext_get_or, get_or-drop, drop-drop, drop_at, take-add, take_all}
+use native.Mathlib.Nat.{mul-le-mul_right, add-mul, zero-add, add-zero}
+use Rattle.std.specs.Int.{div_ceil}
+use Rattle.std.proofs.lemmas.Grind.{div_ceil_times}
+use Rattle.std.proofs.lemmas.List.{drop-take}
+use lib.ListN.{length, get_or, take, drop, length-append, get_or-append}
+use lib.Seq.{ext_get_or, get_or-drop, drop-drop, drop_at}
 use Rattle.lists.specs.Lists.{stack}
 use Rattle.lists.proofs.Tests.{split}
 use Rattle.lists.proofs.Splices.{splice_before, splice_in}
@@ -17,8 +20,18 @@ use Rattle.promises.specs.Calls.{row}
 use Rattle.counting.specs.Tabled.{rows_from}
 use Rattle.counting.proofs.Rows.{length_rows_from}
 use Rattle.ranking.specs.Ranks.{HoldsRows, Exact, Unranked, Begun}
-use Rattle.ranking.proofs.Rows.{rows-within, rows_fewer}
+use Rattle.ranking.proofs.Rows.{rows_fewer}
 use Rattle.ranking.proofs.Walk.{length-unrank}
+
+-- ---- h things in parts of m
+
+pub parts_start : (m h k n : ℕ) → 0 < m → n ≡ div_ceil h m → k < n → k * m < h
+parts_start m h k n some is lt =
+    let next : (k + 1) * m ≤ n * m = mul-le-mul_right m (omega arith) in
+    omega (arith, add-mul k 1 m, ap (λ (j : ℕ). j * m) is, div_ceil_times h m some)
+
+pub parts_end : (m h k n : ℕ) → 0 < m → n ≡ div_ceil h m → n ≤ k → h ≤ k * m
+parts_end m h k n some is le = omega (arith, mul-le-mul_right m le, ap (λ (j : ℕ). j * m) is, div_ceil_times h m some)
 
 -- ---- the rows of a part
 
@@ -31,16 +44,13 @@ module _ (A : Automaton) where
       rw (e, zero-add (b + n)) (ap (λ (l : List ℕ). l ++ row A (b + n)) (rows_from_add b n) ∙ append_assoc (rows_from A 0 b) (rows_from A b n) (row A (b + n)))
 
   -- the rows from b on, as they are lent
-  pub rows_part : (p b n h : ℕ) (cells : List ℕ) → A.states ≡ p → b + n ≤ h → b * p ≤ length cells → HoldsRows A 0 h cells → HoldsRows A b n (take (length cells - b * p) (drop (b * p) cells))
+  pub rows_part : (p b n h : ℕ) (cells : List ℕ) → A.states ≡ p → b + n ≤ h → HoldsRows A 0 h cells → HoldsRows A b n (drop (b * p) cells)
   unfolding HoldsRows
-  rows_part p b n h cells wide le room holds =
+  rows_part p b n h cells wide le holds =
       let s = A.states in
       let few : take ((b + n) * s) cells ≡ rows_from A 0 (b + n) = rows_fewer A 0 cells (b + n) h le holds in
-      let lent : take (length cells - b * p) (drop (b * p) cells) ≡ drop (b * s) cells =
-      take_all (length cells - b * p) (drop (b * p) cells) (rw length-drop (omega arith)) ∙ ap (λ (k : ℕ). drop (b * k) cells) (sym wide) in
-      let own : length (take (b * s) cells) ≡ b * s = let q = ap (λ (k : ℕ). b * k) wide in simp length-take (omega arith) in
-      ap (take (n * s)) lent ∙ sym (drop_at (take (b * s) cells) (take (n * s) (drop (b * s) cells)) (b * s) own)
-      ∙ ap (drop (b * s)) (sym (take-add (b * s) (n * s) cells) ∙ ap (λ (k : ℕ). take k cells) (sym (add-mul b n s)) ∙ few ∙ rows_from_add b n)
+      ap (λ (k : ℕ). take (n * s) (drop (b * k) cells)) (sym wide) ∙ sym (drop-take (b * s) (n * s) cells)
+      ∙ ap (drop (b * s)) (ap (λ (k : ℕ). take k cells) (sym (add-mul b n s)) ∙ few ∙ rows_from_add b n)
       ∙ drop_at (rows_from A 0 b) (rows_from A b n) (b * s) (length_rows_from A s refl 0 b)
 
 -- ---- the scenario
@@ -55,10 +65,6 @@ unranked_long A b n x i last s l below part =
     omega arith
 
 module _ (A : Automaton) (x h i : ℕ) where
-  -- nothing is written yet
-  pub begun_first : (o : ℕ) (out : List ℕ) → N A h x < most → i < N A h x → Begun A x h i 0 h x i o out
-  begun_first o out few below = record { not_cut_off = few; is_below = below; written = λ j lt. absurd (omega arith); rest = refl }
-
   -- n events more: the part from o + at was lent, and came back as `last`
   module _ (at b n s l o : ℕ) (out last : List ℕ) (s' l' : ℕ) (room : o + at + n ≤ length out) (is : Begun A x h i at (b + n) s l o out) (part : Unranked A b n s l last s' l') where
     long : length last ≡ n
@@ -92,29 +98,28 @@ module _ (A : Automaton) (x h i : ℕ) where
   begun_all b s l out long below is =
       ext_get_or 0 out (unrank A h x i) (long ∙ sym (length-unrank A h x i below)) (λ j lt. ap (λ (k : ℕ). get_or out k 0) (sym (zero-add j)) ∙ is.written j (omega arith))
 
-  -- the next part, of m events: what it is unranked by, and what it leaves
-  module _ (at m s l : ℕ) (out : List ℕ) (le : at + m ≤ h) (is : Begun A x h i at (h - at) s l 0 out) {n : ℕ} (n-is : n ≡ m) where
-    left_is : h - at ≡ h - (at + m) + n
+  -- the next part, up to `to`: what it is unranked by, and what it leaves
+  module _ (at to s l : ℕ) (out : List ℕ) (some : at ≤ to) (within : to ≤ h) (is : Begun A x h i at (h - at) s l 0 out) {n : ℕ} (n-is : n ≡ to - at) where
+    left_is : h - at ≡ h - to + n
     left_is = omega arith
 
-    pub next_exact : (p : ℕ) (t cells : List ℕ) → h * p ≤ length cells → Exact A p 0 h x t cells → Exact A p (h - (at + m)) n s t (take (length cells - (h - (at + m)) * p) (drop ((h - (at + m)) * p) cells))
-    next_exact p t cells room exact = record {
+    pub next_exact : (p : ℕ) (t cells : List ℕ) → Exact A p 0 h x t cells → Exact A p (h - to) n s t (drop ((h - to) * p) cells)
+    next_exact p t cells exact = record {
       tabled = exact.tabled;
-      holds = rows_part A p (h - (at + m)) n h cells exact.tabled.states (omega arith) (rows-within (h - (at + m)) h p (length cells) (omega arith) room) exact.holds;
+      holds = rows_part A p (h - to) n h cells exact.tabled.states (omega arith) exact.holds;
       not_cut_off = subst (λ (k : ℕ). N A k s < most) left_is is.not_cut_off;
     }
 
-    pub next_below : l < N A (h - (at + m) + n) s
+    pub next_below : l < N A (h - to + n) s
     next_below = subst (λ (k : ℕ). l < N A k s) left_is is.is_below
 
-    pub next_begun : (last : List ℕ) (s' l' : ℕ) → length out ≡ h → Unranked A (h - (at + m)) n s l last s' l'
-        → Begun A x h i (at + m) (h - (at + m)) s' l' 0 (take at out ++ (last ++ drop (at + m - at) (drop at out)))
+    pub next_begun : (last : List ℕ) (s' l' : ℕ) → length out ≡ h → Unranked A (h - to) n s l last s' l'
+        → Begun A x h i to (h - to) s' l' 0 (take at out ++ (last ++ drop (to - at) (drop at out)))
     next_begun last s' l' long told =
-        let b = h - (at + m) in
+        let b = h - to in
         let z : 0 + at ≡ at = zero-add at in
-        let w : n ≡ at + m - at = omega arith in
-        let e : at + n ≡ at + m = omega arith in
+        let e : at + n ≡ to = omega arith in
         let more = begun_more at b n s l 0 out last s' l' (omega arith) (subst (λ (k : ℕ). Begun A x h i at k s l 0 out) left_is is) told in
-        subst (λ (k : ℕ). Begun A x h i k b s' l' 0 (take at out ++ (last ++ drop (at + m - at) (drop at out)))) e
-        (subst (λ (k : ℕ). Begun A x h i (at + n) b s' l' 0 (take at out ++ (last ++ drop k (drop at out)))) w
+        subst (λ (k : ℕ). Begun A x h i k b s' l' 0 (take at out ++ (last ++ drop (to - at) (drop at out)))) e
+        (subst (λ (k : ℕ). Begun A x h i (at + n) b s' l' 0 (take at out ++ (last ++ drop k (drop at out)))) n-is
         (subst (λ (k : ℕ). Begun A x h i (at + n) b s' l' 0 (take k out ++ (last ++ drop n (drop k out)))) z more))

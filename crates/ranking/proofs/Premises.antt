@@ -15,7 +15,8 @@ use Rattle.automaton.proofs.Counting.{N_live}
 use Rattle.promises.specs.Calls.{filled}
 use Rattle.counting.specs.Tabled.{Tabled, HoldsRow}
 use Rattle.ranking.specs.declared.Choice.{Choice}
-use Rattle.ranking.specs.Ranks.{HoldsRows, Exact, Chosen, Unranked, IndicesBelow, with_scenarios}
+use Rattle.std.specs.Prelude.{Option, IsSomeAnd}
+use Rattle.ranking.specs.Ranks.{HoldsRows, Exact, Chosen, ChosenBy, Unranked, IndicesBelow, with_scenarios}
 use Rattle.ranking.proofs.Steps.{chosen_unrank, chosen_least}
 use Rattle.ranking.proofs.Rows.{rows_fewer, row_lent, filled-rows, rest_back}
 use Rattle.ranking.proofs.Walk.{length-unrank, length_concat_map_sized}
@@ -28,6 +29,14 @@ module _ (A : Automaton) where
   -- cells that are filled, and a count below the limit
   pub filled_exact : (p h x : ℕ) (t cells d : List ℕ) → Tabled A p t → cells ≡ filled A h d → N A h x < most → Exact A p 0 h x t cells
   filled_exact p h x t cells d n e few = record { tabled = n; holds = filled_holds h cells d e; not_cut_off = rw (zero-add h) few }
+
+  -- an index that is below the count falls in the part of an event
+  pub step_known : (p b r x i : ℕ) (t cells : List ℕ) → 0 < r → Exact A p b r x t cells → i < N A (b + r) x
+      → (o : Option Choice) → ChosenBy t (drop ((r - 1) * p) cells) p x i o → IsSomeAnd o (λ c. Chosen A (b + (r - 1)) x i c)
+  step_known p b r x i t cells some exact below o chosen =
+      let s : b + r ≡ b + (r - 1) + 1 = omega arith in
+      (chosen A (b + (r - 1)) exact.tabled (row_lent A b cells p (r - 1) r exact.tabled.states exact.holds (omega arith))).some
+      (subst (λ (n : ℕ). i < N A n x) s below) (subst (λ (n : ℕ). N A n x < most) s exact.not_cut_off)
 
   -- what is left after a step is exact too
   pub exact_on : (p b r x i : ℕ) (t cells : List ℕ) (c : Choice) → Chosen A (b + r) x i c → {n : ℕ} → i < N A (b + n) x → n ≡ r + 1 → Exact A p b n x t cells → Exact A p b r c.state t cells
@@ -57,8 +66,8 @@ module _ (A : Automaton) where
 
   -- of all rows: each stands at its place, and the count is that of all events
   module _ (p n x : ℕ) (t cells : List ℕ) (exact : Exact A p 0 n x t cells) where
-    pub whole_row : (r : ℕ) → r < n → HoldsRow A r (take (length cells - r * p) (drop (r * p) cells))
-    whole_row r lt = subst (λ (k : ℕ). HoldsRow A k (take (length cells - r * p) (drop (r * p) cells))) (zero-add r) (row_lent A 0 cells p r n exact.tabled.states exact.holds lt)
+    pub whole_row : (r : ℕ) → r < n → HoldsRow A r (drop (r * p) cells)
+    whole_row r lt = subst (λ (k : ℕ). HoldsRow A k (drop (r * p) cells)) (zero-add r) (row_lent A 0 cells p r n exact.tabled.states exact.holds lt)
 
     pub whole_few : N A n x < most
     whole_few = subst (λ (k : ℕ). N A k x < most) (zero-add n) exact.not_cut_off

@@ -3,17 +3,16 @@ use mathlib.Core.Path.{◌≡◌, refl, sym, ap, ◌∙◌, subst}
 use mathlib.Core.List.{List, [], ◌∷◌, ◌++◌, append-nil}
 use Prim.Native.Nat.{ℕ, suc, ◌+◌, ◌-◌, ◌*◌, ◌≤◌, ◌<◌}
 use native.Mathlib.Omega.{arith}
-use native.Mathlib.Nat.{suc-mul, mul-le-mul_right, not-suc-le-zero}
+use native.Mathlib.Nat.{add-mul, suc-mul, mul-le-mul_right, not-suc-le-zero}
 use native.Mathlib.Decide.{le_ind}
 use lib.ListN.{length, take, drop, set, length-take, length-drop, length-set}
-use lib.Seq.{take_at, drop_at, take-take, take-add, take_all, drop-length}
+use lib.Seq.{take_at, drop_at, take-take, take-add, drop-length}
 use Rattle.lists.specs.Lists.{stack}
 use Rattle.automaton.specs.Automaton.{Automaton}
-use Rattle.automaton.specs.Counting.{N}
 use Rattle.promises.specs.Calls.{row, rows, filled}
 use Rattle.counting.specs.Tabled.{HoldsRow, rows_from}
 use Rattle.counting.proofs.Rows.{length_rows, length_rows_from, rows_from_0}
-use Rattle.ranking.specs.Ranks.{HoldsRows, Unranked}
+use Rattle.ranking.specs.Ranks.{HoldsRows}
 
 -- row r is within the cells of n rows
 pub row_within : (r n p len : ℕ) → r < n → n * p ≤ len → r * p + p ≤ len
@@ -27,6 +26,12 @@ pub rows-within : (b n p len : ℕ) → b ≤ n → n * p ≤ len → b * p ≤ 
 rows-within b n p len le h =
     let a : b * p ≤ n * p = mul-le-mul_right p le in
     omega arith
+
+-- the rows of the events from `at` to `to` are within what is left of those of h events after the rows of the later ones
+pub part_room : (at to h p len : ℕ) → to ≤ h → h * p ≤ len → (to - at) * p ≤ len - (h - to) * p
+part_room at to h p len le room =
+    let both : (to - at + (h - to)) * p ≤ len = rows-within (to - at + (h - to)) h p len (omega arith) room in
+    omega (arith, add-mul (to - at) (h - to) p)
 
 module _ (A : Automaton) (b : ℕ) (cells : List ℕ) where
   rows_back : (n : ℕ) → HoldsRows A b (suc n) cells → HoldsRows A b n cells
@@ -50,11 +55,8 @@ module _ (A : Automaton) (b : ℕ) (cells : List ℕ) where
       sym (drop_at (rows_from A b r) (take s (drop (r * s) cells)) (r * s) len) ∙ ap (drop (r * s)) parts ∙ drop_at (rows_from A b r) (row A (b + r)) (r * s) len
 
   -- the part that begins at r × p holds row b + r
-  pub row_lent : (p r n : ℕ) → A.states ≡ p → HoldsRows A b n cells → r < n → HoldsRow A (b + r) (take (length cells - r * p) (drop (r * p) cells))
-  row_lent p r n wide h lt =
-      let all : take (length cells - r * p) (drop (r * p) cells) ≡ drop (r * p) cells = take_all (length cells - r * p) (drop (r * p) cells) (rw length-drop (omega arith)) in
-      let here : drop (r * A.states) cells ≡ drop (r * p) cells = ap (λ (k : ℕ). drop (r * k) cells) wide in
-      subst (HoldsRow A (b + r)) (here ∙ sym all) (last_row r (rows_fewer (suc r) n lt h))
+  pub row_lent : (p r n : ℕ) → A.states ≡ p → HoldsRows A b n cells → r < n → HoldsRow A (b + r) (drop (r * p) cells)
+  row_lent p r n wide h lt = subst (HoldsRow A (b + r)) (ap (λ (k : ℕ). drop (r * k) cells) wide) (last_row r (rows_fewer (suc r) n lt h))
 
 -- cells that are filled for the horizon h hold its rows
 pub filled-rows : (A : Automaton) (h : ℕ) (cells : List ℕ) → HoldsRows A 0 (h + 1) (filled A h cells)
@@ -67,17 +69,9 @@ module _ (out : List ℕ) (v : ℕ) (some : 0 < length out) where
   pub length_rest : length (take (length (set out 0 v) - 1) (drop 1 (set out 0 v))) ≡ length out - 1
   length_rest = simp (length-take, length-drop, length-set) (omega arith)
 
-  pub rest_within : (p n : ℕ) → length out * p ≤ n → length (take (length (set out 0 v) - 1) (drop 1 (set out 0 v))) * p ≤ n
-  rest_within p n h = rw length_rest (omega (arith, row_within (length out - 1) (length out) p n (omega arith) h))
-
 -- what the whole then holds
 pub rest_back : (out : List ℕ) (v : ℕ) (last : List ℕ) → 0 < length out → take 1 (set out 0 v) ++ (last ++ drop (length (set out 0 v) - 1) (drop 1 (set out 0 v))) ≡ v ∷ last
 rest_back [] v last h = absurd (not-suc-le-zero h)
 rest_back (o ∷ os) v last h =
     let n : suc (length os) - 1 ≡ length os = omega arith in
     rw (n, drop-length, append-nil)
-
--- a part of no bytes is the scenario's first no events
-pub rest-none : (A : Automaton) (b x i : ℕ) (out : List ℕ) → length out ≡ 0 → i < N A (b + length out) x → Unranked A b (length out) x i out x i
-rest-none A b x i [] h below = let z : b + 0 ≡ b = omega arith in record { written = rw z; is_below = rw z at below; no_more = rw z (omega arith) }
-rest-none A b x i (o ∷ os) h below = absurd (omega arith)

@@ -1,19 +1,17 @@
 -- A list of indices: its check, its size, and its scenarios written one after the other. Why: a scenario has h events, so those before number n
 -- end at n × h, where the part that is lent for it begins. Assumes nothing.
 use mathlib.Core.Path.{◌≡◌, refl, sym, ap, ◌∙◌}
-use mathlib.Core.Logic.{◌⊎◌, inl, inr}
-use mathlib.Core.Bool.{Bool, true, false, not}
+use mathlib.Core.Bool.{Bool, true, false}
 use mathlib.Core.List.{List, [], ◌∷◌, ◌++◌, append_assoc}
-use Prim.Native.Nat.{ℕ, zero, suc, ◌+◌, ◌-◌, ◌*◌, ◌/◌, ◌≤◌, ◌<◌}
+use Prim.Native.Nat.{ℕ, zero, suc, ◌+◌, ◌-◌, ◌*◌, ◌≤◌, ◌<◌}
 use native.Mathlib.Omega.{arith}
 use native.Mathlib.Numerals.{add-one}
-use native.Mathlib.Nat.{suc-mul, zero-mul, mul-zero, le-div_iff_mul-le}
+use native.Mathlib.Nat.{suc-mul, zero-mul}
 use lib.ListN.{length, get_or, take, drop, length-append, length-take, length-drop}
 use lib.Seq.{take_at, drop_at, take-suc, drop-drop, take-length}
-use lib.Dec.{ltb, leb}
-use borrow.Author.Tests.{lt-ltb, le-ltb, le-leb, leb-true, leb-false}
+use lib.Dec.{leb}
+use borrow.Author.Tests.{leb-false}
 use Rattle.lists.specs.Lists.{concat_map}
-use Rattle.lists.proofs.Tests.{case, split}
 use Rattle.lists.proofs.Blocks.{concat_map_snoc}
 use Rattle.lists.proofs.Members.{get_or-in}
 use Rattle.automaton.specs.Automaton.{Automaton}
@@ -22,6 +20,9 @@ use Rattle.automaton.specs.Ranking.{unrank}
 use Rattle.automaton.proofs.Counting.{scenarios_length, scenarios_sound}
 use Rattle.automaton.proofs.Ranking.{unrank_at}
 use Rattle.promises.specs.Calls.{not_below, first_bad, first_bad_from}
+use Rattle.std.specs.Prelude.{None}
+use Rattle.std.proofs.lemmas.Grind.{common_steps}
+use Rattle.refusal.specs.Places.{place_in}
 use Rattle.ranking.specs.Ranks.{IndicesBelow}
 
 -- ---- the check of a list
@@ -41,21 +42,9 @@ pub good_all : (n : ℕ) (l : List ℕ) → length l ≤ first_bad (not_below n)
 unfolding first_bad IndicesBelow
 good_all n l h = all-below n 0 l (omega arith)
 
--- ---- its size, by division
-
-pub fits_quotient : (s h o : ℕ) → (h ≡ 0 → ⊥) → leb s (o / h) ≡ not (ltb o (s * h))
-fits_quotient s h o z = go (split (s * h) o)
-  where
-    pos : (n : ℕ) → (n ≡ 0 → ⊥) → 0 < n
-    pos zero z = absurd (z refl)
-    pos (suc n) z = omega arith
-
-    go : (s * h ≤ o) ⊎ (o < s * h) → leb s (o / h) ≡ not (ltb o (s * h))
-    go (inl le) = rw (le-ltb o (s * h) le, le-leb s (o / h) ((le-div_iff_mul-le {k = h} {x = s} {y = o} (pos h z)).1 le))
-    go (inr lt) = rw (lt-ltb o (s * h) lt) (case (leb s (o / h)) (λ t. let m : s * h ≤ o = (le-div_iff_mul-le {k = h} {x = s} {y = o} (pos h z)).0 (leb-true s (o / h) t) in absurd (omega arith)) (λ f. f))
-
-pub fits-nothing : (s h o : ℕ) → h ≡ 0 → true ≡ not (ltb o (s * h))
-fits-nothing s h o z = rw (z, mul-zero s, le-ltb o 0 (omega arith))
+-- and so is it where none is found
+pub all_good : (n : ℕ) (l : List ℕ) → None ≡ place_in (length l) (first_bad (not_below n) l) → IndicesBelow n l
+all_good n l h = let le : length l ≤ first_bad (not_below n) l = grind (arith, common_steps) in good_all n l le
 
 -- ---- its scenarios
 
@@ -88,3 +77,7 @@ module _ (f : ℕ → List ℕ) (h : ℕ) (is : List ℕ) (sized : (k : ℕ) →
 -- the part of h bytes from n × h on
 pub length_part : (out : List ℕ) (a h : ℕ) → a + h ≤ length out → length (take (a + h - a) (drop a out)) ≡ h
 length_part out a h le = simp (length-take, length-drop) (omega arith)
+
+-- and the part from a up to b
+pub length_between : (out : List ℕ) (a b : ℕ) → b ≤ length out → length (take (b - a) (drop a out)) ≡ b - a
+length_between out a b le = simp (length-take, length-drop) (omega arith)

@@ -2,11 +2,10 @@
 --   HoldsRows A b n cells             == the cells begin with the n rows from b on
 --   Exact A p b n x t cells           == t and the cells are those of A for n events with b left after them, whose count from x is not cut off
 --   Chosen A r x i c                  == c is one step of unranking the index i from x, with r events left after it
---   no_choice                          == what is told where the index is in no event's part
---   ChosenOrNone A r x i c            == c is that step, or no_choice where the index is not below the count
+--   ChosenOrNone A r x i c            == c is that step, or none where the index is not below the count
 --   ChosenBy t cells p x i c          == the same, whatever automaton the table and the row of cells are those of
 --   FoundEvent A r x e f              == f is how a scenario from x begins with the event e, with r events left after it
---   FoundOrNot A p r x e f            == f is that, or its state is p where e isn't admitted or leads to a state not live
+--   FoundOrNot A r x e f              == f is that, or none where e isn't admitted or leads to a state not live
 --   FoundBy t cells p x e f           == the same, whatever automaton the table and the row of cells are those of
 --   Unranked A b n x i a s l          == a is the first n events of the scenario of index i from x; the b events after them are the scenario of index l from s
 --   UnrankedBy t cells p x i out a s l == the same for as many events as the output has bytes, whatever automaton the table and the rows are those of
@@ -17,9 +16,10 @@
 --   IndicesBelow n is                 == every index of the list is below n
 --   with_scenarios A h x is out        == the output with the scenarios of the indices at its front, one after the other
 --   WrittenBy t cells p x h is b a    == a is so made from b, if every index is below the count
---   ListedBy t cells p x h n is k b a == the same where k tells no place in the list; else a is b
+--   all_or_place n p                  == nothing to refuse, or the place p where it is one of n
+--   ListedBy t cells p x h n is k b a == the same where k refuses nothing; else a is b
 -- Assumes nothing.
-use Rattle.std.specs.Prelude.{◌≡◌, true, false, ℕ, ◌+◌, ◌*◌, ◌<◌, ◌≤◌, length, get_or, take, drop, ltb}
+use Rattle.std.specs.Prelude.{◌≡◌, true, false, ℕ, ◌+◌, ◌*◌, ◌<◌, ◌≤◌, length, get_or, take, drop, ltb, Option, None, Result, Ok, Err, is_ok, IsSomeAnd, IfSome, IfNone}
 use mathlib.Core.List.{List, ◌++◌, Memᴰ as In}
 use Rattle.lists.specs.Lists.{pick, concat_map}
 use Rattle.automaton.specs.Automaton.{Automaton}
@@ -29,8 +29,6 @@ use Rattle.automaton.specs.Ranking.{before, unrank, rank, first_violation}
 use Rattle.counting.specs.Tabled.{Tabled, HoldsRow, rows_from}
 use Rattle.ranking.specs.declared.Choice.{Choice}
 use Rattle.ranking.specs.declared.Found.{Found}
-use Rattle.ranking.specs.declared.Ranked.{Ranked}
-use Rattle.ranking.specs.declared.Ranked.TheVariants.{Index, Violation}
 
 unfoldable pub HoldsRows : Automaton → ℕ → ℕ → List ℕ → Type 0
 HoldsRows A b n cells = take (n * A.states) cells ≡ rows_from A b n
@@ -49,14 +47,11 @@ pub record Chosen (A : Automaton) (r x i : ℕ) (c : Choice) : Type 0 where
   pub taken_off : before (λ e. N A r (A.next x e)) A.events c.event + c.left ≡ i
   pub is_below : c.left < N A r c.state
 
-abbrev pub no_choice : Choice
-no_choice = record { event = 0; left = 0; state = 0 }
+pub record ChosenOrNone (A : Automaton) (r x i : ℕ) (c : Option Choice) : Type 0 where
+  pub some : i < N A (r + 1) x → N A (r + 1) x < most → IsSomeAnd c (λ d. Chosen A r x i d)
+  pub none : N A (r + 1) x ≤ i → c ≡ None
 
-pub record ChosenOrNone (A : Automaton) (r x i : ℕ) (c : Choice) : Type 0 where
-  pub some : i < N A (r + 1) x → N A (r + 1) x < most → Chosen A r x i c
-  pub none : N A (r + 1) x ≤ i → c ≡ no_choice
-
-abbrev pub ChosenBy : List ℕ → List ℕ → ℕ → ℕ → ℕ → Choice → Type 0
+abbrev pub ChosenBy : List ℕ → List ℕ → ℕ → ℕ → ℕ → Option Choice → Type 0
 ChosenBy t cells p x i c = (A : Automaton) (r : ℕ) → Tabled A p t → HoldsRow A r cells → ChosenOrNone A r x i c
 
 pub record FoundEvent (A : Automaton) (r x e : ℕ) (f : Found) : Type 0 where
@@ -66,12 +61,12 @@ pub record FoundEvent (A : Automaton) (r x e : ℕ) (f : Found) : Type 0 where
   pub passed : f.before ≡ before (λ d. N A r (A.next x d)) A.events e
 
 -- refusal 14: 'first event that isn't admitted or leads to a state not live'
-pub record FoundOrNot (A : Automaton) (p r x e : ℕ) (f : Found) : Type 0 where
-  pub goes_on : f.state < p → FoundEvent A r x e f
-  pub not_live : p ≤ f.state → live A (A.next x e) ≡ false
+pub record FoundOrNot (A : Automaton) (r x e : ℕ) (f : Option Found) : Type 0 where
+  pub goes_on : IfSome f (λ d. FoundEvent A r x e d)
+  pub not_live : IfNone f (live A (A.next x e) ≡ false)
 
-abbrev pub FoundBy : List ℕ → List ℕ → ℕ → ℕ → ℕ → Found → Type 0
-FoundBy t cells p x e f = (A : Automaton) (r : ℕ) → Tabled A p t → HoldsRow A r cells → N A (r + 1) x < most → FoundOrNot A p r x e f
+abbrev pub FoundBy : List ℕ → List ℕ → ℕ → ℕ → ℕ → Option Found → Type 0
+FoundBy t cells p x e f = (A : Automaton) (r : ℕ) → Tabled A p t → HoldsRow A r cells → N A (r + 1) x < most → FoundOrNot A r x e f
 
 -- ---- whole sequences
 
@@ -96,10 +91,10 @@ pub record Begun (A : Automaton) (x h i at b s l o : ℕ) (out : List ℕ) : Typ
   pub rest : drop at (unrank A h x i) ≡ unrank A b s l
 
 -- refusal 14: the place is that of the 'first event that isn't admitted or leads to a state not live'
-unfoldable pub ranked_as : Automaton → ℕ → List ℕ → Ranked
-ranked_as A x s = pick (ltb (first_violation A x s) (length s)) (Violation (first_violation A x s)) (Index (rank A x s))
+unfoldable pub ranked_as : Automaton → ℕ → List ℕ → Result ℕ ℕ
+ranked_as A x s = pick (ltb (first_violation A x s) (length s)) (Err (first_violation A x s)) (Ok (rank A x s))
 
-abbrev pub RankedBy : List ℕ → List ℕ → ℕ → ℕ → List ℕ → Ranked → Type 0
+abbrev pub RankedBy : List ℕ → List ℕ → ℕ → ℕ → List ℕ → Result ℕ ℕ → Type 0
 RankedBy t cells p x s k = (A : Automaton) → Exact A p 0 (length s) x t cells → k ≡ ranked_as A x s
 
 -- ---- lists of indices
@@ -115,6 +110,9 @@ abbrev pub WrittenBy : List ℕ → List ℕ → ℕ → ℕ → ℕ → List �
 WrittenBy t cells p x h is out after =
     (A : Automaton) → Exact A p 0 h x t cells → IndicesBelow (N A h x) is → after ≡ with_scenarios A h x is out
 
-abbrev pub ListedBy : List ℕ → List ℕ → ℕ → ℕ → ℕ → ℕ → List ℕ → ℕ → List ℕ → List ℕ → Type 0
+abbrev pub all_or_place : ℕ → ℕ → Result Unit ℕ
+all_or_place n p = pick (ltb p n) (Err p) (Ok tt)
+
+abbrev pub ListedBy : List ℕ → List ℕ → ℕ → ℕ → ℕ → ℕ → List ℕ → Result Unit ℕ → List ℕ → List ℕ → Type 0
 ListedBy t cells p x h n is k out after =
-    (A : Automaton) → Exact A p 0 h x t cells → n ≡ N A h x → after ≡ pick (ltb k (length is)) out (with_scenarios A h x is out)
+    (A : Automaton) → Exact A p 0 h x t cells → n ≡ N A h x → after ≡ pick (is_ok k) (with_scenarios A h x is out) out

@@ -2,13 +2,15 @@
 // empty entry.
 #![tactic(auto)]
 
-ghost use Rattle.std.specs.Prelude.{◌≡◌, not, ◌+◌, ◌-◌, ◌*◌, ◌<◌, ◌≤◌, ◌^◌, min, get_or, length, ltb};
-ghost use Rattle.lists.specs.Lists.{pick};
+ghost use Rattle.std.specs.Prelude.{◌≡◌, not, ℕ, ◌+◌, ◌-◌, ◌*◌, ◌<◌, ◌≤◌, IfSome, get_or, length, ltb, take, drop};
 ghost use Rattle.promises.specs.Calls.{not_below, first_bad};
-ghost use Rattle.ranking.specs.Ranks.{ChosenBy, FoundBy, UnrankedBy, WholeBy, RankedBy, WrittenBy, ListedBy};
+ghost use Rattle.refusal.specs.Places.{place_in};
+ghost use Rattle.ranking.specs.Ranks.{ChosenBy, FoundBy, UnrankedBy, WholeBy, RankedBy, WrittenBy, ListedBy, all_or_place};
+
+use counting::Transition;
 
 // One step of unranking: the event, what is left of the index, and the state that the event leads to.
-#[derive(Clone, Copy)]
+#[derive(Clone, Copy, Debug, PartialEq, Eq)]
 pub struct Choice {
     pub event: u8,
     pub left: u64,
@@ -22,211 +24,208 @@ struct Found {
     state: usize,
 }
 
-// A sequence's index, or the place of its first event that is not admitted or leads to a state not live.
+// The rows of a pruned table of so many states, and rows of cells over it: row r has the count of r events from each state.
+// Not over a `counting::Table`, whose entries all lead to states: nothing here asks that of a table.
 #[derive(Clone, Copy)]
-pub enum Ranked {
-    Index(u64),
-    Violation(usize),
+pub struct Counts<'a> {
+    pub cells: &'a [u64],
+    pub table: &'a [u16],
+    pub states: usize,
+    pub ghost few: { states ≤ 1024 },
+    pub ghost rows: { states * 16 ≤ length table.now },
 }
 
-// What a row of p cells holds for y: nothing where y is no state.
-fn count_at(cells: &[u64], p: usize, y: usize) -> u64
-    requires { p ≤ length cells.now }
-    ensures { result ≡ pick (ltb y p) (get_or cells.now y 0) 0 }
+// What a row holds for y: nothing where y is no state.
+fn count_at(row: &[u64], y: usize) -> u64
+    ensures { result ≡ get_or row.now y 0 }
 {
-    if y < p { cells[y] } else { 0 }
+    row.get(y).copied().unwrap_or(0)
 }
 
-// The event that the index i from x falls in, by the row of cells of what is left after it. Where it falls in none, all is 0.
-pub fn choose_event(cells: &[u64], table: &[u16; 16384], p: usize, x: usize, i: u64) -> Choice
-    requires { (p ≤ 1024) × (x < p) × (p ≤ length cells.now) }
-    ensures state_lt_p { result.state < p }
-    ensures chosen_by { ChosenBy table.now cells.now p x i result }
-{
-    let mut left = i;
-    for c in 0..16 {
-        let entry = counting::wide(table[x * 16 + c]);
-        if entry == 65535 {
-            break;
+impl<'a> Counts<'a> {
+    // The cells of row r.
+    fn row(&self, r: usize) -> &'a [u64]
+        requires { (r + 1) * self.now.states ≤ length self.now.cells.now }
+        ensures { result.now ≡ take self.now.states (drop (r * self.now.states) self.now.cells.now) }
+    {
+        let cells = self.cells;
+        let from = r * self.states;
+        &cells[from..from + self.states]
+    }
+
+    // The entries of the events that may lead on from x.
+    fn ways(&self, x: usize) -> &'a [u16]
+        requires { x < self.now.states }
+        ensures len { length result.now ≡ 16 }
+        ensures by_column { (c : ℕ) → c < 16 → get_or result.now c 0 ≡ get_or self.now.table.now (x * 16 + c) 0 }
+    {
+        let table = self.table;
+        &table[x * 16..x * 16 + 16]
+    }
+
+    // The same table with the rows from r on.
+    fn from_row(&self, r: usize) -> Counts<'a>
+        requires { r * self.now.states ≤ length self.now.cells.now }
+        ensures cells { result.cells.now ≡ drop (r * self.now.states) self.now.cells.now }
+        ensures table { result.table.now ≡ self.now.table.now }
+        ensures states { result.states ≡ self.now.states }
+    {
+        Counts {
+            cells: &self.cells[r * self.states..],
+            table: self.table,
+            states: self.states,
         }
-        let y = entry % 1024;
-        let n = count_at(cells, p, y);
-        if left < n {
-            return Choice {
-                event: (entry / 1024) as u8,
-                left,
-                state: y,
-            };
+    }
+
+    // The step of unranking from x, with r events left after it: the event that the index i falls in, if it falls in one.
+    pub fn choose_event(&self, r: usize, x: usize, i: u64) -> Option<Choice>
+        requires { (x < self.now.states) × ((r + 1) * self.now.states ≤ length self.now.cells.now) }
+        ensures state_lt_p { IfSome result (λ c. c.state < self.now.states) }
+        ensures chosen_by { ChosenBy self.now.table.now (drop (r * self.now.states) self.now.cells.now) self.now.states x i result }
+    {
+        let row = self.row(r);
+        let mut left = i;
+        for entry in self.ways(x) {
+            let way = Transition::decode(*entry)?;
+            let n = count_at(row, way.state);
+            if left < n {
+                return Some(Choice {
+                    event: way.event,
+                    left,
+                    state: way.state,
+                });
+            }
+            left -= n;
         }
-        left -= n;
+        None
     }
-    Choice {
-        event: 0,
-        left: 0,
-        state: 0,
+
+    // Writes the next events of the scenario of index i from x, as many as the part lent has bytes. Gives the state that they lead to, and leaves what is
+    // left of the index. The cells begin with the rows of what is left after each of these events, the last event's first.
+    pub fn unrank(&self, x: usize, i: &mut u64, out: &mut [u8]) -> usize
+        requires { (x < self.now.states) × (length out.old * self.now.states ≤ length self.now.cells.now) }
+        ensures upper_bound { result < self.now.states }
+        ensures unranked_by { UnrankedBy self.now.table.now self.now.cells.now self.now.states x i.old out.old out.new result i.new }
+    {
+        // Of a copy that is lent to no other call the fields stay in registers: a tenth faster.
+        let counts = *self;
+        counts.unrank_on(x, i, out)
     }
-}
 
-// Writes the next events of the scenario of index i from x, as many as the part lent has bytes. Gives the state that they lead to, and leaves what is left of
-// the index. The cells begin with the rows of what is left after each of these events, the last event's first.
-pub fn unrank(
-    cells: &[u64],
-    table: &[u16; 16384],
-    p: usize,
-    x: usize,
-    i: &mut u64,
-    out: &mut [u8],
-) -> usize
-    requires { (p ≤ 1024) × (x < p) × (length out.old * p ≤ length cells.now) }
-    ensures upper_bound { result < p }
-    ensures unranked_by { UnrankedBy table.now cells.now p x i.old out.old out.new result i.new }
-{
-    let r = out.len();
-    if r == 0 {
-        return x;
-    }
-    let from = (r - 1) * p;
-    let c = choose_event(&cells[from..], table, p, x, *i);
-    out[0] = c.event;
-    *i = c.left;
-    unrank(cells, table, p, c.state, i, &mut out[1..])
-}
-
-// The smaller of two numbers.
-pub fn smaller(a: usize, b: usize) -> usize
-    ensures { result ≡ min a b }
-{
-    if a < b { a } else { b }
-}
-
-// Writes the scenario of index i from x to the part lent, sixty-four events at a time, so that the recursion goes no deeper.
-pub fn unrank_whole(cells: &[u64], table: &[u16; 16384], p: usize, x: usize, i: u64, out: &mut [u8])
-    requires { (p ≤ 1024) × (x < p) × (length out.old * p ≤ length cells.now) }
-    ensures { WholeBy table.now cells.now p x i out.old out.new }
-{
-    let h = out.len();
-    let mut state = x;
-    let mut left = i;
-    let mut at = 0;
-    while at < h {
-        let to = at + smaller(h - at, 64);
-        let from = (h - to) * p;
-        state = unrank(&cells[from..], table, p, state, &mut left, &mut out[at..to]);
-        at = to;
-    }
-}
-
-// a + b, or the largest 64-bit number where that is more.
-fn add_saturating(a: u64, b: u64) -> u64
-    ensures { result ≡ min (a + b) (2 ^ 64 - 1) }
-{
-    if a <= u64::MAX - b { a + b } else { u64::MAX }
-}
-
-// Finds the event e among the live ones of x, adding up what stands before it. Where it isn't there, the state is p, which is none.
-fn find_event(cells: &[u64], table: &[u16; 16384], p: usize, x: usize, e: u8) -> Found
-    requires { (p ≤ 1024) × (x < p) × (p ≤ length cells.now) }
-    ensures { FoundBy table.now cells.now p x e result }
-{
-    let mut before: u64 = 0;
-    for c in 0..16 {
-        let entry = counting::wide(table[x * 16 + c]);
-        if entry == 65535 {
-            break;
+    // The same, one event after the other; an index that falls in no event's part ends it.
+    fn unrank_on(&self, x: usize, i: &mut u64, out: &mut [u8]) -> usize
+        requires { (x < self.now.states) × (length out.old * self.now.states ≤ length self.now.cells.now) }
+        ensures upper_bound { result < self.now.states }
+        ensures unranked_by { UnrankedBy self.now.table.now self.now.cells.now self.now.states x i.old out.old out.new result i.new }
+    {
+        if out.is_empty() {
+            return x;
         }
-        let y = entry % 1024;
-        if (entry / 1024) as u8 == e {
-            return Found { before, state: y };
-        }
-        before = add_saturating(before, count_at(cells, p, y));
+        let Some(step) = self.choose_event(out.len() - 1, x, *i) else {
+            return x;
+        };
+        out[0] = step.event;
+        *i = step.left;
+        self.unrank_on(step.state, i, &mut out[1..])
     }
-    Found {
-        before: 0,
-        state: p,
-    }
-}
 
-// The index of the sequence s from x, or the place where it is no scenario.
-pub fn rank(cells: &[u64], table: &[u16; 16384], p: usize, x: usize, s: &[u8]) -> Ranked
-    requires { (p ≤ 1024) × (x < p) × (length s.now * p ≤ length cells.now) }
-    ensures { RankedBy table.now cells.now p x s.now result }
-{
-    let h = s.len();
-    let mut index: u64 = 0;
-    let mut at = x;
-    for k in 0..h {
-        let from = (h - 1 - k) * p;
-        let f = find_event(&cells[from..], table, p, at, s[k]);
-        if p <= f.state {
-            return Ranked::Violation(k);
+    // Writes the scenario of index i from x to the part lent, sixty-four events at a time, so that the recursion goes no deeper.
+    pub fn unrank_whole(&self, x: usize, i: u64, out: &mut [u8])
+        requires { (x < self.now.states) × (length out.old * self.now.states ≤ length self.now.cells.now) }
+        ensures { WholeBy self.now.table.now self.now.cells.now self.now.states x i out.old out.new }
+    {
+        let h = out.len();
+        let mut state = x;
+        let mut left = i;
+        // Parts by their places: of what is written through `chunks_mut` a proof knows no element.
+        for part in 0..h.div_ceil(64) {
+            let at = part * 64;
+            let to = h.min(at + 64);
+            state = self
+                .from_row(h - to)
+                .unrank(state, &mut left, &mut out[at..to]);
         }
-        index = add_saturating(index, f.before);
-        at = f.state;
     }
-    Ranked::Index(index)
+
+    // The step of ranking from x, with r events left after it: the event e among the live ones, if it is there, with what stands before it.
+    fn find_event(&self, r: usize, x: usize, e: u8) -> Option<Found>
+        requires { (x < self.now.states) × ((r + 1) * self.now.states ≤ length self.now.cells.now) }
+        ensures state_lt_p { IfSome result (λ f. f.state < self.now.states) }
+        ensures found_by { FoundBy self.now.table.now (drop (r * self.now.states) self.now.cells.now) self.now.states x e result }
+    {
+        let row = self.row(r);
+        let mut before: u64 = 0;
+        for entry in self.ways(x) {
+            let way = Transition::decode(*entry)?;
+            if way.event == e {
+                return (way.state < self.states).then_some(Found {
+                    before,
+                    state: way.state,
+                });
+            }
+            before = before.saturating_add(count_at(row, way.state));
+        }
+        None
+    }
+
+    // The index of the sequence s from x, or the place of its first event that is not admitted or leads to a state not live.
+    pub fn rank(&self, x: usize, s: &[u8]) -> Result<u64, usize>
+        requires { (x < self.now.states) × (length s.now * self.now.states ≤ length self.now.cells.now) }
+        ensures { RankedBy self.now.table.now self.now.cells.now self.now.states x s.now result }
+    {
+        let mut index: u64 = 0;
+        let mut at = x;
+        for (k, event) in s.iter().enumerate() {
+            let found = self.find_event(s.len() - 1 - k, at, *event).ok_or(k)?;
+            index = index.saturating_add(found.before);
+            at = found.state;
+        }
+        Ok(index)
+    }
+
+    // Writes the scenarios of all indices of the list, each to the h bytes from its place × h.
+    fn unrank_all(&self, x: usize, h: usize, list: &[u64], out: &mut [u8])
+        requires { (x < self.now.states) × (h * self.now.states ≤ length self.now.cells.now) × (length list.now * h ≤ length out.old) }
+        ensures { WrittenBy self.now.table.now self.now.cells.now self.now.states x h list.now out.old out.new }
+    {
+        // Parts by their places: h may be 0, which `chunks_exact_mut` refuses, and of what is written through it a proof knows no element.
+        for (n, i) in list.iter().enumerate() {
+            let at = n * h;
+            self.unrank_whole(x, *i, &mut out[at..at + h]);
+        }
+    }
+
+    // The list walker: writes the scenarios of all indices of the list, or gives the place of the first that is not below the count, with nothing written.
+    pub fn unrank_list(
+        &self,
+        x: usize,
+        h: usize,
+        count: u64,
+        list: &[u64],
+        out: &mut [u8],
+    ) -> Result<(), usize>
+        requires { (x < self.now.states) × (h * self.now.states ≤ length self.now.cells.now) × (length list.now * h ≤ length out.old) }
+        ensures value { result ≡ all_or_place (length list.now) (first_bad (not_below count) list.now) }
+        ensures listed_by { ListedBy self.now.table.now self.now.cells.now self.now.states x h count list.now result out.old out.new }
+    {
+        if let Some(place) = first_not_below(list, count) {
+            return Err(place);
+        }
+        self.unrank_all(x, h, list, out);
+        Ok(())
+    }
 }
 
 // Whether so many scenarios of h events fit the output; the product itself may be past 64 bits.
 pub fn fits(scenarios: usize, h: usize, out: usize) -> bool
     ensures { result ≡ not (ltb out (scenarios * h)) }
 {
-    if h == 0 {
-        return true;
-    }
-    scenarios <= out / h
+    scenarios.checked_mul(h).is_some_and(|bytes| bytes <= out)
 }
 
-// The place of the first index that is not below n; the list's length where all are.
-pub fn first_not_below(list: &[u64], n: u64) -> usize
-    ensures { result ≡ first_bad (not_below n) list.now }
+// The place of the first index that is not below n. (`rig::first_not_event` is the same over bytes; one function for both would need a trait for one line.)
+pub fn first_not_below(list: &[u64], n: u64) -> Option<usize>
+    ensures { result ≡ place_in (length list.now) (first_bad (not_below n) list.now) }
 {
-    for k in 0..list.len() {
-        if n <= list[k] {
-            return k;
-        }
-    }
-    list.len()
-}
-
-// Writes the scenarios of all indices of the list, each to the h bytes from its place × h.
-fn unrank_all(
-    cells: &[u64],
-    table: &[u16; 16384],
-    p: usize,
-    x: usize,
-    h: usize,
-    list: &[u64],
-    out: &mut [u8],
-)
-    requires { (p ≤ 1024) × (x < p) × (h * p ≤ length cells.now) × (length list.now * h ≤ length out.old) }
-    ensures { WrittenBy table.now cells.now p x h list.now out.old out.new }
-{
-    for n in 0..list.len() {
-        let at = n * h;
-        let k = n;
-        unrank_whole(cells, table, p, x, list[k], &mut out[at..at + h]);
-    }
-}
-
-// The list walker: gives the place of the first index that is not below the count, with nothing written; or the list's length, with all written.
-pub fn unrank_list(
-    cells: &[u64],
-    table: &[u16; 16384],
-    p: usize,
-    x: usize,
-    h: usize,
-    count: u64,
-    list: &[u64],
-    out: &mut [u8],
-) -> usize
-    requires { (p ≤ 1024) × (x < p) × (h * p ≤ length cells.now) × (length list.now * h ≤ length out.old) }
-    ensures value { result ≡ first_bad (not_below count) list.now }
-    ensures listed_by { ListedBy table.now cells.now p x h count list.now result out.old out.new }
-{
-    let place = first_not_below(list, count);
-    if place < list.len() {
-        return place;
-    }
-    unrank_all(cells, table, p, x, h, list, out);
-    place
+    list.iter().position(|i| n <= *i)
 }

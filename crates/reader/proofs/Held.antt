@@ -18,28 +18,29 @@ use lib.ListN.{length, get_or, take, drop, set, length-set, length-append}
 use lib.Seq.{get_or-set_same, get_or-set_other, take_at}
 use lib.Dec.{eqb, leb, ltb}
 use borrow.Author.Tests.{eq-eqb, ne_eqb, eqb-true, eqb-false, leb-false, not-false}
+use Rattle.std.specs.Prelude.{Some, None}
+use Rattle.std.specs.Prelude as std
 use Rattle.lists.specs.Lists.{pick, any, is_some}
 use Rattle.lists.proofs.Tables.{length-range, take_range}
 use Rattle.lists.proofs.Tests.{contra, case, and_left, and_right, or_left, or_right, or-rest}
 use Rattle.lists.proofs.Tells.{tells_false}
 use Rattle.lists.proofs.Firsts.{first_any}
-use Rattle.lists.proofs.Integers.{tells_ltℤ}
 use Rattle.lists.proofs.Members.{any_snoc, any_alike, get_or-in}
 use Rattle.promises.specs.Text.{Kind, mon, gap, reply, bal, day, Part, go, stop, amp, opens, Line, rig, ord, begins, continues, other, Monitor, add_part, extended, monitors_from, monitors, states_of, start_of, latest, product, events_of, reordered, order_from, order_of, OutOfRange, beginning, IsMon, IsBal, IsDay, cases, Case5}
 use Rattle.promises.specs.Meaning.{step_in, step_by}
-use Rattle.promises.specs.Reading.{empty, move_by, marked_by, opens_by, has_hours, outsideℤ, is_mon, is_bal, is_day, test_beginning, of_latest, test_continuing, tests, line_case}
-use Rattle.promises.proofs.Lines.{monitors-more, order_more, length-add_part, product-add_part, product-append, Ranged, PartRanged, Kept, Headed, Formed, band, few_states, begun, sound-formed, nothing-formed}
+use Rattle.promises.specs.Reading.{empty, move_by, marked_by, opens_by, has_hours, outsideℤ, is_mon, is_bal, is_day, is_out_of_range, test_beginning, of_latest, test_continuing, tests, line_case}
+use Rattle.promises.proofs.Lines.{monitors-more, order_more, length-add_part, product-add_part, product-append, Ranged, PartRanged, Kept, Headed, Formed, few_states, begun, sound-formed, nothing-formed}
 use Rattle.promises.proofs.KindTests.{tells_out}
 use Rattle.promises.proofs.Reading.{moved, case_sound}
 use Rattle.rig.specs.declared.Rig.{Rig}
 use Rattle.rig.specs.Record.{move_index, move_at, stop_index, stop_at, lower_first}
 use Rattle.decoding.specs.Forms.{over, kind_of, form_of}
 use Rattle.decoding.proofs.Listed.{length_over, Leaves}
-use Rattle.kinds.specs.Kinds.{as_kind, InRange, mon_states, empty_band, band_of, day_steps, with_step, kind_moves, kind_stops}
+use Rattle.kinds.specs.Kinds.{as_kind, with_step, kind_moves, kind_stops}
 use Rattle.kinds.proofs.Tables.{Blank, OfKind, length_column, length_moves, length_stops, moves_beside, stops_beside, fills}
 use Rattle.taking.specs.declared.Sizes.{Sizes}
 use Rattle.reader.specs.Reading.{nobody, with_part, with_line, record_from}
-use Rattle.taking.specs.Taking.{Allowed, rig_case, rig_sizes, ord_case, kind_case, go_case, go_moves, stop_case, stop_stops, no_band, given_index, given_at, with_given, amp_case, amp_moves, open_case, open_moves, case_of, sizes_after, moves_after, stops_after, given_after, counts_after, starts_after}
+use Rattle.taking.specs.Taking.{Allowed, rig_case, rig_sizes, ord_case, kind_case, go_case, go_moves, stop_case, stop_stops, latest_passes, latest_kind, latest_states, given_index, given_at, with_given, amp_case, amp_moves, open_case, open_moves, case_of, sizes_after, moves_after, stops_after, given_after, counts_after, starts_after}
 use Rattle.reader.proofs.Monitors.{monitor_at, events_snoc, empty_nil, empty_snoc, empty-length, add_part_at, add_part_beside, latest_at, new_before, new_at, new_parts}
 use Rattle.reader.proofs.Listed.{over_events, front_any, ord_case_lem}
 use Rattle.reader.proofs.Tables.{Same, same_blank, same_kind, go_beside, stop_beside, amp_beside, open_beside, seen, seen_mark, with_go, with_stop, with_amp, with_open}
@@ -64,9 +65,8 @@ pub record Holds (r : Rig) (ls : List Line) (z : Sizes) (mv sp gv ct st os : Lis
   pub events_are : events_of ls ≡ z.events
   pub monitors_are : length (monitors ls) ≡ z.monitors
   pub joint_is : product (monitors ls) ≡ z.joint
-  pub latest_is : mon_states (kind_of (monitor_at (monitors ls) (z.monitors - 1)).kind) ≡ z.latest
-  pub band_is : band_of (kind_of (monitor_at (monitors ls) (z.monitors - 1)).kind) ≡ z.band
-  pub day_is : day_steps (kind_of (monitor_at (monitors ls) (z.monitors - 1)).kind) ≡ z.day
+  pub latest_is : 1 ≤ z.monitors → z.latest ≡ Some (kind_of (monitor_at (monitors ls) (z.monitors - 1)).kind)
+  pub none_latest : z.monitors ≡ 0 → z.latest ≡ None
   pub tabled : Tabled (monitors ls) z.events mv sp ct st
   pub given_are : Given (monitors ls) gv
   pub ordered : take z.events os ≡ order_of ls
@@ -89,16 +89,15 @@ record_from_snoc r front (k ∷ ls) l =
 
 pub holds-none : (mv sp gv ct st : List ℕ) → ((i : ℕ) → i < 2048 → get_or mv i 0 ≡ 255) → ((i : ℕ) → i < 128 → get_or sp i 0 ≡ 0) → ((i : ℕ) → i < 64 → get_or gv i 0 ≡ 0)
     → length mv ≡ 2048 → length sp ≡ 128 → length gv ≡ 64 → length ct ≡ 4 → length st ≡ 4
-    → Holds (record { moves = mv; stops = sp; counts = ct; starts = st; order = lower_first; monitors = 0; events = 0 }) [] (record { events = 0; monitors = 0; latest = 0; band = empty_band; day = 0; joint = 1 }) mv sp gv ct st lower_first
+    → Holds (record { moves = mv; stops = sp; counts = ct; starts = st; order = lower_first; monitors = 0; events = 0 }) [] (record { events = 0; monitors = 0; latest = None; joint = 1 }) mv sp gv ct st lower_first
 unfolding events_of order_of order_from monitors monitors_from product record_from Given
 holds-none mv sp gv ct st blank unmarked none-given long wide_stops wide_given wide wide_starts = record {
   formed = nothing-formed;
   events_are = refl;
   monitors_are = refl;
   joint_is = refl;
-  latest_is = refl;
-  band_is = refl;
-  day_is = refl;
+  latest_is = λ h. absurd (omega arith);
+  none_latest = λ q. refl;
   given_are = λ k e hk he. none-given (given_index k e) (omega arith);
   tabled = record {
     tables = λ k h. absurd (omega arith);
@@ -156,74 +155,36 @@ as_kind_lem (reply a b lo hi) = refl
 as_kind_lem (bal lo hi) = refl
 as_kind_lem (day T) = refl
 
--- in range, a kind that a `go` or `stop` line can be of has states to name, and no other has
-mon_named : (E : ℕ) (k : Kind) → Ranged E k → not (is_mon k) ≡ eqb (mon_states (kind_of k)) 0
-unfolding Ranged
-mon_named E (mon S a) r = sym (ne_eqb S 0 (λ q. omega arith))
-mon_named E (gap e n) r = refl
-mon_named E (reply a b lo hi) r = refl
-mon_named E (bal lo hi) r = refl
-mon_named E (day T) r = refl
+-- what passes the tests of kinds
+mon_is : (k : Kind) → is_mon k ≡ true → (S : ℕ) × (a : ℕ) × (k ≡ mon S a)
+mon_is (mon S a) p = (S, a, refl)
+mon_is (gap e n) p = contra p refl
+mon_is (reply a b lo hi) p = contra p refl
+mon_is (bal lo hi) p = contra p refl
+mon_is (day T) p = contra p refl
 
-few_named : (E : ℕ) (k : Kind) → Ranged E k → mon_states (kind_of k) ≤ 32
-unfolding Ranged
-few_named E (mon S a) r = omega arith
-few_named E (gap e n) r = omega arith
-few_named E (reply a b lo hi) r = omega arith
-few_named E (bal lo hi) r = omega arith
-few_named E (day T) r = omega arith
+bal_is : (k : Kind) → is_bal k ≡ true → (lo : ℤ) × (hi : ℤ) × (k ≡ bal lo hi)
+bal_is (mon S a) p = contra p refl
+bal_is (gap e n) p = contra p refl
+bal_is (reply a b lo hi) p = contra p refl
+bal_is (bal lo hi) p = (lo, hi, refl)
+bal_is (day T) p = contra p refl
 
-is-mon : (k : Kind) → eqb (mon_states (kind_of k)) 0 ≡ false → (S : ℕ) × (a : ℕ) × (k ≡ mon S a) × (mon_states (kind_of k) ≡ S)
-is-mon (mon S a) p = (S, a, refl, refl)
-is-mon (gap e n) p = contra refl p
-is-mon (reply a b lo hi) p = contra refl p
-is-mon (bal lo hi) p = contra refl p
-is-mon (day T) p = contra refl p
-
--- in range, a kind that an `amp` line can be of has a band, and the band of any other is empty
-bal_banded : (E : ℕ) (k : Kind) → Ranged E k → not (is_bal k) ≡ no_band (band_of (kind_of k))
-unfolding Ranged
-bal_banded E (mon S a) r = refl
-bal_banded E (gap e n) r = refl
-bal_banded E (reply a b lo hi) r = refl
-bal_banded E (day T) r = refl
-bal_banded E (bal lo hi) (l, low, high, h) = sym (tells_false (tells_ltℤ hi lo) (λ q. clash_ℤ q (band lo hi low high)))
-
-is-bal : (k : Kind) → no_band (band_of (kind_of k)) ≡ false → k ≡ bal (band_of (kind_of k)).lo (band_of (kind_of k)).hi
-is-bal (mon S a) q = contra refl q
-is-bal (gap e n) q = contra refl q
-is-bal (reply a b l h) q = contra refl q
-is-bal (bal l h) q = refl
-is-bal (day T) q = contra refl q
+day_is : (k : Kind) → is_day k ≡ true → (T : ℕ) × (k ≡ day T)
+day_is (mon S a) p = contra p refl
+day_is (gap e n) p = contra p refl
+day_is (reply a b lo hi) p = contra p refl
+day_is (bal lo hi) p = contra p refl
+day_is (day T) p = (T, refl)
 
 -- a band is in its range
-bal_in_range : (E : ℕ) (lo hi : ℤ) → Ranged E (bal lo hi) → InRange (bal lo hi)
+bal_in_range : (E : ℕ) (k : Kind) → is_bal k ≡ true → Ranged E k → is_out_of_range E k ≡ false
 unfolding Ranged OutOfRange
-bal_in_range E lo hi r = let (l, low, high, h) = r in (E, tells_false (tells_out E (bal lo hi)) (λ o. ⊎_elim (⊎_elim (λ x. clash_ℤ x l) (λ x. clash_ℤ x low)) (⊎_elim (λ x. clash_ℤ x high) (λ x. clash_ℤ x h)) o), refl)
-
--- in range, a kind that an `open` line can be of has steps, and no other has
-day_stepped : (E : ℕ) (k : Kind) → Ranged E k → not (is_day k) ≡ eqb (day_steps (kind_of k)) 0
-unfolding Ranged
-day_stepped E (mon S a) r = refl
-day_stepped E (gap e n) r = refl
-day_stepped E (reply a b lo hi) r = refl
-day_stepped E (bal lo hi) r = refl
-day_stepped E (day T) r = sym (ne_eqb T 0 (λ q. omega arith))
-
-few_steps : (E : ℕ) (k : Kind) → Ranged E k → day_steps (kind_of k) ≤ 32
-unfolding Ranged
-few_steps E (mon S a) r = omega arith
-few_steps E (gap e n) r = omega arith
-few_steps E (reply a b lo hi) r = omega arith
-few_steps E (bal lo hi) r = omega arith
-few_steps E (day T) r = omega arith
-
-is-day : (k : Kind) → eqb (day_steps (kind_of k)) 0 ≡ false → k ≡ day (day_steps (kind_of k))
-is-day (mon S a) q = contra refl q
-is-day (gap e n) q = contra refl q
-is-day (reply a b lo hi) q = contra refl q
-is-day (bal lo hi) q = contra refl q
-is-day (day T) q = refl
+bal_in_range E (mon S a) p r = contra p refl
+bal_in_range E (gap e n) p r = contra p refl
+bal_in_range E (reply a b lo hi) p r = contra p refl
+bal_in_range E (bal lo hi) p r = let (l, low, high, h) = r in tells_false (tells_out E (bal lo hi)) (λ o. ⊎_elim (⊎_elim (λ x. clash_ℤ x l) (λ x. clash_ℤ x low)) (⊎_elim (λ x. clash_ℤ x high) (λ x. clash_ℤ x h)) o)
+bal_in_range E (day T) p r = contra p refl
 
 -- the lines of a `bal` name an event where they give it a step, those of a `day` where they give it hours
 bal_names : (E : ℕ) (lo hi : ℤ) (e : ℕ) (p : Part) → PartRanged E (bal lo hi) p → is_some (step_in e p) ≡ names e p
@@ -354,6 +315,10 @@ module _ (r : Rig) (ls : List Line) (z : Sizes) (mv sp gv ct st os : List ℕ) (
   pub begun_z : empty ls ≡ eqb z.events 0
   begun_z = some_event ls H.formed ∙ ap (λ n. eqb n 0) H.events_are
 
+  -- how many states the latest monitor has
+  abbrev named : ℕ
+  named = latest_states z.latest
+
   -- the latest monitor, where there is one
   abbrev last : Monitor
   last = monitor_at (monitors ls) (z.monitors - 1)
@@ -361,46 +326,40 @@ module _ (r : Rig) (ls : List Line) (z : Sizes) (mv sp gv ct st os : List ℕ) (
   last_kept : 1 ≤ z.monitors → Kept (events_of ls) last
   last_kept h = kept last (get_or-in (monitors ls) (z.monitors - 1) nobody (omega (arith, H.monitors_are)))
 
-  -- where there is none, what a kind has is what that of nobody has
-  of_none : {A : Type 0} (f : Kind → A) → z.monitors ≡ 0 → f last.kind ≡ f nobody.kind
-  of_none f q = rw q (nothing (monitors ls) (H.monitors_are ∙ q))
-    where
-      nothing : (ms : List Monitor) → length ms ≡ 0 → f (monitor_at ms (0 - 1)).kind ≡ f nobody.kind
-      nothing [] e = refl
-      nothing (m ∷ ms) e = absurd (omega arith)
+  -- its kind passes the test f
+  module _ (f : Kind → Bool) where
+    latest_test : not (of_latest (λ m. f m.kind) (latest (monitors ls))) ≡ not (latest_passes f z.latest)
+    unfolding of_latest
+    latest_test = case (eqb z.monitors 0)
+        (λ q. let n = eqb-true z.monitors 0 q in rw (H.none_latest n) (nothing (monitors ls) (H.monitors_are ∙ n)))
+        (λ q. let n = eqb-false z.monitors 0 q in rw (H.latest_is (omega arith), latest_at (monitors ls) (z.monitors - 1) (omega (arith, H.monitors_are)), as_kind_lem last.kind))
+      where
+        nothing : (ms : List Monitor) → length ms ≡ 0 → not (of_latest (λ m. f m.kind) (latest ms)) ≡ true
+        nothing [] e = unfold latest of_latest in refl
+        nothing (m ∷ ms) e = absurd (omega arith)
 
-  none_named : z.monitors ≡ 0 → z.latest ≡ 0
-  none_named q = sym H.latest_is ∙ of_none (λ k. mon_states (kind_of k)) q
+    -- there is one
+    there : not (latest_passes f z.latest) ≡ false → 1 ≤ z.monitors
+    there p = case (eqb z.monitors 0) (λ q. contra (ap (λ o. not (latest_passes f o)) (H.none_latest (eqb-true z.monitors 0 q))) p) (λ q. omega (arith, eqb-false z.monitors 0 q))
 
-  none_banded : z.monitors ≡ 0 → empty_band ≡ z.band
-  none_banded q = sym (of_none (λ k. band_of (kind_of k)) q) ∙ H.band_is
+  latest_kind_is : 1 ≤ z.monitors → latest_kind z.latest ≡ last.kind
+  latest_kind_is h = ap latest_kind (H.latest_is h) ∙ as_kind_lem last.kind
 
-  none_stepped : z.monitors ≡ 0 → z.day ≡ 0
-  none_stepped q = sym H.day_is ∙ of_none (λ k. day_steps (kind_of k)) q
+  passes : (f : Kind → Bool) → not (latest_passes f z.latest) ≡ false → f last.kind ≡ true
+  passes f p = sym (ap f (as_kind_lem last.kind)) ∙ ap (latest_passes f) (sym (H.latest_is (there f p))) ∙ not-false (latest_passes f z.latest) p
 
-  -- where the band is not empty, the latest monitor is a `bal`
-  module _ (b : no_band z.band ≡ false) where
-    some_banded : 1 ≤ z.monitors
-    some_banded = case (eqb z.monitors 0) (λ q. contra (ap no_band (sym (none_banded (eqb-true _ 0 q)))) b) (λ q. omega (arith, eqb-false z.monitors 0 q))
-
-    last_bal : last.kind ≡ bal z.band.lo z.band.hi
-    last_bal = is-bal last.kind (rw H.band_is b) ∙ ap₂ bal (ap (λ b. b.lo) H.band_is) (ap (λ b. b.hi) H.band_is)
-
-    last_band : Ranged (events_of ls) (bal z.band.lo z.band.hi)
-    last_band = subst (Ranged (events_of ls)) last_bal (last_kept some_banded).ranged
+  few_named : latest_states z.latest ≤ 32
+  few_named = case (eqb z.monitors 0)
+      (λ q. rw (H.none_latest (eqb-true z.monitors 0 q)) (unfold states_of in omega arith))
+      (λ q. let h : 1 ≤ z.monitors = omega (arith, eqb-false z.monitors 0 q) in rw (latest_kind_is h) (few_states (events_of ls) last.kind (last_kept h).ranged))
 
   pub room : Allowed z
   room = record {
     few_events = few_z;
     few_monitors = rw (← H.monitors_are) H.formed.monitored.few;
-    few_latest = case (eqb z.monitors 0) (λ q. omega (arith, none_named (eqb-true _ 0 q)))
-        (λ q. rw (← H.latest_is) (few_named (events_of ls) last.kind (last_kept (omega (arith, eqb-false z.monitors 0 q))).ranged));
-    none_latest = none_named;
-    some_band = some_banded;
-    in_band = λ b. bal_in_range (events_of ls) z.band.lo z.band.hi (last_band b);
-    few_day = case (eqb z.monitors 0) (λ q. omega (arith, none_stepped (eqb-true _ 0 q)))
-        (λ q. rw (← H.day_is) (few_steps (events_of ls) last.kind (last_kept (omega (arith, eqb-false z.monitors 0 q))).ranged));
-    none_day = none_stepped;
+    few_latest = few_named;
+    none_latest = λ q. ap std.is_some (H.none_latest q);
+    in_band = λ b. let p = ap not b in rw (latest_kind_is (there is_bal p), ← H.events_are) (bal_in_range (events_of ls) last.kind (passes is_bal p) (last_kept (there is_bal p)).ranged);
     few_joint = rw (← H.joint_is) H.formed.monitored.small;
   }
 
@@ -425,84 +384,66 @@ module _ (r : Rig) (ls : List Line) (z : Sizes) (mv sp gv ct st os : List ℕ) (
     last_table : OfKind mv sp (z.monitors - 1) z.events last.kind last.parts
     last_table = H.tabled.tables (z.monitors - 1) (omega (arith, last_at))
 
-  -- a line of a monitor of the right kind, by a test b that tells whether the latest is one
-  right_kind : (right : Kind → Bool) (b : Bool) → (z.monitors ≡ 0 → b ≡ true) → (Ranged (events_of ls) last.kind → not (right last.kind) ≡ b)
-      → not (of_latest (λ m. right m.kind) (latest (monitors ls))) ≡ b
-  unfolding of_latest
-  right_kind right b without with = case (eqb z.monitors 0)
-      (λ q. let n = eqb-true z.monitors 0 q in rw (without n) (nothing (monitors ls) (H.monitors_are ∙ n)))
-      (λ q. let h = eqb-false z.monitors 0 q in rw (latest_is_last (omega arith)) (with (last_kept (omega arith)).ranged))
-    where
-      nothing : (ms : List Monitor) → length ms ≡ 0 → not (of_latest (λ m. right m.kind) (latest ms)) ≡ true
-      nothing [] e = unfold latest of_latest in refl
-      nothing (m ∷ ms) e = absurd (omega arith)
-
-  misplaced : not (of_latest (λ m. is_mon m.kind) (latest (monitors ls))) ≡ eqb z.latest 0
-  misplaced = right_kind is_mon (eqb z.latest 0) (λ n. rw (none_named n)) (λ r. mon_named (events_of ls) last.kind r ∙ ap (λ n. eqb n 0) H.latest_is)
-
   -- which is a `mon`
-  module _ (placed : eqb z.latest 0 ≡ false) where
+  module _ (placed : not (latest_passes is_mon z.latest) ≡ false) where
     some_monitor : 1 ≤ z.monitors
-    some_monitor = case (eqb z.monitors 0) (λ q. absurd (eqb-false z.latest 0 placed (none_named (eqb-true _ 0 q)))) (λ q. omega (arith, eqb-false z.monitors 0 q))
+    some_monitor = there is_mon placed
 
-    last_mon : (S : ℕ) × (a : ℕ) × (last.kind ≡ mon S a) × (z.latest ≡ S)
-    last_mon = let (S, a, q, e) = is-mon last.kind (rw H.latest_is placed) in (S, a, q, sym H.latest_is ∙ e)
+    last_states : states_of last.kind ≡ latest_states z.latest
+    last_states = ap states_of (sym (latest_kind_is some_monitor))
 
-    last_states : states_of last.kind ≡ z.latest
+    last_mon : (S : ℕ) × (a : ℕ) × (last.kind ≡ mon S a) × (latest_states z.latest ≡ S)
     unfolding states_of
-    last_states = let (S, a, q, e) = last_mon in ap states_of q ∙ sym e
+    last_mon = let (S, a, q) = mon_is last.kind (passes is_mon placed) in (S, a, q, sym last_states ∙ ap states_of q)
 
     -- its lines move to its states
-    moves_within : (s e u : ℕ) → move_by last.parts s e ≡ some u → u < z.latest
+    moves_within : (s e u : ℕ) → move_by last.parts s e ≡ some u → u < named
     unfolding PartRanged
     moves_within s e u q = rw (← last_states) ((last_kept some_monitor).parts_ranged (go s e u) (moved last.parts s e u q)).3
 
     out_of_range : (s e t : ℕ)
         → of_latest (λ m. leb (states_of m.kind) s || (leb (events_of ls) e || leb (states_of m.kind) t)) (latest (monitors ls))
-        ≡ (leb z.latest s || (leb z.events e || leb z.latest t))
+        ≡ (leb named s || (leb z.events e || leb named t))
     unfolding of_latest
     out_of_range s e t = rw (latest_is_last some_monitor, last_states, H.events_are)
 
-    again : (s e t : ℕ) → (leb z.latest s || (leb z.events e || leb z.latest t)) ≡ false
+    again : (s e t : ℕ) → (leb named s || (leb z.events e || leb named t)) ≡ false
         → of_latest (λ m. is_some (move_by m.parts s e)) (latest (monitors ls)) ≡ not (eqb (move_at mv (z.monitors - 1) s e) 255)
     unfolding of_latest
     again s e t p =
         let (S, a, q, n) = last_mon in
-        let hs = leb-false z.latest s (or_left (leb z.latest s) _ p) in
-        let he = leb-false z.events e (or_left (leb z.events e) _ (or-rest (leb z.latest s) _ p)) in
+        let hs = leb-false named s (or_left (leb named s) _ p) in
+        let he = leb-false z.events e (or_left (leb z.events e) _ (or-rest (leb named s) _ p)) in
         rw (latest_is_last some_monitor) (seen mv sp (z.monitors - 1) z.events S a last.parts (subst (λ k. OfKind mv sp (z.monitors - 1) z.events k last.parts) q (last_table some_monitor))
         (rw (← n) room.few_latest) (λ s e u m. rw (← n) (moves_within s e u m)) s e (rw (← n) hs) he)
 
-    state_out_of_range : (s : ℕ) → of_latest (λ m. leb (states_of m.kind) s) (latest (monitors ls)) ≡ leb z.latest s
+    state_out_of_range : (s : ℕ) → of_latest (λ m. leb (states_of m.kind) s) (latest (monitors ls)) ≡ leb named s
     unfolding of_latest
     state_out_of_range s = rw (latest_is_last some_monitor, last_states)
 
-    marked_again : (s : ℕ) → leb z.latest s ≡ false → of_latest (λ m. marked_by m.parts s) (latest (monitors ls)) ≡ not (eqb (stop_at sp (z.monitors - 1) s) 0)
+    marked_again : (s : ℕ) → leb named s ≡ false → of_latest (λ m. marked_by m.parts s) (latest (monitors ls)) ≡ not (eqb (stop_at sp (z.monitors - 1) s) 0)
     unfolding of_latest
     marked_again s p =
         let (S, a, q, n) = last_mon in
         rw (latest_is_last some_monitor) (seen_mark mv sp (z.monitors - 1) z.events S a last.parts (subst (λ k. OfKind mv sp (z.monitors - 1) z.events k last.parts) q (last_table some_monitor))
-        (rw (← n) room.few_latest) s (rw (← n) (leb-false z.latest s p)))
+        (rw (← n) room.few_latest) s (rw (← n) (leb-false named s p)))
 
   go_case_lem : (s e t : ℕ) → go_case mv z s e t ≡ line_case ls (continues (go s e t))
   unfolding go_case line_case tests test_continuing
-  go_case_lem s e t = sym (same_picks 4 _ _ _ _ _ _ misplaced (λ p. out_of_range p s e t) (λ p. again p s e t))
+  go_case_lem s e t = sym (same_picks 4 _ _ _ _ _ _ (latest_test is_mon) (λ p. out_of_range p s e t) (λ p. again p s e t))
 
   stop_case_lem : (s : ℕ) → stop_case sp z s ≡ line_case ls (continues (stop s))
   unfolding stop_case line_case tests test_continuing
-  stop_case_lem s = sym (same_picks 4 _ _ _ _ _ _ misplaced (λ p. state_out_of_range p s) (λ p. marked_again p s))
+  stop_case_lem s = sym (same_picks 4 _ _ _ _ _ _ (latest_test is_mon) (λ p. state_out_of_range p s) (λ p. marked_again p s))
 
   -- what has been given is seen in the list
   told : (b : Bool) → b ≡ not (eqb (pick b 1 0) 0)
   told true = refl
   told false = refl
 
-  amp_misplaced : not (of_latest (λ m. is_bal m.kind) (latest (monitors ls))) ≡ no_band z.band
-  amp_misplaced = right_kind is_bal (no_band z.band) (λ n. rw (← none_banded n)) (λ r. bal_banded (events_of ls) last.kind r ∙ ap no_band H.band_is)
-
-  module _ (placed : no_band z.band ≡ false) (e : ℕ) (d : ℤ) where
+  module _ (placed : not (latest_passes is_bal z.latest) ≡ false) (e : ℕ) (d : ℤ) where
     amp_there : 1 ≤ z.monitors
-    amp_there = some_banded placed
+    amp_there = there is_bal placed
 
     amp_out : of_latest (λ m. leb (events_of ls) e || outsideℤ (neg_ℤ (pos 15)) (pos 15) d) (latest (monitors ls)) ≡ (leb z.events e || outsideℤ (neg_ℤ (pos 15)) (pos 15) d)
     unfolding of_latest
@@ -513,29 +454,26 @@ module _ (r : Rig) (ls : List Line) (z : Sizes) (mv sp gv ct st os : List ℕ) (
     unfolding of_latest Given
     given_again p =
         let he = leb-false z.events e (or_left (leb z.events e) _ p) in
-        rw (latest_is_last amp_there, H.given_are (z.monitors - 1) e (omega (arith, room.few_monitors, amp_there)) (omega (arith, few_z)), steps_named (events_of ls) last (last_kept amp_there) e z.band.lo z.band.hi (last_bal placed))
+        rw (latest_is_last amp_there, H.given_are (z.monitors - 1) e (omega (arith, room.few_monitors, amp_there)) (omega (arith, few_z)), (let (lo, hi, k) = bal_is last.kind (passes is_bal placed) in steps_named (events_of ls) last (last_kept amp_there) e lo hi k))
         (told (any (names e) last.parts))
 
   amp_case_lem : (e : ℕ) (d : ℤ) → amp_case gv z e d ≡ line_case ls (continues (amp e d))
   unfolding amp_case line_case tests test_continuing
-  amp_case_lem e d = sym (same_picks 4 _ _ _ _ _ _ amp_misplaced (λ p. amp_out p e d) (λ p. given_again p e d))
-
-  open_misplaced : not (of_latest (λ m. is_day m.kind) (latest (monitors ls))) ≡ eqb z.day 0
-  open_misplaced = right_kind is_day (eqb z.day 0) (λ n. rw (none_stepped n)) (λ r. day_stepped (events_of ls) last.kind r ∙ ap (λ n. eqb n 0) H.day_is)
+  amp_case_lem e d = sym (same_picks 4 _ _ _ _ _ _ (latest_test is_bal) (λ p. amp_out p e d) (λ p. given_again p e d))
 
   -- the latest monitor is a `day`
-  module _ (placed : eqb z.day 0 ≡ false) where
+  module _ (placed : not (latest_passes is_day z.latest) ≡ false) where
     open_there : 1 ≤ z.monitors
-    open_there = case (eqb z.monitors 0) (λ q. absurd (eqb-false z.day 0 placed (none_stepped (eqb-true _ 0 q)))) (λ q. omega (arith, eqb-false z.monitors 0 q))
+    open_there = there is_day placed
 
-    last_day : last.kind ≡ day z.day
-    last_day = is-day last.kind (rw H.day_is placed) ∙ ap day H.day_is
+    last_steps : states_of last.kind ≡ latest_states z.latest
+    last_steps = ap states_of (sym (latest_kind_is open_there))
 
-    last_steps : states_of last.kind ≡ z.day
+    last_day : last.kind ≡ day (latest_states z.latest)
     unfolding states_of
-    last_steps = ap states_of last_day
+    last_day = let (T, q) = day_is last.kind (passes is_day placed) in q ∙ ap day (sym (sym last_steps ∙ ap states_of q))
 
-    open_out : (e b : ℕ) → of_latest (λ m. leb (events_of ls) e || ltb (states_of m.kind) b) (latest (monitors ls)) ≡ (leb z.events e || ltb z.day b)
+    open_out : (e b : ℕ) → of_latest (λ m. leb (events_of ls) e || ltb (states_of m.kind) b) (latest (monitors ls)) ≡ (leb z.events e || ltb (latest_states z.latest) b)
     unfolding of_latest
     open_out e b = rw (latest_is_last open_there, last_steps, H.events_are)
 
@@ -543,7 +481,7 @@ module _ (r : Rig) (ls : List Line) (z : Sizes) (mv sp gv ct st os : List ℕ) (
     first_hours : (e : ℕ) → e < z.events → eqb (given_at gv (z.monitors - 1) e) 0 ≡ not (has_hours last.parts e)
     unfolding Given
     first_hours e he =
-        rw (H.given_are (z.monitors - 1) e (omega (arith, room.few_monitors, open_there)) (omega (arith, few_z)), hours_named (events_of ls) last (last_kept open_there) e z.day last_day)
+        rw (H.given_are (z.monitors - 1) e (omega (arith, room.few_monitors, open_there)) (omega (arith, few_z)), hours_named (events_of ls) last (last_kept open_there) e (latest_states z.latest) last_day)
         (seen_none (any (names e) last.parts))
       where
         seen_none : (b : Bool) → eqb (pick b 1 0) 0 ≡ not b
@@ -552,7 +490,7 @@ module _ (r : Rig) (ls : List Line) (z : Sizes) (mv sp gv ct st os : List ℕ) (
 
   open_case_lem : (e a b : ℕ) → open_case z e a b ≡ line_case ls (continues (opens e a b))
   unfolding open_case line_case tests test_continuing
-  open_case_lem e a b = rw (never_again (latest (monitors ls))) (sym (same_picks 18 _ _ _ _ (leb b a) (leb b a) open_misplaced (λ p. open_out p e b) (λ p o. refl)))
+  open_case_lem e a b = rw (never_again (latest (monitors ls))) (sym (same_picks 18 _ _ _ _ (leb b a) (leb b a) (latest_test is_day) (λ p. open_out p e b) (λ p o. refl)))
     where
       never_again : (o : Option Monitor) → of_latest (λ m. false) o ≡ false
       never_again none = unfold of_latest in refl
@@ -593,8 +531,7 @@ module _ (r : Rig) (ls : List Line) (z : Sizes) (mv sp gv ct st os : List ℕ) (
         monitors_are = rw ms H.monitors_are;
         joint_is = rw ms H.joint_is;
         latest_is = rw ms H.latest_is;
-        band_is = rw ms H.band_is;
-        day_is = rw ms H.day_is;
+        none_latest = H.none_latest;
         given_are = rw ms H.given_are;
         tabled = rw ms (more-events (monitors ls) z.events e mv sp ct st (no_monitor ls (begun_z ∙ first)) H.tabled);
         ordered = ap (take e) (H.unordered (eqb-true z.events 0 first)) ∙ take_range e 16 (rw (← events) (few_events _ formed)) ∙ sym (order_more ls (rig e));
@@ -614,7 +551,7 @@ module _ (r : Rig) (ls : List Line) (z : Sizes) (mv sp gv ct st os : List ℕ) (
 
   -- a line that begins a monitor of the kind k
   holds_begins : (k : Kind) → kind_case z (kind_of k) ≡ 0
-      → Holds r (ls ++ (begins k ∷ [])) (record { events = z.events; monitors = z.monitors + 1; latest = mon_states (kind_of k); band = band_of (kind_of k); day = day_steps (kind_of k); joint = z.joint * states_of k })
+      → Holds r (ls ++ (begins k ∷ [])) (record { events = z.events; monitors = z.monitors + 1; latest = Some (kind_of k); joint = z.joint * states_of k })
       (kind_moves mv z.monitors k) (kind_stops sp z.monitors k) gv (set ct z.monitors (states_of k)) (set st z.monitors (start_of k)) os
   unfolding with_line extended reordered
   holds_begins k q =
@@ -629,9 +566,8 @@ module _ (r : Rig) (ls : List Line) (z : Sizes) (mv sp gv ct st os : List ℕ) (
         events_are = events_snoc ls (begins k) not_empty ∙ H.events_are;
         monitors_are = rw (ms, length-append, H.monitors_are);
         joint_is = rw (ms, product-append, H.joint_is);
-        latest_is = rw ms (ap (λ m. mon_states (kind_of m.kind)) (new_at (monitors ls) (fresh k) (z.monitors + 1 - 1) (omega (arith, H.monitors_are))));
-        band_is = rw ms (ap (λ m. band_of (kind_of m.kind)) (new_at (monitors ls) (fresh k) (z.monitors + 1 - 1) (omega (arith, H.monitors_are))));
-        day_is = rw ms (ap (λ m. day_steps (kind_of m.kind)) (new_at (monitors ls) (fresh k) (z.monitors + 1 - 1) (omega (arith, H.monitors_are))));
+        latest_is = λ h. rw ms (ap (λ m. Some (kind_of m.kind)) (sym (new_at (monitors ls) (fresh k) (z.monitors + 1 - 1) (omega (arith, H.monitors_are)))));
+        none_latest = λ n. absurd (omega arith);
         given_are = rw ms (given_fresh k);
         tabled = rw (ms, ← H.monitors_are) (one_more (monitors ls) z.events k mv sp (kind_moves mv (length (monitors ls)) k) (kind_stops sp (length (monitors ls)) k) ct st H.wide H.wide_starts few_z few ranged
             (λ i ne. record {
@@ -664,9 +600,8 @@ module _ (r : Rig) (ls : List Line) (z : Sizes) (mv sp gv ct st os : List ℕ) (
         events_are = events_snoc ls (continues p) not_empty ∙ H.events_are;
         monitors_are = rw (ms, length-add_part) H.monitors_are;
         joint_is = rw (ms, product-add_part) H.joint_is;
-        latest_is = rw ms (ap (λ k. mon_states (kind_of k)) (kind-add_part p (monitors ls) (z.monitors - 1)) ∙ H.latest_is);
-        band_is = rw ms (ap (λ k. band_of (kind_of k)) (kind-add_part p (monitors ls) (z.monitors - 1)) ∙ H.band_is);
-        day_is = rw ms (ap (λ k. day_steps (kind_of k)) (kind-add_part p (monitors ls) (z.monitors - 1)) ∙ H.day_is);
+        latest_is = λ h. rw ms (H.latest_is h ∙ ap (λ k. Some (kind_of k)) (sym (kind-add_part p (monitors ls) (z.monitors - 1))));
+        none_latest = H.none_latest;
         given_are = rw ms given;
         tabled = rw ms tabled;
         ordered = H.ordered ∙ sym (order_more ls (continues p));
@@ -686,14 +621,14 @@ module _ (r : Rig) (ls : List Line) (z : Sizes) (mv sp gv ct st os : List ℕ) (
   holds_go : (s e t : ℕ) → go_case mv z s e t ≡ 0 → Holds r (ls ++ (continues (go s e t) ∷ [])) z (go_moves mv z s e t) sp gv ct st os
   unfolding go_case with_part
   holds_go s e t q =
-      let (p, q₁) = pick_zero (eqb z.latest 0) 5 _ (omega arith) q in
-      let (o, q₂) = pick_zero (leb z.latest s || (leb z.events e || leb z.latest t)) 3 _ (omega arith) q₁ in
+      let (p, q₁) = pick_zero (not (latest_passes is_mon z.latest)) 5 _ (omega arith) q in
+      let (o, q₂) = pick_zero (leb named s || (leb z.events e || leb named t)) 3 _ (omega arith) q₁ in
       let (f, q₃) = pick_zero (not (eqb (move_at mv (z.monitors - 1) s e) 255)) 4 0 (omega arith) q₂ in
-      let rest = or-rest (leb z.latest s) _ o in
-      let hs : s < z.latest = leb-false z.latest s (or_left (leb z.latest s) _ o) in
+      let rest = or-rest (leb named s) _ o in
+      let hs : s < named = leb-false named s (or_left (leb named s) _ o) in
       let he : e < z.events = leb-false z.events e (or_left (leb z.events e) _ rest) in
-      let ht : t < z.latest = leb-false z.latest t (or-rest (leb z.events e) _ rest) in
-      let few : z.latest ≤ 32 = room.few_latest in
+      let ht : t < named = leb-false named t (or-rest (leb z.events e) _ rest) in
+      let few : named ≤ 32 = room.few_latest in
       let hm : z.monitors - 1 < 4 = omega (arith, room.few_monitors, some_monitor p) in
       let (S, a, k, n) = last_mon p in
       holds_continues (go s e t) (go_moves mv z s e t) sp gv (some_monitor p) (sym (go_case_lem s e t) ∙ q) (length-set mv (move_index (z.monitors - 1) s e) t ∙ H.long) H.wide_stops H.wide_given refl
@@ -708,10 +643,10 @@ module _ (r : Rig) (ls : List Line) (z : Sizes) (mv sp gv ct st os : List ℕ) (
   holds_stop : (s : ℕ) → stop_case sp z s ≡ 0 → Holds r (ls ++ (continues (stop s) ∷ [])) z mv (stop_stops sp z s) gv ct st os
   unfolding stop_case with_part
   holds_stop s q =
-      let (p, q₁) = pick_zero (eqb z.latest 0) 5 _ (omega arith) q in
-      let (o, q₂) = pick_zero (leb z.latest s) 3 _ (omega arith) q₁ in
-      let hs : s < z.latest = leb-false z.latest s o in
-      let few : z.latest ≤ 32 = room.few_latest in
+      let (p, q₁) = pick_zero (not (latest_passes is_mon z.latest)) 5 _ (omega arith) q in
+      let (o, q₂) = pick_zero (leb named s) 3 _ (omega arith) q₁ in
+      let hs : s < named = leb-false named s o in
+      let few : named ≤ 32 = room.few_latest in
       let hm : z.monitors - 1 < 4 = omega (arith, room.few_monitors, some_monitor p) in
       let (S, a, k, n) = last_mon p in
       holds_continues (stop s) mv (stop_stops sp z s) gv (some_monitor p) (sym (stop_case_lem s) ∙ q) H.long (length-set sp (stop_index (z.monitors - 1) s) 1 ∙ H.wide_stops) H.wide_given refl
@@ -722,21 +657,19 @@ module _ (r : Rig) (ls : List Line) (z : Sizes) (mv sp gv ct st os : List ℕ) (
       H.tabled)
       (given-kept (stop s) (monitors ls) gv (λ e. refl) H.given_are)
 
-  holds_amp : (e : ℕ) (d : ℤ) → amp_case gv z e d ≡ 0 → Holds r (ls ++ (continues (amp e d) ∷ [])) z (amp_moves mv z e d) sp (with_given gv z e) ct st os
+  holds_amp : (lo hi : ℤ) → last.kind ≡ bal lo hi → (e : ℕ) (d : ℤ) → amp_case gv z e d ≡ 0 → Holds r (ls ++ (continues (amp e d) ∷ [])) z (amp_moves mv z e d) sp (with_given gv z e) ct st os
   unfolding amp_case with_part of_latest
-  holds_amp e d q =
-      let (p, q₁) = pick_zero (no_band z.band) 5 _ (omega arith) q in
+  holds_amp lo hi k e d q =
+      let (p, q₁) = pick_zero (not (latest_passes is_bal z.latest)) 5 _ (omega arith) q in
       let (o, q₂) = pick_zero (leb z.events e || outsideℤ (neg_ℤ (pos 15)) (pos 15) d) 3 _ (omega arith) q₁ in
       let (f, q₃) = pick_zero (not (eqb (given_at gv (z.monitors - 1) e) 0)) 4 0 (omega arith) q₂ in
       let he : e < z.events = leb-false z.events e (or_left (leb z.events e) _ o) in
       let there : 1 ≤ z.monitors = amp_there p e d in
       let hm : z.monitors - 1 < 4 = omega (arith, room.few_monitors) in
-      let lo = z.band.lo in
-      let hi = z.band.hi in
-      let k = last_bal p in
-      let few : states_of (bal lo hi) ≤ 32 = few_states (events_of ls) (bal lo hi) (last_band p) in
+      let kind : latest_kind z.latest ≡ bal lo hi = latest_kind_is there ∙ k in
+      let few : states_of (bal lo hi) ≤ 32 = few_states (events_of ls) (bal lo hi) (subst (Ranged (events_of ls)) k (last_kept there).ranged) in
       let new : step_by last.parts e ≡ none = not_some (step_by last.parts e) (rw (latest_is_last there) at (given_again p e d o ∙ f)) in
-      holds_continues (amp e d) (amp_moves mv z e d) sp (with_given gv z e) there (sym (amp_case_lem e d) ∙ q) (length_column mv (z.monitors - 1) e _ (states_of (bal lo hi)) ∙ H.long) H.wide_stops
+      rw kind (holds_continues (amp e d) (with_step mv (z.monitors - 1) (bal lo hi) e d) sp (with_given gv z e) there (sym (amp_case_lem e d) ∙ q) (length_column mv (z.monitors - 1) e _ (states_of (bal lo hi)) ∙ H.long) H.wide_stops
       (length-set gv (given_index (z.monitors - 1) e) 1 ∙ H.wide_given)
       (rw k)
       (one_part (amp e d) (monitors ls) z.events (z.monitors - 1) mv sp (with_step mv (z.monitors - 1) (bal lo hi) e d) sp ct st (last_at there) few_z ranged
@@ -744,30 +677,34 @@ module _ (r : Rig) (ls : List Line) (z : Sizes) (mv sp gv ct st os : List ℕ) (
       (with_amp mv sp (z.monitors - 1) z.events lo hi last.parts (subst (λ k. OfKind mv sp (z.monitors - 1) z.events k last.parts) k T) few e d hm H.long few_z he new))
       (λ i ne. amp_beside mv sp i (z.monitors - 1) e (bal lo hi) d ne few (omega (arith, few_z)))
       H.tabled)
-      (given-more (amp e d) e (monitors ls) (z.monitors - 1) gv (λ u. refl) (last_at there) hm (omega (arith, few_z)) H.wide_given H.given_are)
+      (given-more (amp e d) e (monitors ls) (z.monitors - 1) gv (λ u. refl) (last_at there) hm (omega (arith, few_z)) H.wide_given H.given_are))
     where
       not_some : (o : Option ℤ) → is_some o ≡ false → o ≡ none
       not_some none q = refl
       not_some (some c) q = contra refl q
 
+  some_band : (e : ℕ) (d : ℤ) → amp_case gv z e d ≡ 0 → (lo : ℤ) × (hi : ℤ) × (last.kind ≡ bal lo hi)
+  unfolding amp_case
+  some_band e d q = bal_is last.kind (passes is_bal (pick_zero (not (latest_passes is_bal z.latest)) 5 _ (omega arith) q).0)
+
   holds_open : (e a b : ℕ) → open_case z e a b ≡ 0 → Holds r (ls ++ (continues (opens e a b) ∷ [])) z (open_moves mv gv z e a b) sp (with_given gv z e) ct st os
   unfolding open_case with_part
   holds_open e a b q =
-      let (p, q₁) = pick_zero (eqb z.day 0) 5 _ (omega arith) q in
-      let (o, q₂) = pick_zero (leb z.events e || ltb z.day b) 3 _ (omega arith) q₁ in
+      let (p, q₁) = pick_zero (not (latest_passes is_day z.latest)) 5 _ (omega arith) q in
+      let (o, q₂) = pick_zero (leb z.events e || ltb (latest_states z.latest) b) 3 _ (omega arith) q₁ in
       let he : e < z.events = leb-false z.events e (or_left (leb z.events e) _ o) in
       let there : 1 ≤ z.monitors = open_there p in
       let hm : z.monitors - 1 < 4 = omega (arith, room.few_monitors) in
       let first = first_hours p e he in
       let k = last_day p in
       holds_continues (opens e a b) (open_moves mv gv z e a b) sp (with_given gv z e) there (sym (open_case_lem e a b) ∙ q)
-      (length_column mv (z.monitors - 1) e _ z.day ∙ H.long) H.wide_stops
+      (length_column mv (z.monitors - 1) e _ (latest_states z.latest) ∙ H.long) H.wide_stops
       (length-set gv (given_index (z.monitors - 1) e) 1 ∙ H.wide_given)
       (rw (last_steps p, first))
       (one_part (opens e a b) (monitors ls) z.events (z.monitors - 1) mv sp (open_moves mv gv z e a b) sp ct st (last_at there) few_z ranged
       (λ T. subst (λ k. OfKind (open_moves mv gv z e a b) sp (z.monitors - 1) z.events k (last.parts ++ (opens e a b ∷ []))) (sym k)
-      (rw first (with_open mv sp (z.monitors - 1) z.events z.day last.parts (subst (λ k. OfKind mv sp (z.monitors - 1) z.events k last.parts) k T) e a b hm H.long few_z room.few_day he)))
-      (λ i ne. open_beside mv sp i (z.monitors - 1) z.day e a b (eqb (given_at gv (z.monitors - 1) e) 0) ne room.few_day (omega (arith, few_z)))
+      (rw first (with_open mv sp (z.monitors - 1) z.events (latest_states z.latest) last.parts (subst (λ k. OfKind mv sp (z.monitors - 1) z.events k last.parts) k T) e a b hm H.long few_z few_named he)))
+      (λ i ne. open_beside mv sp i (z.monitors - 1) (latest_states z.latest) e a b (eqb (given_at gv (z.monitors - 1) e) 0) ne few_named (omega (arith, few_z)))
       H.tabled)
       (given-more (opens e a b) e (monitors ls) (z.monitors - 1) gv (λ u. refl) (last_at there) hm (omega (arith, few_z)) H.wide_given H.given_are)
 
@@ -788,8 +725,7 @@ module _ (r : Rig) (ls : List Line) (z : Sizes) (mv sp gv ct st os : List ℕ) (
         monitors_are = rw ms H.monitors_are;
         joint_is = rw ms H.joint_is;
         latest_is = rw ms H.latest_is;
-        band_is = rw ms H.band_is;
-        day_is = rw ms H.day_is;
+        none_latest = H.none_latest;
         given_are = rw ms H.given_are;
         tabled = rw ms H.tabled;
         ordered = ap₂ take (sym full) left ∙ take_at es (drop (length es) os) (length es) refl ∙ sym (order_more ls (ord es));
@@ -810,6 +746,6 @@ module _ (r : Rig) (ls : List Line) (z : Sizes) (mv sp gv ct st os : List ℕ) (
   holds_more (begins kind) line left n k q = rw (k, as_kind_lem kind) (holds_begins kind q)
   holds_more (continues (go s e t)) line left n k q = rw k (holds_go s e t q)
   holds_more (continues (stop s)) line left n k q = rw k (holds_stop s q)
-  holds_more (continues (amp e d)) line left n k q = rw k (holds_amp e d q)
+  holds_more (continues (amp e d)) line left n k q = let (lo, hi, b) = some_band e d q in rw k (holds_amp lo hi b e d q)
   holds_more (continues (opens e a b)) line left n k q = rw k (holds_open e a b q)
   holds_more other line left n k q = absurd (omega arith)

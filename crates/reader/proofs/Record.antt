@@ -31,7 +31,8 @@ use Rattle.rig.specs.declared.Rig.{Rig}
 use Rattle.rig.specs.Record.{move_at, count_of, start_at, order_in, move_of, stop_of, monitor_at, standing, record_automaton, record_start, WellFormed, lower_first, empty_rig}
 use Rattle.decoding.specs.Forms.{over, form_of}
 use Rattle.decoding.proofs.Listed.{Leaves}
-use Rattle.kinds.specs.Kinds.{empty_band, entry_of}
+use Rattle.kinds.specs.Kinds.{entry_of}
+use Rattle.std.specs.Prelude.{None}
 use Rattle.kinds.proofs.Tables.{OfKind}
 use Rattle.taking.specs.declared.Sizes.{Sizes}
 use Rattle.reader.specs.Reading.{nobody, record_from, where_served, record_of}
@@ -91,7 +92,7 @@ held_all r front (l ∷ back) H s =
 
 held_none : Held empty_rig []
 held_none = record {
-  sizes_are = record { events = 0; monitors = 0; latest = 0; band = empty_band; day = 0; joint = 1 };
+  sizes_are = record { events = 0; monitors = 0; latest = None; joint = 1 };
   moves_are = replicate 2048 255;
   marks_are = replicate 128 0;
   given_are = replicate 64 0;

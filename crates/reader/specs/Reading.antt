@@ -1,6 +1,5 @@
 -- What `read` answers and the record that it gives. Paper 01, 'Rig text' and 'Numbers of refusal'.
---   answer_of v         == the verdict v in the paper's numbers
---   refusal n p        == what is given for a text that is refused, its record empty
+--   answer_of r         == the result r in the paper's numbers
 --   nobody             == what stands past the last monitor
 --   with_part r m p     == the record r with the line p of its latest monitor, which is m before it
 --   with_line r front l == the record r of the lines `front` with the line l
@@ -8,27 +7,22 @@
 --   where_served a r s  == r where the answer a is served, else s
 --   record_of t         == the record of the text t, empty where t is refused
 -- A new part of a monitor is one clause of with_part. Assumes nothing.
-use Rattle.std.specs.Prelude.{not, List, [], ◌∷◌, ◌++◌, ℕ, ◌+◌, ◌-◌, length, get_or, drop, set}
+use Rattle.std.specs.Prelude.{not, List, [], ◌∷◌, ◌++◌, ℕ, ◌+◌, ◌-◌, Result, length, get_or, drop, set}
 use Rattle.promises.specs.Answer.{Answer, served, refused}
 use Rattle.promises.specs.Text.{mon, Part, go, stop, amp, opens, Line, rig, ord, begins, continues, other, Monitor, monitors, states_of, start_of, decoded}
 use Rattle.promises.specs.Reading.{has_hours, reading}
+use Rattle.refusal.specs.Numbers.{answered}
+use Rattle.refusal.specs.declared.Refusal.{Refusal}
 use Rattle.rig.specs.declared.Rig.{Rig}
 use Rattle.rig.specs.Record.{move_index, stop_index, empty_rig}
 use Rattle.kinds.specs.Kinds.{with_step, kind_moves, kind_stops, with_hours}
-use Rattle.reader.specs.declared.Reading.{Reading}
-use Rattle.reader.specs.declared.Verdict.{Verdict}
-use Rattle.reader.specs.declared.Verdict.TheVariants.{Readable, Refused}
 
 abbrev pub nobody : Monitor
 nobody = record { kind = mon 0 0; parts = [] }
 
 -- 'A refusal is its number and a place'
-abbrev pub answer_of : Verdict → Answer
-answer_of Readable = served []
-answer_of (Refused number place) = refused number place
-
-abbrev pub refusal : ℕ → ℕ → Reading
-refusal number place = record { verdict = Refused number place; rig = empty_rig }
+abbrev pub answer_of : Result Rig Refusal → Answer
+answer_of r = answered (λ rig. []) r
 
 -- '`go`, s, e, t: the latest monitor moves from s to t on event e'; '`stop`, s marks a state of the latest monitor' (02 no. 4); '`amp`, e, d line gives event e a
 -- signed step d' (02 no. 6): the moves on e are those of this step; '`open`, e, a, b lines admit e at steps a up to but not including b', and 'Several lines add

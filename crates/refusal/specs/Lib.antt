@@ -1,2 +1,3 @@
 -- The papers' number and place of each refusal.
 pub mod Numbers
+pub mod Places

@@ -1,16 +1,19 @@
 -- The commands of a scenario leg by leg, and those of a sheet scenario by scenario, as they are measured and written. Assumes nothing.
-use mathlib.Core.Path.{◌≡◌, refl, sym, ap, ◌∙◌}
-use mathlib.Core.Logic.{◌⊎◌, inl, inr}
-use mathlib.Core.List.{List, [], ◌∷◌, ◌++◌}
-use Prim.Native.Nat.{ℕ, zero, suc, ◌+◌, ◌-◌, ◌*◌, ◌/◌, ◌≤◌, ◌<◌}
+use mathlib.Core.Path.{◌≡◌, refl, ap, ◌∙◌}
+use mathlib.Core.List.{List, [], ◌∷◌, ◌++◌, append-nil}
+use Prim.Native.Nat.{ℕ, zero, suc, ◌+◌, ◌-◌, ◌*◌, ◌/◌, ◌^◌, ◌≤◌, ◌<◌, min}
 use native.Mathlib.Numerals.{add-one}
 use native.Mathlib.Omega.{arith}
 use native.Mathlib.Nat.{zero-add, add-zero, add-suc, mul-div_cancel, div-le_self}
-use lib.ListN.{length, take, drop, length-append, length-take, length-drop, drop_of_length-le}
-use lib.Seq.{drop-drop, length-take-le}
+use lib.ListN.{length, get_or, take, drop, length-append, length-take, length-drop, drop_of_length-le}
+use lib.Seq.{take_all, take-append_seam, drop-append_seam, get_or-drop}
+use lib.Dec.{eqb}
+use borrow.Author.Tests.{eqb-true, eqb-false}
 use Rattle.lists.specs.Lists.{stack}
-use Rattle.lists.proofs.Tests.{split}
+use Rattle.lists.proofs.Tests.{case}
 use Rattle.lists.proofs.Decimal.{decimal-some}
+use Rattle.decimal.proofs.Digits.{decimal-fits}
+use Rattle.line.proofs.Pieces.{fields-short}
 use Rattle.line.specs.Line.{line_from}
 use Rattle.promises.specs.Text.{bytes}
 use Rattle.promises.specs.Spelling.{joined}
@@ -18,33 +21,24 @@ use Rattle.promises.specs.Sheets.{slot_for, depth_for, tail, leg, legs, part, pr
 use Rattle.promises.proofs.Bench.{loaded_short, events-append, events_part}
 use Rattle.promises.proofs.Sheets.{scenario_long}
 use Rattle.sheets.specs.Writing.{legs_text, part_of}
-use Rattle.sheets.proofs.Texts.{text-load, text-append, slot-long}
+use Rattle.sheets.proofs.Texts.{text-load, text-append, slot-long, leg_unsaved, saved_long, run_long}
 
 -- ---- the legs
 
-module _ (g j from : ℕ) (rest : List ℕ) where
-  -- the run of a leg, and what is left after it
-  pub record OneLeg (run : List ℕ) : Type 0 where
-    pub some : 0 < length run
-    pub within : from + length run ≤ length rest
-    pub text_more : legs_text g j (drop from rest) ≡ text (leg g (j + 1) run) ++ legs_text g (j + 1) (drop (from + length run) rest)
+-- a run comes off the front, and is short only where less is left
+next_run : (g : ℕ) (run after : List ℕ) → length run ≡ min g (length (run ++ after)) → (take g (run ++ after) ≡ run) × (drop g (run ++ after) ≡ after)
+next_run g run [] q = rw append-nil (take_all g run short, drop_of_length-le run {i = g} short)
+  where
+    short : length run ≤ g
+    short = omega arith
+next_run g run (e ∷ after) q =
+    let whole : g ≡ length run = omega (arith, length-append run (e ∷ after)) in
+    rw whole (take-append_seam run (e ∷ after), drop-append_seam run (e ∷ after))
 
-  pub length_more : (run : List ℕ) → OneLeg run → length (legs_text g j (drop from rest)) ≡ length (text (leg g (j + 1) run)) + length (legs_text g (j + 1) (drop (from + length run) rest))
-  length_more run l = ap length l.text_more ∙ length-append (text (leg g (j + 1) run)) (legs_text g (j + 1) (drop (from + length run) rest))
-
-  pub legs_end : length rest ≤ from → legs_text g j (drop from rest) ≡ []
-  unfolding legs text joined
-  legs_end h = rw (drop_of_length-le rest {i = from} h)
-
-  -- where the next leg begins
-  next_leg : drop (from + length (take g (drop from rest))) rest ≡ drop g (drop from rest)
-  next_leg = go (split g (length (drop from rest)))
-    where
-      go : (g ≤ length (drop from rest)) ⊎ (length (drop from rest) < g) → drop (from + length (take g (drop from rest))) rest ≡ drop g (drop from rest)
-      go (inl h) = rw (length-take-le g (drop from rest) h) (sym (drop-drop g from rest))
-      go (inr h) =
-          drop_of_length-le rest {i = from + length (take g (drop from rest))} (rw length-take (omega (arith, length-drop from rest)))
-          ∙ sym (drop_of_length-le (drop from rest) {i = g} (omega arith))
+pub legs_end : (g j : ℕ) (rest : List ℕ) → length rest ≡ 0 → legs_text g j rest ≡ []
+unfolding legs text joined
+legs_end g j [] h = refl
+legs_end g j (e ∷ rest) h = absurd (omega arith)
 
 module _ (g : ℕ) (pos : 0 < g) where
   -- legs enough are as good as any other number of them
@@ -68,12 +62,42 @@ module _ (g : ℕ) (pos : 0 < g) where
         text-append (leg g (suc j) (take g (e ∷ r))) (legs (length r) g (suc j) (drop g (e ∷ r)))
         ∙ ap (λ cs. text (leg g (suc j) (take g (e ∷ r))) ++ text cs) (legs_enough (length r) (length (drop g (e ∷ r))) (suc j) (drop g (e ∷ r)) (rw length-drop (omega arith)) (omega arith))
 
-    pub one_leg : (from : ℕ) (rest run : List ℕ) → run ≡ take g (drop from rest) → from < length rest → OneLeg g j from rest run
-    one_leg from rest run q h = record {
-      some = rw (q, length-take) (omega (arith, length-drop from rest));
-      within = rw (q, length-take) (omega (arith, length-drop from rest));
-      text_more = rw (q, add-one j, next_leg g j from rest) (legs_first (drop from rest) (rw length-drop (omega arith)));
-    }
+    -- one leg more, after the text s
+    pub leg_more : (whole s rest run after : List ℕ) (size : ℕ) → whole ≡ s ++ legs_text g j rest → rest ≡ run ++ after → length run ≡ min size (length rest) → size ≡ g → 0 < length rest
+        → whole ≡ s ++ (text (leg g (j + 1) run) ++ legs_text g (j + 1) after)
+    leg_more whole s rest run after size w q long same h =
+        let (first, more) = next_run g run after (rw (same, q) at long) in
+        w ∙ rw (q, add-one j) (ap (λ t. s ++ t) (legs_first (run ++ after) (rw q at h) ∙ rw (first, more)))
+
+-- four bytes for the word and the line end, at most four for each event, and at most 26 for the save
+leg_bound : (g j : ℕ) (run : List ℕ) → j < 2 ^ 64 → ((k : ℕ) → get_or run k 0 < 256) → length (text (leg g j run)) ≤ 30 + 4 * length run
+leg_bound g j run less small =
+    case (eqb (length run) g)
+    (λ t. omega (arith, saved_long g j run (eqb-true (length run) g t), run_long run, fields-short run small, slot-long "save" j refl, decimal-fits j less))
+    (λ t. omega (arith, ap length (leg_unsaved g j run (eqb-false (length run) g t)), run_long run, fields-short run small))
+
+small_take : (n : ℕ) (l : List ℕ) → ((k : ℕ) → get_or l k 0 < 256) → (k : ℕ) → get_or (take n l) k 0 < 256
+small_take zero l s k = omega arith
+small_take (suc n) [] s k = s k
+small_take (suc n) (x ∷ l) s zero = s zero
+small_take (suc n) (x ∷ l) s (suc k) = small_take n l (λ i. s (suc i)) k
+
+legs_bound : (f g j : ℕ) (rest : List ℕ) → 0 < g → j + length rest < 2 ^ 64 → ((k : ℕ) → get_or rest k 0 < 256) → length (text (legs f g j rest)) ≤ 34 * length rest
+unfolding legs text joined
+legs_bound zero g j rest pos less small = omega arith
+legs_bound (suc f) g j [] pos less small = omega arith
+legs_bound (suc f) g j (e ∷ r) pos less small =
+    let run = take g (e ∷ r) in
+    let after = drop g (e ∷ r) in
+    omega (
+      arith,
+      ap length (text-append (leg g (suc j) run) (legs f g (suc j) after)),
+      length-append (text (leg g (suc j) run)) (text (legs f g (suc j) after)),
+      leg_bound g (suc j) run (omega arith) (small_take g (e ∷ r) small),
+      legs_bound f g (suc j) after pos (rw length-drop (omega arith)) (λ k. rw (get_or-drop g (e ∷ r) k 0) (small (g + k))),
+      length-take g (e ∷ r),
+      length-drop g (e ∷ r),
+    )
 
 -- ---- one scenario
 
@@ -87,6 +111,11 @@ module _ (h g : ℕ) (rest : List ℕ) where
 
   pub slot_few : length rest ≤ h → (h - length rest) / g + length rest ≤ h
   slot_few le = omega (arith, div-le_self (h - length rest) g)
+
+  pub part_bound : 0 < g → h ≤ 1000 → length rest ≤ h → ((k : ℕ) → get_or rest k 0 < 256) → length (text (part_of h g rest)) ≤ 34026
+  part_bound pos few le small =
+      let slot = (h - length rest) / g in
+      omega (arith, length_part, slot_few le, slot-long "load" slot refl, decimal-fits slot (omega (arith, slot_few le)), legs_bound (length rest) g slot rest pos (omega (arith, slot_few le)) small)
 
 module _ (h g : ℕ) (pos : 0 < g) (prev s : List ℕ) (long : length s ≡ h) where
   slot_is : (h - length (tail g prev s)) / g ≡ slot_for g prev s

@@ -1,44 +1,71 @@
--- The start that two scenarios share, event by event, and the scenarios of a list. Assumes nothing.
+-- The start that two scenarios share, in blocks and event by event, and the scenarios of a list. Assumes nothing.
 use mathlib.Core.Path.{◌≡◌, refl, sym, ap₂, ◌∙◌}
 use mathlib.Core.Logic.{◌≢◌}
+use mathlib.Core.Bool.{Bool}
 use mathlib.Core.List.{List, [], ◌∷◌, ◌++◌, head-eq_of_cons-eq, tail-eq_of_cons-eq}
-use Prim.Native.Nat.{ℕ, zero, suc, ◌+◌, ◌-◌, ◌*◌, ◌≤◌, ◌<◌, min}
-use native.Mathlib.Numerals.{add-one}
+use Prim.Native.Nat.{ℕ, zero, suc, ◌+◌, ◌-◌, ◌*◌, ◌≤◌}
 use native.Mathlib.Omega.{arith}
-use native.Mathlib.Nat.{zero-add, add-sub_cancel_left, suc-mul}
-use lib.ListN.{length, get_or, take, drop, length-drop}
-use lib.Seq.{drop-cons, take-suc, take-add}
-use borrow.Author.Tests.{eq-eqb, ne_eqb}
+use native.Mathlib.Nat.{zero-add, suc-mul}
+use lib.Dec.{eqb}
+use lib.ListN.{length, take, drop, length-drop}
+use lib.Seq.{take-add, take_all}
+use borrow.Author.Tests.{eq-eqb}
+use Rattle.std.proofs.Common.{nat_eq}
+use Rattle.std.specs.Cmp.Lexicographic.{pointwise, same_text}
+use Rattle.std.specs.List.{prefix_len, zip}
+use Rattle.std.specs.Simd.{first_chunks}
+use Rattle.lists.proofs.Tests.{case}
 use Rattle.promises.specs.Sheets.{shared, previous}
-use Rattle.promises.proofs.Bench.{shared_left, shared_right}
 
-module _ (a b : List ℕ) (k : ℕ) where
-  module _ (l : k < length a) (r : k < length b) where
-    pub shared_differ : get_or a k 0 ≢ get_or b k 0 → shared (drop k a) (drop k b) ≡ 0
-    unfolding shared
-    shared_differ n = rw (drop-cons a k 0 l, drop-cons b k 0 r, ne_eqb (get_or a k 0) (get_or b k 0) n)
+-- ---- the blocks of sixteen that two lists begin with alike
 
-    pub shared_more : get_or a k 0 ≡ get_or b k 0 → shared (drop k a) (drop k b) ≡ suc (shared (drop (k + 1) a) (drop (k + 1) b))
-    unfolding shared
-    shared_more q = rw (add-one k, drop-cons a k 0 l, drop-cons b k 0 r, eq-eqb (get_or a k 0) (get_or b k 0) q)
+abbrev pub same_block : List ℕ × List ℕ → Bool
+same_block p = pointwise nat_eq p.0 p.1
 
-  pub shared_end : min (length a) (length b) ≤ k → shared (drop k a) (drop k b) ≡ 0
-  shared_end h = omega (arith, shared_left (drop k a) (drop k b), shared_right (drop k a) (drop k b), length-drop k a, length-drop k b)
+abbrev pub alike_blocks : ℕ → ℕ → List ℕ → List ℕ → ℕ
+alike_blocks n m a b = prefix_len same_block (zip (first_chunks 16 n a) (first_chunks 16 m b))
+
+pub blocks_within : (n m : ℕ) (a b : List ℕ) → (alike_blocks n m a b ≤ n) × (alike_blocks n m a b ≤ m)
+blocks_within zero m a b = (omega arith, omega arith)
+blocks_within (suc n) zero a b = (omega arith, omega arith)
+blocks_within (suc n) (suc m) a b =
+    let (l, r) = blocks_within n m (drop 16 a) (drop 16 b) in
+    case (same_block (take 16 a, take 16 b)) (λ t. rw t (omega arith, omega arith)) (λ t. rw t (omega arith, omega arith))
+
+pub blocks_alike : (n m : ℕ) (a b : List ℕ) → take (16 * alike_blocks n m a b) a ≡ take (16 * alike_blocks n m a b) b
+blocks_alike zero m a b = refl
+blocks_alike (suc n) zero a b = refl
+blocks_alike (suc n) (suc m) a b =
+    let k = alike_blocks n m (drop 16 a) (drop 16 b) in
+    case (same_block (take 16 a, take 16 b))
+    (λ t.
+    let q : 16 * (1 + k) ≡ 16 + 16 * k = omega arith in
+    rw (t, q) (take-add 16 (16 * k) a ∙ ap₂ ◌++◌ (same_text (take 16 a) (take 16 b) (sym t)) (blocks_alike n m (drop 16 a) (drop 16 b)) ∙ sym (take-add 16 (16 * k) b)))
+    (λ t. rw t refl)
+
+-- ---- event by event
+
+abbrev pub same_pair : ℕ × ℕ → Bool
+same_pair p = nat_eq p.0 p.1
+
+pub shared_zip : (a b : List ℕ) → shared a b ≡ prefix_len same_pair (zip a b)
+unfolding shared
+shared_zip [] b = refl
+shared_zip (x ∷ a) [] = refl
+shared_zip (x ∷ a) (y ∷ b) = case (eqb x y) (λ t. rw (t, shared_zip a b) (omega arith)) (λ t. rw t)
 
 -- what is alike is skipped
-pub shared_skip : (k : ℕ) (a b : List ℕ) → k ≤ length a → k ≤ length b → take k a ≡ take k b → shared a b ≡ k + shared (drop k a) (drop k b)
+shared_skip : (k : ℕ) (a b : List ℕ) → k ≤ length a → k ≤ length b → take k a ≡ take k b → shared a b ≡ k + shared (drop k a) (drop k b)
 unfolding shared
 shared_skip zero a b l r q = sym (zero-add (shared a b))
 shared_skip (suc k) [] b l r q = absurd (omega arith)
 shared_skip (suc k) (x ∷ a) [] l r q = absurd (omega arith)
 shared_skip (suc k) (x ∷ a) (y ∷ b) l r q = rw (eq-eqb x y (head-eq_of_cons-eq q)) (omega (arith, shared_skip k a b (omega arith) (omega arith) (tail-eq_of_cons-eq q)))
 
--- one event more is alike, and sixteen more
-pub alike_more : (a b : List ℕ) (i : ℕ) → i < length a → i < length b → take i a ≡ take i b → get_or a i 0 ≡ get_or b i 0 → take (i + 1) a ≡ take (i + 1) b
-alike_more a b i l r q e = rw (add-one i, take-suc a i 0 l, take-suc b i 0 r, q, e)
-
-pub block_more : (a b : List ℕ) (k : ℕ) → take (k + 16 - k) (drop k a) ≡ take (k + 16 - k) (drop k b) → take k a ≡ take k b → take (k + 16) a ≡ take (k + 16) b
-block_more a b k e q = take-add k 16 a ∙ ap₂ ◌++◌ q (rw add-sub_cancel_left at e) ∙ sym (take-add k 16 b)
+pub shared_rest : (k : ℕ) (a b : List ℕ) → k ≤ length a → k ≤ length b → take k a ≡ take k b → (r : ℕ) → r ≡ shared (take (length a - k) (drop k a)) (take (length b - k) (drop k b)) → k + r ≡ shared a b
+shared_rest k a b l r q n e =
+    let rest = λ (s : List ℕ). take_all (length s - k) (drop k s) (rw length-drop (omega arith)) in
+    rw (e, rest a, rest b) (sym (shared_skip k a b l r q))
 
 pub previous-next : (ss : ℕ → List ℕ) (k : ℕ) → k ≢ 0 → ss (k - 1) ≡ previous ss k
 unfolding previous

@@ -1,16 +1,14 @@
 -- The arrangement that the draws make. Output i is the number at draw i when step i comes; the number at a place that no step has come to
 -- is the place itself, or what the last step that drew it moved away. Assumes nothing.
-use Rattle.std.proofs.Common.{◌≡◌, ℕ, zero, suc, ◌+◌, ◌<◌, ◌≤◌, min, Bool, true, false, eqb, ltb, ◌≢◌, List, ◌∷◌, ◌++◌, length, get_or, drop, sym, refl, ap, ◌∙◌, ⊎_elim, append-nil, mul-one, arith, length-set, drop-cons, get_or-set_other, get_or-set_same, drop-set-lt, ltb-true, lt-ltb, eqb-true}
+use Rattle.std.proofs.Common.{◌≡◌, ℕ, zero, suc, ◌+◌, ◌<◌, ◌≤◌, min, Bool, true, false, eqb, ltb, ◌≢◌, List, ◌∷◌, ◌++◌, length, get_or, drop, sym, refl, ap, ◌∙◌, ⊎_elim, append-nil, arith, drop-cons, get_or-set_other, get_or-set_same, ltb-true, lt-ltb, eqb-true}
 use native.Mathlib.Decide.{ℕ_discrete}
-use lib.ListN.{get_or-append}
 use lib.Seq.{drop-length, append_snoc}
 use borrow.Author.Tests.{eqb-false}
 use Rattle.lists.specs.Lists.{pick, tabulate}
 use Rattle.lists.proofs.Tests.{case, split}
-use Rattle.lists.proofs.Tables.{length-tabulate, get_or-tabulate}
 use Rattle.automaton.specs.Shuffle.{swap, shuffle_from, shuffle}
 use Rattle.automaton.proofs.Shuffle.{swap-first, swap-second, swap-other}
-use Rattle.shuffle.specs.Places.{arranged, drawn, latest_step, multiple, moved, Held}
+use Rattle.shuffle.specs.Places.{arranged, drawn, latest_step, moved, Held}
 
 -- ---- the output
 
@@ -58,11 +56,9 @@ drawn-again ds i s h q = by_last ds (get_or ds i 0) i h ∙ ap (number_by ds (ge
 
 -- ---- the places that the scratch holds
 
-pub held_first : (m : ℕ) (ds s : List ℕ) → Held m ds 0 (tabulate (multiple 1) m ++ drop m s)
+pub held_first : (ds s : List ℕ) → ((k : ℕ) → k < length s → get_or s k 0 ≡ k) → Held (length s) ds 0 s
 unfolding arranged
-held_first m ds s k h =
-    let e : min 0 k ≡ 0 = omega arith in
-    rw e (get_or-append (tabulate (multiple 1) m) (drop m s) 0 k (rw length-tabulate h) ∙ get_or-tabulate (multiple 1) m k 0 h ∙ mul-one k)
+held_first ds s up k h = let e : min 0 k ≡ 0 = omega arith in rw e (up k h)
 
 -- a place from i on has the number now
 pub held_ahead : (m : ℕ) (ds s : List ℕ) (i k : ℕ) → Held m ds i s → k < m → i ≤ k → get_or s k 0 ≡ arranged ds i k
@@ -76,17 +72,9 @@ moved_same : (m i d : ℕ) (s : List ℕ) → d < m → m ≤ length s → get_o
 unfolding moved
 moved_same m i d s h l = rw (lt-ltb d m h) (get_or-set_same s d (get_or s i 0) 0 (omega arith))
 
-pub moved_other : (m i d k : ℕ) (s : List ℕ) → (d < m → k ≢ d) → get_or (moved m i d s) k 0 ≡ get_or s k 0
+moved_other : (m i d k : ℕ) (s : List ℕ) → (d < m → k ≢ d) → get_or (moved m i d s) k 0 ≡ get_or s k 0
 unfolding moved
 moved_other m i d k s p = case (ltb d m) (λ t. rw t (get_or-set_other s d k (get_or s i 0) 0 (p (ltb-true d m t)))) (λ t. rw t)
-
-pub length_moved : (m i d : ℕ) (s : List ℕ) → length (moved m i d s) ≡ length s
-unfolding moved
-length_moved m i d s = case (ltb d m) (λ t. rw (t, length-set)) (λ t. rw t)
-
-pub drop-moved : (n m i d : ℕ) (s : List ℕ) → m ≤ n → drop n (moved m i d s) ≡ drop n s
-unfolding moved
-drop-moved n m i d s h = case (ltb d m) (λ t. rw t (let l = ltb-true d m t in drop-set-lt n s d (get_or s i 0) (omega arith))) (λ t. rw t)
 
 -- one step
 pub held_moved : (m : ℕ) (ds s : List ℕ) (i : ℕ) → i < m → m ≤ length s → i ≤ get_or ds i 0 → Held m ds i s → Held m ds (i + 1) (moved m i (get_or ds i 0) s)

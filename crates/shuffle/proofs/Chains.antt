@@ -1,19 +1,18 @@
 -- The chains of steps. The last step that passes a test is found among those that pass a coarser one, so it is enough to walk the chain of
 -- the draw's own bucket; a chain grows at its head, so what it links is not touched again. Assumes nothing.
-use Rattle.std.proofs.Common.{◌≡◌, ℕ, zero, suc, ◌+◌, ◌-◌, ◌*◌, ◌<◌, ◌≤◌, Bool, true, false, eqb, leb, ◌≢◌, ◌⊎◌, List, ◌++◌, length, get_or, drop, set, sym, refl, ap, ◌∙◌, inl, inr, le_of_suc-le-suc, not-suc-le-zero, eq-or-lt_of_le, mul-zero, add-one, arith, length-append, length-drop, length-set, get_or-drop, get_or-set_other, get_or-set_same, drop-drop, get_or-append-add, drop-set-lt, eq-eqb, ne_eqb, eqb-true, le-leb, leb-true}
+use Rattle.std.proofs.Common.{◌≡◌, ℕ, zero, suc, ◌+◌, ◌-◌, ◌*◌, ◌<◌, ◌≤◌, Bool, true, false, eqb, leb, ◌≢◌, ◌⊎◌, List, ◌++◌, length, get_or, drop, set, sym, refl, ap, ◌∙◌, inl, inr, le_of_suc-le-suc, not-suc-le-zero, eq-or-lt_of_le, add-one, arith, length-append, length-set, get_or-set_other, get_or-set_same, get_or-append-add, drop-set-lt, eq-eqb, ne_eqb, eqb-true, le-leb, leb-true}
+use Rattle.std.proofs.lemmas.List.{set-append_left, set-append_right}
 use lib.ListN.{get_or-append}
 use lib.Seq.{drop-append-add}
 use borrow.Author.Tests.{lt-leb}
-use Rattle.lists.specs.Lists.{pick, tabulate}
+use Rattle.lists.specs.Lists.{pick}
 use Rattle.lists.proofs.Tests.{case, contra, and_left, and_right, and_intro}
-use Rattle.lists.proofs.Tables.{length-tabulate, get_or-tabulate}
 use Rattle.automaton.specs.Shuffle.{Valid}
 use Rattle.promises.proofs.Answers.{valid_at}
 use Rattle.shuffle.specs.Buckets.{bucket_of}
-use Rattle.shuffle.specs.Places.{latest_step, in_bucket, multiple, chained, moved, Linked, Prepared, Kept}
+use Rattle.shuffle.specs.Places.{latest_step, in_bucket, chained, Linked, Prepared, Kept}
 use Rattle.shuffle.proofs.Mixing.{bucket_below}
 use Rattle.shuffle.proofs.Draws.{valid-few}
-use Rattle.shuffle.proofs.Arrangement.{moved_other, length_moved, drop-moved}
 
 -- ---- the last step that passes a test
 
@@ -112,11 +111,11 @@ pub record Chains (ds : List ℕ) (i : ℕ) (s : List ℕ) : Type 0 where
   pub heads : (b : ℕ) → b < length ds → get_or s b 0 ≡ latest_step (in_bucket (length ds) b) ds i
   pub links : (j : ℕ) → j < i → length ds ≤ get_or ds j 0 → get_or s (length ds + j) 0 ≡ latest_step (in_bucket (length ds) (bucket_of (length ds) (get_or ds j 0))) ds j
 
-pub chains_first : (ds s : List ℕ) → Chains ds 0 (tabulate (multiple 0) (length ds) ++ drop (length ds) s)
+pub chains_first : (ds a b : List ℕ) → length a ≡ length ds → ((k : ℕ) → k < length a → get_or a k 0 ≡ 0) → Chains ds 0 (a ++ b)
 unfolding latest_step
-chains_first ds s =
+chains_first ds a b q none =
     record {
-      heads = λ b h. get_or-append (tabulate (multiple 0) (length ds)) (drop (length ds) s) 0 b (rw length-tabulate h) ∙ get_or-tabulate (multiple 0) (length ds) b 0 h ∙ mul-zero b;
+      heads = λ k h. get_or-append a b 0 k (omega arith) ∙ none k (omega arith);
       links = λ j h k. absurd (not-suc-le-zero h);
     }
 
@@ -132,12 +131,19 @@ drop-chained z i d s h =
     (λ t. rw t (drop-set-lt (2 * z) (set s (z + i) (get_or s (bucket_of z d) 0)) (bucket_of z d) (i + 1) (omega arith) ∙ drop-set-lt (2 * z) s (z + i) (get_or s (bucket_of z d) 0) (omega arith)))
     (λ t. rw t)
 
+-- the heads and the links are written apart
+pub chained_parts : (a b : List ℕ) (i d k : ℕ) → length a ≤ d → k ≡ bucket_of (length a) d → k < length a → set a k (i + 1) ++ set b i (get_or a k 0) ≡ chained (length a) i d (a ++ b)
+unfolding chained
+chained_parts a b i d k h q l =
+    let e : length a + i - length a ≡ i = omega arith in
+    rw (le-leb (length a) d h, ← q, get_or-append a b 0 k l, set-append_right a b (length a) (length a + i) (get_or a k 0) refl (omega arith), e, set-append_left a (set b i (get_or a k 0)) k (i + 1) l)
+
+pub chained_near : (z i d : ℕ) (s : List ℕ) → d < z → chained z i d s ≡ s
+unfolding chained
+chained_near z i d s a = rw (lt-leb z d a)
+
 -- what stands at k after a step was chained: the head of its bucket, its link, and everything else as before
 module _ (z i d : ℕ) (s : List ℕ) (h : i < z) (l : 2 * z ≤ length s) where
-  chained_near : d < z → chained z i d s ≡ s
-  unfolding chained
-  chained_near a = rw (lt-leb z d a)
-
   chained_head : z ≤ d → get_or (chained z i d s) (bucket_of z d) 0 ≡ i + 1
   unfolding chained
   chained_head a =
@@ -199,48 +205,38 @@ chains_more ds s i h l c = rw (add-one i) (record { heads = heads_more (length d
 pub chains_linked : (ds s : List ℕ) → 2 * length ds ≤ length s → Chains ds (length ds) s → Linked (length ds) ds s
 chains_linked ds s l c = record { room = λ i h f. omega arith; link = λ i h f. c.links i h f }
 
--- ---- links are kept
+-- ---- the places held come before the links, and are written alone
 
--- the places below m are overwritten
-linked-counted : (m : ℕ) (ds s : List ℕ) → m ≤ length s → Linked m ds s → Linked m ds (tabulate (multiple 1) m ++ drop m s)
-linked-counted m ds s l k =
-    record {
-      room = λ i h f. rw (length-append, length-tabulate, length-drop) (let r = k.room i h f in omega arith);
-      link = λ i h f. past i ∙ k.link i h f;
-    }
-  where
-    past : (i : ℕ) → get_or (tabulate (multiple 1) m ++ drop m s) (m + i) 0 ≡ get_or s (m + i) 0
-    past i =
-        ap (λ (n : ℕ). get_or (tabulate (multiple 1) m ++ drop m s) (n + i) 0) (sym (length-tabulate (multiple 1) m))
-        ∙ get_or-append-add (tabulate (multiple 1) m) (drop m s) i 0
-        ∙ get_or-drop m s i 0
+module _ (ds a a' b : List ℕ) (q : length a' ≡ length a) where
+  linked_front : Linked (length a) ds (a ++ b) → Linked (length a') ds (a' ++ b)
+  linked_front k =
+      rw q (record {
+        room = λ i h f. let r = k.room i h f in omega (arith, length-append a b, length-append a' b);
+        link = λ i h f. ap (λ (n : ℕ). get_or (a' ++ b) (n + i) 0) (sym q) ∙ get_or-append-add a' b i 0 ∙ sym (get_or-append-add a b i 0) ∙ k.link i h f;
+      })
 
-pub linked-moved : (m i d : ℕ) (ds s : List ℕ) → Linked m ds s → Linked m ds (moved m i d s)
-linked-moved m i d ds s k =
-    record {
-      room = λ j h f. rw (length_moved m i d s) (k.room j h f);
-      link = λ j h f. moved_other m i d (m + j) s (λ a e. omega arith) ∙ k.link j h f;
-    }
+  pub ready_front : Prepared (length a) ds (a ++ b) → Prepared (length a') ds (a' ++ b)
+  ready_front r =
+      let near = r.near in
+      let small = r.small in
+      let wide = r.wide in
+      record { near = omega arith; small = omega arith; wide = omega (arith, length-append a b, length-append a' b); linked = linked_front r.linked }
+
+  pub kept_front : length a ≤ 2 * length ds → Kept ds (a ++ b) (a' ++ b)
+  kept_front h = record { long = rw (length-append, length-append, q); rest = past a' (omega arith) ∙ ap (λ (n : ℕ). drop (2 * length ds - n) b) q ∙ sym (past a h) }
+    where
+      past : (s : List ℕ) → length s ≤ 2 * length ds → drop (2 * length ds) (s ++ b) ≡ drop (2 * length ds - length s) b
+      past s l =
+          let e : 2 * length ds ≡ length s + (2 * length ds - length s) = omega arith in
+          ap (λ (n : ℕ). drop n (s ++ b)) e ∙ drop-append-add s b (2 * length ds - length s)
 
 -- ---- the rest is kept
 
 pub kept_trans : (ds s t u : List ℕ) → Kept ds s t → Kept ds t u → Kept ds s u
 kept_trans ds s t u a b = record { long = b.long ∙ a.long; rest = b.rest ∙ a.rest }
 
-pub kept-filled : (f : ℕ → ℕ) (m : ℕ) (ds s : List ℕ) → m ≤ 2 * length ds → m ≤ length s → Kept ds s (tabulate f m ++ drop m s)
-kept-filled f m ds s h l = record { long = rw (length-append, length-tabulate, length-drop) (omega arith); rest = past }
-  where
-    past : drop (2 * length ds) (tabulate f m ++ drop m s) ≡ drop (2 * length ds) s
-    past =
-        let e : 2 * length ds ≡ length (tabulate f m) + (2 * length ds - m) = rw length-tabulate (omega arith) in
-        let g : m + (2 * length ds - m) ≡ 2 * length ds = omega arith in
-        ap (λ (n : ℕ). drop n (tabulate f m ++ drop m s)) e ∙ drop-append-add (tabulate f m) (drop m s) (2 * length ds - m) ∙ drop-drop (2 * length ds - m) m s ∙ ap (λ (n : ℕ). drop n s) g
-
 pub kept-chained : (ds s : List ℕ) (i d : ℕ) → i < length ds → Kept ds s (chained (length ds) i d s)
 kept-chained ds s i d h = record { long = length-chained (length ds) i d s; rest = drop-chained (length ds) i d s h }
-
-pub kept-moved : (ds s : List ℕ) (m i d : ℕ) → m ≤ 2 * length ds → Kept ds s (moved m i d s)
-kept-moved ds s m i d h = record { long = length_moved m i d s; rest = drop-moved (2 * length ds) m i d s h }
 
 -- ---- ready to be swapped
 
@@ -256,13 +252,3 @@ ready-all n ds s a b v =
   where
     none : (i : ℕ) → i < length ds → n ≤ get_or ds i 0 → ⊥
     none i h f = let r = (valid_at n 0 ds v i h).1 in omega arith
-
-pub ready-counted : (m : ℕ) (ds s : List ℕ) → Prepared m ds s → Prepared m ds (tabulate (multiple 1) m ++ drop m s)
-ready-counted m ds s r =
-    let wide = r.wide in
-    let small = r.small in
-    let k = (kept-filled (multiple 1) m ds s r.small (omega arith)).long in
-    record { near = r.near; small = r.small; wide = omega arith; linked = linked-counted m ds s (omega arith) r.linked }
-
-pub kept_same : (ds s : List ℕ) → Kept ds s s
-kept_same ds s = record { long = refl; rest = refl }

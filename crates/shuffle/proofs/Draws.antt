@@ -1,39 +1,24 @@
--- The check of the draws. It stops at the first bad one, and where there is none the draws are valid. Assumes nothing.
-use Rattle.std.proofs.Common.{◌≡◌, ℕ, suc, ◌+◌, ◌<◌, ◌≤◌, Bool, true, false, ltb, List, [], ◌∷◌, length, get_or, drop, add-one, arith, drop-cons, ltb-false, le-ltb, lt-ltb, le-leb, leb-false}
-use lib.Seq.{drop-length}
-use borrow.Author.Tests.{lt-leb}
-use Rattle.lists.proofs.Tests.{case, contra, or_right}
+-- The check of the draws. Where none is bad the draws are valid. Assumes nothing.
+use Rattle.std.proofs.Common.{◌≡◌, ℕ, suc, ◌+◌, ◌<◌, ◌≤◌, Bool, false, ltb, List, [], ◌∷◌, length, sym, ◌∙◌, add-one, arith, ltb-false, leb-false}
+use native.Mathlib.Nat.{zero-add, add-zero}
+use Rattle.std.specs.List.{position_or_len, enumerate_from}
+use Rattle.lists.proofs.Tests.{case, contra}
 use Rattle.automaton.specs.Shuffle.{Valid}
 use Rattle.promises.specs.Calls.{bad_draw, first_bad, first_bad_from}
 use Rattle.promises.proofs.Answers.{valid_at}
 
--- ---- the first bad one
+-- ---- the first bad one, as the library's `position` finds it
 
-pub bad_here : (bad : ℕ → ℕ → Bool) (ds : List ℕ) (i : ℕ) → i < length ds → bad i (get_or ds i 0) ≡ true → first_bad_from bad i (drop i ds) ≡ i
+first_from : (bad : ℕ → ℕ → Bool) (p : ℕ) (ds : List ℕ) → first_bad_from bad p ds ≡ p + position_or_len (λ (q : ℕ × ℕ). bad q.0 q.1) (enumerate_from p ds)
 unfolding first_bad_from
-bad_here bad ds i h t = rw (drop-cons ds i 0 h, t)
+first_from bad p [] = sym (add-zero p)
+first_from bad p (d ∷ ds) = case (bad p d) (λ t. rw t (sym (add-zero p))) (λ t. rw (t, add-one p, first_from bad (suc p) ds) (omega arith))
 
-pub bad_later : (bad : ℕ → ℕ → Bool) (ds : List ℕ) (i : ℕ) → i < length ds → bad i (get_or ds i 0) ≡ false → first_bad_from bad i (drop i ds) ≡ first_bad_from bad (i + 1) (drop (i + 1) ds)
-unfolding first_bad_from
-bad_later bad ds i h t = rw (add-one i, drop-cons ds i 0 h, t)
-
-pub bad_none : (bad : ℕ → ℕ → Bool) (ds : List ℕ) (i : ℕ) → i ≡ length ds → first_bad_from bad i (drop i ds) ≡ length ds
-unfolding first_bad_from
-bad_none bad ds i e = rw (e, drop-length ds)
+pub position-bad_draw : (bad : ℕ → ℕ → Bool) (ds : List ℕ) → position_or_len (λ (q : ℕ × ℕ). bad q.0 q.1) (enumerate_from 0 ds) ≡ first_bad bad ds
+unfolding first_bad
+position-bad_draw bad ds = sym (first_from bad 0 ds ∙ zero-add (position_or_len (λ (q : ℕ × ℕ). bad q.0 q.1) (enumerate_from 0 ds)))
 
 -- ---- the draw's test
-
-pub draw_low : (n i d : ℕ) → d < i → bad_draw n i d ≡ true
-unfolding bad_draw
-draw_low n i d h = rw (lt-ltb d i h)
-
-pub draw_high : (n i d : ℕ) → n ≤ d → bad_draw n i d ≡ true
-unfolding bad_draw
-draw_high n i d h = or_right (ltb d i) (le-leb n d h)
-
-pub draw_good : (n i d : ℕ) → i ≤ d → d < n → bad_draw n i d ≡ false
-unfolding bad_draw
-draw_good n i d a b = rw (le-ltb d i a, lt-leb n d b)
 
 good_draw : (n i d : ℕ) → bad_draw n i d ≡ false → (i ≤ d) × (d < n)
 unfolding bad_draw

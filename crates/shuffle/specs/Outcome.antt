@@ -1,11 +1,10 @@
 -- The answer of the call in the paper's numbers.
---   answer_of r == `Served` is served, with nothing told; `Refused number place` is that refusal
+--   answer_of r == an Ok is served, with nothing told; an Err is its refusal
 -- Assumes nothing.
-use Rattle.std.specs.Prelude.{[]}
-use Rattle.promises.specs.Answer.{Answer, served, refused}
-use Rattle.shuffle.specs.declared.Answered.{Answered}
-use Rattle.shuffle.specs.declared.Answered.TheVariants.{Served, Refused}
+use Rattle.std.specs.Prelude.{[], Result}
+use Rattle.promises.specs.Answer.{Answer}
+use Rattle.refusal.specs.declared.Refusal.{Refusal}
+use Rattle.refusal.specs.Numbers.{answered}
 
-abbrev pub answer_of : Answered → Answer
-answer_of Served = served []
-answer_of (Refused number place) = refused number place
+abbrev pub answer_of : Result Unit Refusal → Answer
+answer_of r = answered (λ _. []) r

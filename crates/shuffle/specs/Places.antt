@@ -3,7 +3,6 @@
 --   drawn ds i        == the number at draw i when step i comes: output i
 --   latest_step f ds i == one more than the last of the first i steps whose draw passes the test f, or 0
 --   in_bucket m b      == the test for a draw from m on that falls into bucket b
---   multiple step k   == k × step: 0 for a scratch that is cleared, k for one that begins with each place's own number
 --   chained z i d s   == s after step i, with draw d, became the head of its bucket's chain
 --   moved m i d s     == s after the number at i was moved to d, if d is below m
 --   Linked m ds s     == for each draw from m on, s has at m + its step the last step before it in the same bucket
@@ -32,9 +31,6 @@ latest_step f ds (suc i) = pick (f (slice_index ds i)) (suc i) (latest_step f ds
 
 unfoldable pub in_bucket : ℕ → ℕ → ℕ → Bool
 in_bucket m b d = nat_le m d && bucket_of m d == b
-
-abbrev pub multiple : ℕ → ℕ → ℕ
-multiple step k = k * step
 
 unfoldable pub chained : ℕ → ℕ → ℕ → List ℕ → List ℕ
 chained z i d s = pick (nat_le z d) (slice_set (slice_set s (z + i) (slice_index s (bucket_of z d))) (bucket_of z d) (i + 1)) s

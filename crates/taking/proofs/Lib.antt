@@ -1,3 +1,2 @@
--- The laws that the proofs of this crate share.
-pub mod Taking
+-- The law that the proofs of this crate share.
 pub mod Listed

@@ -2,8 +2,8 @@
 use Rattle.std.proofs.Common.{◌-◌, ◌≤◌}
 use Rattle.decimal_vectors.proofs.show_powers.Given as goal
 
-abbrev pub invariant-loop-power : goal.invariant-loop-power
-invariant-loop-power g l = 1 ≤ l.power
+abbrev pub invariant-loop-next : goal.invariant-loop-next
+invariant-loop-next g l = 1 ≤ l.power
 
-abbrev pub decreases-loop-power : goal.decreases-loop-power
-decreases-loop-power g l = 18446744073709551615 - l.power
+abbrev pub decreases-loop-next : goal.decreases-loop-next
+decreases-loop-next g l = 18446744073709551615 - l.power

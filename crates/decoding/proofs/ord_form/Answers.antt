@@ -1,71 +1,42 @@
-use mathlib.Core.Path.{◌≡◌, refl, sym, ap, ◌∙◌}
+use mathlib.Core.Path.{◌≡◌, refl, ap, ◌∙◌, sym}
 use mathlib.Core.List.{[], ◌∷◌, ◌++◌}
-use Prim.Native.Nat.{◌+◌, ◌-◌}
 use native.Mathlib.Omega.{arith}
-use lib.ListN.{length, take, drop, length-append}
-use lib.Seq.{length-take-le}
-use Rattle.decoding.specs.Forms.{value_of, over}
+use lib.ListN.{length, length-append}
+use Rattle.std.specs.Prelude.{Some}
+use Rattle.decoding.specs.Forms.{over}
 use Rattle.decoding.specs.declared.Form.TheVariants.{Ord}
-use Rattle.decoding.proofs.Parts.{index_of_le}
-use Rattle.decoding.proofs.Listed.{length_over, over-more, over-past, reads_none, end_le, reads_more, reads_bad, reads_all}
+use Rattle.decoding.proofs.Listed.{length_over, over-more, over-past, reads_none, reads_more, reads_bad, reads_all}
 use Rattle.decoding.proofs.ord_form.Goals as goal
 use Rattle.decoding.proofs.ord_form.Goals.{then-count-order, else-count-order}
 
-pub loop-from-init : goal.loop-from-init
+pub loop-field-init : goal.loop-field-init
 unfolding over
-loop-from-init c = record { numbers_are = []; reads = reads_none c.args.line.now c.args.at; counted = refl; written = refl }
+loop-field-init c = record { numbers_are = []; reads = reads_none c.args.fields.now; counted = refl; written = refl }
 
-pub slice_bounds-number-end : goal.slice_bounds-number-end
-slice_bounds-number-end c =
-    let l = c.args.line.now in
-    let lp = c.loop-from in
-    let rest = take (length l - (lp.from + 1)) (drop (lp.from + 1) l) in
-    sym (length-take-le c.until-end.result rest (rw c.until-end.ensures (index_of_le rest 9)))
+pub returns-in_err-e : goal.returns-in_err-e
+returns-in_err-e c =
+    let so_far = c.loop-field.invariant in
+    let bad = reads_bad c.args.fields.now c.loop-field.fields so_far.numbers_are so_far.reads c.in-Some.field.now c.next.new.self c.in-Some.ensures c.in_err-e.ensures in
+    record { value = rw bad.0 c.from_residual.ensures; order_after = so_far.written ∙ ap (λ ns. over ns c.args.order.now) (sym bad.1) }
 
-pub shape_of-order-in_default : goal.shape_of-order-in_default
-shape_of-order-in_default c = let lp = c.loop-from.invariant in ap length lp.written ∙ length_over lp.numbers_are _
-
-pub returns-in_default : goal.returns-in_default
-returns-in_default c =
-    let l = c.args.line.now in
-    let lp = c.loop-from in
-    let q = reads_bad l c.args.at lp.from lp.invariant.numbers_are lp.invariant.reads c.loop-from-test.true c.until-end.result c.until-end.ensures (sym (ap value_of c.in_default.is) ∙ c.number.ensures) in
-    record { value = rw q.0 refl; order_after = lp.invariant.written ∙ ap (λ ns. over ns c.args.order.now) (sym q.1) }
-
-pub overflow_add-from : goal.overflow_add-from
-overflow_add-from c =
-    let l = c.args.line.now in
-    let lp = c.loop-from in
-    omega (arith, end_le l c.args.at lp.from lp.invariant.numbers_are lp.invariant.reads c.loop-from-test.true c.until-end.result c.until-end.ensures)
-
-pub overflow_add-from-in-loop-from : goal.overflow_add-from-in-loop-from
-overflow_add-from-in-loop-from c =
-    let l = c.args.line.now in
-    let lp = c.loop-from in
-    omega (arith, end_le l c.args.at lp.from lp.invariant.numbers_are lp.invariant.reads c.loop-from-test.true c.until-end.result c.until-end.ensures)
-
-pub loop-from-preserved : goal.loop-from-preserved
-loop-from-preserved c =
-    let l = c.args.line.now in
-    let lp = c.loop-from in
-    let es = lp.invariant.numbers_are in
-    let room : length lp.order ≡ length c.args.order.now = ap length lp.invariant.written ∙ length_over es c.args.order.now in
+pub loop-field-preserved : goal.loop-field-preserved
+loop-field-preserved c =
+    let so_far = c.loop-field.invariant in
+    let es = so_far.numbers_are in
+    let e = c.in_ok-e.e in
+    let room : length c.loop-field.order ≡ length c.args.order.now = ap length so_far.written ∙ length_over es c.args.order.now in
     record {
-      numbers_are = es ++ (c.in-Value.e ∷ []);
-      reads = reads_more l c.args.at lp.from es lp.invariant.reads c.loop-from-test.true c.until-end.result c.until-end.ensures c.in-Value.e (c.in-Value.ensures);
-      counted = rw length-append (omega (arith, lp.invariant.counted));
+      numbers_are = es ++ (e ∷ []);
+      reads = reads_more c.args.fields.now c.loop-field.fields es so_far.reads c.in-Some.field.now c.next.new.self c.in-Some.ensures e c.in_ok-e.ensures;
+      counted = rw length-append (omega (arith, so_far.counted));
       written = elim c.if-count-order.branch [
-        | then-count-order w ↦ w.order-is ∙ rw (lp.invariant.written, lp.invariant.counted, w.as_byte.ensures) (over-more es c.args.order.now c.in-Value.e (omega (arith, w.if-count-order.true, lp.invariant.counted, room)))
-        | else-count-order w ↦ w.order-is ∙ lp.invariant.written ∙ over-past es c.args.order.now c.in-Value.e (omega (arith, w.if-count-order.false, lp.invariant.counted, room))
+        | then-count-order w ↦ w.order-is ∙ rw (so_far.written, so_far.counted, w.as_byte.ensures) (over-more es c.args.order.now e (omega (arith, w.if-count-order.true, so_far.counted, room)))
+        | else-count-order w ↦ w.order-is ∙ so_far.written ∙ over-past es c.args.order.now e (omega (arith, w.if-count-order.false, so_far.counted, room))
       ];
     }
 
-pub shape_of-order : goal.shape_of-order
-shape_of-order c = let lp = c.loop-from.invariant in ap length lp.written ∙ length_over lp.numbers_are _
-
 pub returns : goal.returns
 returns c =
-    let l = c.args.line.now in
-    let lp = c.loop-from in
-    let q = reads_all l c.args.at lp.from lp.invariant.numbers_are lp.invariant.reads c.loop-from-test.false in
-    record { value = rw q.0 (ap Ord lp.invariant.counted); order_after = lp.invariant.written ∙ ap (λ ns. over ns c.args.order.now) (sym q.1) }
+    let so_far = c.loop-field.invariant in
+    let all = reads_all c.args.fields.now c.loop-field.fields so_far.numbers_are so_far.reads c.in_default.ensures.0 in
+    record { value = rw all.0 (ap (λ n. Some (Ord n)) so_far.counted); order_after = so_far.written ∙ ap (λ ns. over ns c.args.order.now) (sym all.1) }

@@ -1,66 +1,57 @@
 -- A minus sign before a number that is not 0, or a number.
 -- Assumes nothing.
-use mathlib.Core.Path.{sym, ap, ◌∙◌}
+use mathlib.Core.Path.{◌≡◌, sym, ap, ◌∙◌}
 use mathlib.Core.Option.{some}
-use Prim.Native.Nat.{◌-◌}
+use mathlib.Core.Bool.{true}
+use mathlib.Core.List.{List}
+use Prim.Native.Nat.{ℕ, ◌+◌}
 use native.Mathlib.Omega.{arith}
 use lib.IntN.{pos, ◌-ℤ◌}
-use lib.ListN.{length, take, drop}
+use lib.ListN.{length, drop}
 use mir.Syntax.{w64}
 use mir.Val.{to_z, of_z}
 use mir.ValLaws.{to_z_pos, to_z-of_z}
-use Rattle.promises.specs.Text.{plus, minus}
-use Rattle.decoding.proofs.Signs.{number_small, minus_fits, minus-some, signed-empty, signed-plus, signed-minus}
+use Rattle.promises.specs.Text.{number, plus, minus, signed}
+use Rattle.decoding.proofs.Signs.{number_small, minus_fits, minus-some, signed-first, signed-plus, signed-minus}
 use Rattle.decoding.proofs.signed.Goals as goal
 
-pub returns-then-field-eq0 : goal.returns-then-field-eq0
-returns-then-field-eq0 c = sym (signed-empty c.args.field.now c.if-field-eq0.true)
+minus_read : (s digits : List ℕ) → (signed-first s ≡ true) × (digits ≡ drop 1 s) × (length digits + 1 ≡ length s) → minus (number digits) ≡ signed s
+minus_read s digits h = ap (λ f. minus (number f)) h.1 ∙ sym (signed-minus s h.0)
+
+pub returns-in_err-number : goal.returns-in_err-number
+unfolding plus
+returns-in_err-number c = rw c.from_residual.ensures (ap plus c.in_err-number.ensures ∙ sym (signed-plus c.args.field.now c.in_default.ensures.cases))
 
 pub overflow_cast-result : goal.overflow_cast-result
-overflow_cast-result c =
-    let l = c.args.field.now in
-    let q = c.in-Value.ensures in
-    record { sfits = omega (arith, number_small l c.in-Value.n q) }
+overflow_cast-result c = record { sfits = omega (arith, number_small c.args.field.now c.in_ok-number.field-0 c.in_ok-number.ensures) }
 
-pub returns-in-Value : goal.returns-in-Value
+pub returns-in_default : goal.returns-in_default
 unfolding plus
-returns-in-Value c =
+returns-in_default c =
     let l = c.args.field.now in
-    let q = c.in-Value.ensures in
-    ap some (to_z_pos w64 c.in-Value.n (omega (arith, number_small l c.in-Value.n q))) ∙ ap plus q ∙ sym (signed-plus l (omega (arith, c.if-field-eq0.false)) c.if-field-ne45.true)
+    let n = c.in_ok-number.field-0 in
+    ap some (to_z_pos w64 n (omega (arith, number_small l n c.in_ok-number.ensures))) ∙ ap plus c.in_ok-number.ensures ∙ sym (signed-plus l c.in_default.ensures.cases)
 
-pub returns-in-Wrong : goal.returns-in-Wrong
-unfolding plus
-returns-in-Wrong c = ap plus (c.in-Wrong.ensures) ∙ sym (signed-plus c.args.field.now (omega (arith, c.if-field-eq0.false)) c.if-field-ne45.true)
+pub returns-in_err-n : goal.returns-in_err-n
+unfolding minus
+returns-in_err-n c = rw c.from_residual-in_err-n.ensures (ap minus c.in_err-n.ensures ∙ minus_read c.args.field.now c.in-Some.digits.now c.in-Some.ensures.cases)
 
-pub overflow_cast-result-else-n-eq0 : goal.overflow_cast-result-else-n-eq0
-overflow_cast-result-else-n-eq0 c =
-    let l = c.args.field.now in
-    let q = c.in-Value-number.ensures in
-    record { sfits = omega (arith, number_small (take (length l - 1) (drop 1 l)) c.in-Value-number.n q) }
+pub overflow_cast-result-in_default-2 : goal.overflow_cast-result-in_default-2
+overflow_cast-result-in_default-2 c = record { sfits = omega (arith, number_small c.in-Some.digits.now c.in_ok-n.n c.in_ok-n.ensures) }
 
 pub overflow_sub-result : goal.overflow_sub-result
 overflow_sub-result c =
-    let l = c.args.field.now in
-    let q = c.in-Value-number.ensures in
-    let small = number_small (take (length l - 1) (drop 1 l)) c.in-Value-number.n q in
-    rw (to_z_pos w64 c.in-Value-number.n (omega (arith, small))) (minus_fits c.in-Value-number.n small)
+    let n = c.in_ok-n.n in
+    let small = number_small c.in-Some.digits.now n c.in_ok-n.ensures in
+    rw (to_z_pos w64 n (omega (arith, small))) (minus_fits n small)
 
-pub returns-then-n-eq0 : goal.returns-then-n-eq0
+pub returns-in-0 : goal.returns-in-0
 unfolding minus
-returns-then-n-eq0 c =
-    let l = c.args.field.now in
-    let q = c.in-Value-number.ensures in
-    ap (λ m. minus (some m)) (sym c.if-n-eq0.true) ∙ ap minus q ∙ sym (signed-minus l (omega (arith, c.if-field-eq0.false)) c.if-field-ne45.false)
+returns-in-0 c = ap (λ m. minus (some m)) (sym c.in-0.is) ∙ ap minus c.in_ok-n.ensures ∙ minus_read c.args.field.now c.in-Some.digits.now c.in-Some.ensures.cases
 
-pub returns-else-n-eq0 : goal.returns-else-n-eq0
-returns-else-n-eq0 c =
-    let l = c.args.field.now in
-    let q = c.in-Value-number.ensures in
-    let small = number_small (take (length l - 1) (drop 1 l)) c.in-Value-number.n q in
-    ap some (ap (λ x. to_z w64 (of_z w64 (pos 0 -ℤ x))) (to_z_pos w64 c.in-Value-number.n (omega (arith, small))) ∙ to_z-of_z w64 (pos 0 -ℤ pos c.in-Value-number.n) (minus_fits c.in-Value-number.n small))
-    ∙ minus-some c.in-Value-number.n c.if-n-eq0.false ∙ ap minus q ∙ sym (signed-minus l (omega (arith, c.if-field-eq0.false)) c.if-field-ne45.false)
-
-pub returns-in-Wrong-number : goal.returns-in-Wrong-number
-unfolding minus
-returns-in-Wrong-number c = ap minus (c.in-Wrong-number.ensures) ∙ sym (signed-minus c.args.field.now (omega (arith, c.if-field-eq0.false)) c.if-field-ne45.false)
+pub returns-in_default-2 : goal.returns-in_default-2
+returns-in_default-2 c =
+    let n = c.in_ok-n.n in
+    let small = number_small c.in-Some.digits.now n c.in_ok-n.ensures in
+    ap some (ap (λ x. to_z w64 (of_z w64 (pos 0 -ℤ x))) (to_z_pos w64 n (omega (arith, small))) ∙ to_z-of_z w64 (pos 0 -ℤ pos n) (minus_fits n small))
+    ∙ minus-some n (λ h. omega arith) ∙ ap minus c.in_ok-n.ensures ∙ minus_read c.args.field.now c.in-Some.digits.now c.in-Some.ensures.cases

@@ -1,4 +1,4 @@
--- `check_count` meets its contract: each return is a case of rows 9 and 10. Assumes nothing.
+-- Each return is a case of rows 9 and 10. Assumes nothing.
 use native.Mathlib.Omega.{arith}
 use Rattle.filling.proofs.CountRows.{tells_9, tells_10, tells_on}
 use Rattle.filling.proofs.check_count.Goals as goal

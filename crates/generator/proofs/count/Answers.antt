@@ -1,32 +1,23 @@
--- `count` meets its contract: a refusal up to row 8 is the answer itself, and else the record stands for the text, so what is counted of the
--- record is counted of the text. Assumes nothing.
-use mathlib.Core.Path.{refl, ◌∙◌}
-use lib.ListN.{length}
-use Rattle.promises.specs.Calls.{count, count_cells}
-use Rattle.filling.proofs.Rows.{early_answer, early_cells, count_is, count_cells_are}
+-- A refusal up to row 8 is the answer itself, and else the record stands for the text, so what is counted of the record is counted of the text.
+-- Assumes nothing.
+use mathlib.Core.Path.{◌∙◌}
+use Rattle.filling.proofs.Rows.{told_err, early_count, early_count_cells, count_cells_are}
+use Rattle.generator.proofs.Laws.{count_told}
 use Rattle.generator.proofs.count.Goals as goal
 
-pub count_cells-requires : goal.count_cells-requires
-count_cells-requires c =
-    let o = c.load-o in
-    (o.ensures.ready c.in-Passed.is).fits
-
-pub returns-in-Refused : goal.returns-in-Refused
-unfolding count count_cells
-returns-in-Refused c =
-    let st = c.args in
-    let o = c.load-o in
+pub returns-in_err-loaded : goal.returns-in_err-loaded
+returns-in_err-loaded c =
+    let op = c.in_err-loaded.ensures in
     record {
-      result_value = early_answer st.text.now st.h (length st.cells.now) o.result o.ensures st.cells.now refl c.in-Refused.number c.in-Refused.place c.in-Refused.is _;
-      cells_after = early_cells st.text.now st.h (length st.cells.now) o.result o.ensures st.cells.now refl c.in-Refused.number c.in-Refused.place c.in-Refused.is _ _;
+      result_value = told_err _ c.from_residual.result _ c.from_residual.ensures.1 ∙ early_count c.args.cells.now op;
+      cells_after = early_count_cells c.args.cells.now op;
     }
 
-pub returns-in-Passed : goal.returns-in-Passed
-returns-in-Passed c =
-    let st = c.args in
-    let o = c.load-o in
-    let e = c.in-Passed.is in
+pub returns : goal.returns
+returns c =
+    let op = c.in_ok-loaded.ensures in
+    let f = c.fill_cells.ensures in
     record {
-      result_value = c.count_cells.ensures.result_value ∙ count_is st.text.now st.h (length st.cells.now) o.result o.ensures st.cells.now refl e;
-      cells_after = count_cells_are st.text.now st.h (length st.cells.now) o.result o.ensures st.cells.now refl e _ c.count_cells.ensures.cells_after;
+      result_value = count_told c.args.cells.now op _ f;
+      cells_after = count_cells_are c.args.cells.now op _ f.cells_filled;
     }

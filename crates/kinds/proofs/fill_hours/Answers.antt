@@ -19,10 +19,10 @@ loop-s-preserved c =
     let lp = c.loop-s in
     let x = c.args in
     let f : ℕ → ℕ = λ s. hour_of x.t x.a x.b x.first s (move_at x.moves.now x.m s x.e) in
-    let l : lp.s < 32 = omega (arith, c.requires.3) in
+    let l : lp.s < 32 = omega (arith, c.requires.2) in
     let old : move_at lp.moves x.m lp.s x.e ≡ move_at x.moves.now x.m lp.s x.e =
     ap (λ (v : List ℕ). move_at v x.m lp.s x.e) lp.invariant.2
-    ∙ column_beside x.moves.now x.m x.e f lp.s x.m lp.s x.e (omega arith) c.requires.2 l c.requires.2 (λ p q r. omega arith)
+    ∙ column_beside x.moves.now x.m x.e f lp.s x.m lp.s x.e (omega arith) c.requires.1 l c.requires.1 (λ p q r. omega arith)
     in (
       omega arith,
       simp length-set lp.invariant.1,

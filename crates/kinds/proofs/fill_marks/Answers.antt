@@ -10,6 +10,7 @@ use Rattle.promises.specs.Rig.{marked_of}
 use Rattle.rig.specs.Record.{stop_index}
 use Rattle.kinds.specs.Kinds.{as_kind}
 use Rattle.kinds.proofs.Bands.{few}
+use Rattle.kinds.proofs.Tables.{mark_entry}
 use borrow.Author.Rules.{rules}
 use Rattle.kinds.proofs.fill_marks.Goals as goal
 
@@ -32,7 +33,7 @@ loop-s-preserved c =
     let lp = c.loop-s in (
       omega arith,
       simp length-set lp.invariant.1,
-      ap (λ (l : List ℕ). set l (stop_index st.m lp.s) c.mark.result) lp.invariant.2 ∙ overwrite_more st.stops.now (stop_index st.m) (λ s. pick (marked_of (as_kind st.k) [] s) 1 0) lp.s c.mark.result c.mark.ensures,
+      ap (λ (l : List ℕ). set l (stop_index st.m lp.s) c.from.result) lp.invariant.2 ∙ overwrite_more st.stops.now (stop_index st.m) (λ s. pick (marked_of (as_kind st.k) [] s) 1 0) lp.s c.from.result (rw c.is_marked.ensures at (c.from.ensures ∙ mark_entry c.is_marked.result)),
     )
 
 pub returns : goal.returns

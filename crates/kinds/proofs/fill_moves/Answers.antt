@@ -20,7 +20,7 @@ row_in-requires c = (c.requires.in_range, omega (arith, c.states-n.ensures))
 pub fill_row-requires : goal.fill_row-requires
 fill_row-requires c =
     let lp = c.loop-s in
-    (omega (arith, lp.invariant.1, lp.invariant.2, c.requires.moves_len), lp.invariant.1)
+    (omega (arith, lp.invariant.1, lp.invariant.2, c.requires.place), lp.invariant.1)
 
 pub loop-s-preserved : goal.loop-s-preserved
 loop-s-preserved c =

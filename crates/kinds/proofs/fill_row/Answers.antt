@@ -1,39 +1,33 @@
-use mathlib.Core.Path.{◌≡◌, refl, ap, ◌∙◌}
-use mathlib.Core.List.{List}
-use Prim.Native.Nat.{ℕ, ◌+◌}
+-- Every entry is the one for the events that the row does not name, then those that it names are written over it.
+-- Assumes nothing.
+use mathlib.Core.Path.{◌≡◌, ap, ◌∙◌}
+use Prim.Native.Nat.{◌+◌, ◌-◌}
 use native.Mathlib.Omega.{arith}
-use lib.ListN.{set, length-set}
+use mathlib.Core.List.{◌++◌}
+use lib.ListN.{length, take, drop, replicate, length-take, length-drop}
 use lib.Dec.{eqb}
+use borrow.Rule.Slice.PartMut.{put_mid, post_of, Post-is}
 use Rattle.lists.specs.Lists.{pick, overwrite}
-use Rattle.lists.proofs.Tables.{overwrite_more, overwrite_cong}
+use Rattle.lists.proofs.Tables.{overwrite_cong}
 use Rattle.kinds.specs.Kinds.{row_at, entry_of}
-use Rattle.kinds.proofs.Tables.{put_entry, entry_row}
+use Rattle.kinds.proofs.Tables.{filled_row, put_entry, entry_row}
 use Rattle.kinds.proofs.fill_row.Goals as goal
-
-pub loop-u-init : goal.loop-u-init
-unfolding overwrite
-loop-u-init c = (omega arith, refl, refl)
-
-pub loop-u-preserved : goal.loop-u-preserved
-loop-u-preserved c =
-    let g = c.args in
-    let lp = c.loop-u in
-    let z = c.entry-z.result in (
-      omega arith,
-      simp length-set lp.invariant.1,
-      ap (λ (l : List ℕ). set l (g.at + lp.u) z) lp.invariant.2 ∙ overwrite_more g.moves.now (λ u. g.at + u) (λ u. z) lp.u z refl,
-    )
 
 pub returns : goal.returns
 returns c =
     let g = c.args in
-    let lp = c.loop-u in
     let z = c.entry-z in
     let y = c.entry in
     let x = c.entry-2 in
-    let e : lp.u ≡ 16 = omega (arith, c.loop-u-test.false) in
-    let others = lp.invariant.2 ∙ ap (overwrite g.moves.now (λ u. g.at + u) (λ u. z.result)) e in
-    let with-b = c.put_move.ensures ∙ put_entry g.moves.now g.at (λ u. z.result) g.r.b y.result lp.moves others in
+    let l = g.moves.now in
+    let k = g.at + 16 - g.at in
+    let long : length (take k (drop g.at l)) ≡ 16 = omega (arith, length-take k (drop g.at l), length-drop g.at l, c.requires.0) in
+    let others : put_mid g.at k l c.fill.new.self ≡ overwrite l (λ u. g.at + u) (λ u. z.result) 16 =
+    ap (λ r. take g.at l ++ (r ++ post_of g.at k l)) (c.fill.ensures.after (λ y q. q) ∙ ap (λ n. replicate n z.result) long)
+    ∙ ap (λ r. take g.at l ++ (replicate 16 z.result ++ r)) (Post-is g.at (g.at + 16) l (omega arith))
+    ∙ filled_row l g.at z.result 16 c.requires.0
+    in
+    let with-b = c.put_move.ensures ∙ put_entry l g.at (λ u. z.result) g.r.b y.result _ others in
     c.put_move-2.ensures
-    ∙ put_entry g.moves.now g.at (λ u. pick (eqb u g.r.b) y.result z.result) g.r.a x.result _ with-b
-    ∙ overwrite_cong g.moves.now (λ u. g.at + u) _ (λ u. entry_of g.n (row_at g.r u)) 16 (λ u h. rw (x.ensures, y.ensures, z.ensures) (entry_row g.n g.r u))
+    ∙ put_entry l g.at (λ u. pick (eqb u g.r.b) y.result z.result) g.r.a x.result _ with-b
+    ∙ overwrite_cong l (λ u. g.at + u) _ (λ u. entry_of g.n (row_at g.r u)) 16 (λ u h. rw (x.ensures, y.ensures, z.ensures) (entry_row g.n g.r u))

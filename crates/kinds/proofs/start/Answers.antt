@@ -27,25 +27,9 @@ overflow_cast-result c =
     let f = minus_fits c.in-Bal.lo c.in-Bal.field-1 b in
     rw (lo, to_z-of_z w64 (pos 0 -ℤ c.in-Bal.lo) f) (less_non_neg c.in-Bal.lo (pos 0) b.with_zero, record { fits = omega (arith, nat_abs-le (pos 0 -ℤ c.in-Bal.lo) f.sfits) })
 
-pub returns-in-Mon : goal.returns-in-Mon
-unfolding start_of
-returns-in-Mon c = rw c.in-Mon.is
-
-pub returns-in-Gap : goal.returns-in-Gap
-unfolding start_of
-returns-in-Gap c = rw c.in-Gap.is
-
-pub returns-in-Reply : goal.returns-in-Reply
-unfolding start_of
-returns-in-Reply c = rw c.in-Reply.is
-
 pub returns-in-Bal : goal.returns-in-Bal
 unfolding start_of
 returns-in-Bal c =
     let lo : to_z w64 (of_z w64 c.in-Bal.lo) ≡ c.in-Bal.lo = search rules in
     let b = bounds c.in-Bal.lo c.in-Bal.field-1 (subst (λ k. InRange (as_kind k)) c.in-Bal.is c.requires) in
     rw (lo, to_z-of_z w64 (pos 0 -ℤ c.in-Bal.lo) (minus_fits c.in-Bal.lo c.in-Bal.field-1 b), c.in-Bal.is) (minus_abs c.in-Bal.lo)
-
-pub returns-in-Day : goal.returns-in-Day
-unfolding start_of
-returns-in-Day c = rw c.in-Day.is

@@ -1,25 +1,19 @@
 -- The first line is what stands before the first line end; without one there is no `ask` line. Assumes nothing.
-use mathlib.Core.Path.{sym}
-use native.Mathlib.Omega.{arith}
-use lib.Seq.{length-take-le}
-use Rattle.decoding.proofs.Parts.{index_of_le}
-use Rattle.listing.proofs.Asking.{ask_good, ask_bad, ask_unended}
+use mathlib.Core.Path.{ap, sym, ◌∙◌}
+use Rattle.listing.specs.Listing.{asked_in, text}
+use Rattle.listing.proofs.Asking.{asked-ended, asked-unended}
 use Rattle.listing.proofs.ask.Goals as goal
 
-pub slice_bounds-asked_in-end : goal.slice_bounds-asked_in-end
-slice_bounds-asked_in-end c =
-    let s = c.args.input.now in
-    sym (length-take-le c.until-end.result s (rw c.until-end.ensures (index_of_le s 10)))
+pub returns-in_err-line : goal.returns-in_err-line
+returns-in_err-line c = rw c.from_residual.ensures (asked-unended c.args.input.now c.in_err-line.ensures)
 
-pub returns-in-Value : goal.returns-in-Value
-returns-in-Value c =
-    let u = c.until-end in
-    ask_good c.args.input.now u.result u.ensures (omega (arith, c.if-end-input.true)) c.asked_in.result _ c.asked_in.ensures c.in-Value.is
-
-pub returns-in-Wrong : goal.returns-in-Wrong
-returns-in-Wrong c =
-    let u = c.until-end in
-    ask_bad c.args.input.now u.result u.ensures (omega (arith, c.if-end-input.true)) c.asked_in.result c.asked_in.ensures c.in-Wrong.is
+pub returns-in_err-asked_in : goal.returns-in_err-asked_in
+returns-in_err-asked_in c =
+    let parted = c.in_ok-line.ensures in
+    rw c.from_residual-in_err-asked_in.ensures (asked-ended c.args.input.now parted.0 ∙ sym (ap asked_in parted.1) ∙ sym c.in_err-asked_in.ensures)
 
 pub returns : goal.returns
-returns c = ask_unended c.args.input.now c.until-end.result c.until-end.ensures (omega (arith, c.if-end-input.false))
+unfolding text
+returns c =
+    let parted = c.in_ok-line.ensures in
+    (asked-ended c.args.input.now parted.0 ∙ sym (ap asked_in parted.1) ∙ sym c.in_ok-asked_in.ensures, parted.2)

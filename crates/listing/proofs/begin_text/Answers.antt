@@ -1,35 +1,29 @@
--- A refusal up to row 8 is the answer itself, and else the record stands for the text, so what is counted of the record is counted of the
--- text. Assumes nothing.
-use mathlib.Core.Path.{refl}
-use lib.ListN.{length}
-use Rattle.filling.proofs.Rows.{early_count, early_count_cells, count_is, count_cells_are}
-use Rattle.listing.proofs.Beginning.{begins_as}
+-- A refusal up to row 8, or of row 9 or 10, is the answer itself, and else the record stands for the text, so what is counted of the record is counted
+-- of the text, and the cells and the table serve the lines. Assumes nothing.
+use mathlib.Core.Path.{refl, ◌∙◌}
+use Rattle.filling.proofs.Rows.{early_count, early_count_cells, count_is, count_cells_are, told_refused}
+use Rattle.listing.proofs.Beginning.{begins_as, refused_so, begins-counted}
 use Rattle.listing.proofs.begin_text.Goals as goal
 
-pub begin_counted-requires : goal.begin_counted-requires
-begin_counted-requires c = record {
-  fits = (c.load-o.ensures.ready c.in-Passed.is).fits;
-  owned_buffers = c.requires;
+pub returns-in_err-loaded : goal.returns-in_err-loaded
+returns-in_err-loaded c = let op = c.in_err-loaded.ensures in record {
+  begins_text = refused_so _ _ c.from_residual.result _ c.from_residual.ensures.1 (early_count c.args.cells.now op);
+  cells_after = early_count_cells c.args.cells.now op;
 }
 
-pub returns-in-Refused : goal.returns-in-Refused
-returns-in-Refused c =
-    let st = c.args in
-    let o = c.load-o in
-    let a = early_count st.text.now st.h (length st.cells.now) o.result o.ensures st.cells.now refl c.in-Refused.number c.in-Refused.place c.in-Refused.is in
-    record {
-      begins_text = begins_as _ _ _ _ _ _ _ _ _ _ _ _ _ a refl refl refl (c.refuse.ensures _ _ _ _ _);
-      cells_after = early_count_cells st.text.now st.h (length st.cells.now) o.result o.ensures st.cells.now refl c.in-Refused.number c.in-Refused.place c.in-Refused.is;
-    }
+pub returns-in_err-counted : goal.returns-in_err-counted
+returns-in_err-counted c = let op = c.in_ok-loaded.ensures in let fs = c.in_err-counted.ensures in record {
+  begins_text = refused_so _ _ c.from_residual-in_err-counted.result _ c.from_residual-in_err-counted.ensures.1 (told_refused fs _ ∙ count_is c.args.cells.now op);
+  cells_after = count_cells_are c.args.cells.now op _ fs.cells_filled;
+}
 
-pub returns-in-Passed : goal.returns-in-Passed
-returns-in-Passed c =
-    let st = c.args in
-    let o = c.load-o in
-    let e = c.in-Passed.is in
-    let r = o.ensures.ready e in
-    let a = count_is st.text.now st.h (length st.cells.now) o.result o.ensures st.cells.now refl e in
+pub returns : goal.returns
+returns c =
+    let op = c.in_ok-loaded.ensures in
+    let fs = c.in_ok-counted.ensures in
     record {
-      begins_text = begins_as _ _ _ _ _ _ _ _ _ _ _ _ _ a r.automaton r.starts refl c.begin_counted.ensures.begins_counted;
-      cells_after = count_cells_are st.text.now st.h (length st.cells.now) o.result o.ensures st.cells.now refl e _ c.begin_counted.ensures.cells_after;
+      begins_text = begins_as _ _ _ _ _ _ _ _ _ _ _ _ _ (count_is c.args.cells.now op) op.ready.automaton op.ready.starts refl
+          (begins-counted c.in_ok-loaded.loaded c.args.h c.write_numbers.result c.min.result c.in_ok-counted.counted c.args.cells.now c.args.line.now _ _ _ op.ready.fits c.requires.cells_long fs c.min.ensures
+          (record { told = c.write_numbers.ensures.value; written = c.write_numbers.ensures.out_after }));
+      cells_after = count_cells_are c.args.cells.now op _ fs.cells_filled;
     }

@@ -1,10 +1,10 @@
--- The bytes before `done` are written.
-use Rattle.std.proofs.Common.{length, ◌-◌, ◌≤◌, take}
+-- The bytes before those that are left are written.
+use Rattle.std.proofs.Common.{◌≡◌, List, ◌++◌, ℕ, length}
 use Rattle.std.specs.Io.KnownBytes.{Appends}
 use Rattle.printing.proofs.write_whole.Given as goal
 
-abbrev pub invariant-loop-done : goal.invariant-loop-done
-invariant-loop-done g l = (l.done ≤ length l.bytes) × Appends (g.W.Write.contents l.initial.out) (g.W.Write.contents l.out) (take l.done l.bytes)
+abbrev pub invariant-loop-left : goal.invariant-loop-left
+invariant-loop-left g l = (front : List ℕ) × (l.bytes ≡ front ++ l.left) × Appends (g.W.Write.contents l.initial.out) (g.W.Write.contents l.out) front
 
-abbrev pub decreases-loop-done : goal.decreases-loop-done
-decreases-loop-done g l = length l.bytes - l.done
+abbrev pub decreases-loop-left : goal.decreases-loop-left
+decreases-loop-left g l = length l.left

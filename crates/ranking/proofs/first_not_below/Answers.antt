@@ -1,29 +1,11 @@
-use mathlib.Core.Path.{◌≡◌, refl, sym, ◌∙◌}
-use native.Mathlib.Omega.{arith}
-use lib.ListN.{length}
-use Rattle.promises.specs.Calls.{first_bad}
-use Rattle.promises.proofs.Checks.{bad_here, bad_later, bad_nowhere}
+use Rattle.std.proofs.Common.{rules, tests}
+use Rattle.std.proofs.lemmas.Iterator.{YieldsList-from_slice}
+use Rattle.std.proofs.lemmas.Iterator.Search.{position_from_yields_List}
+use lib.Dec.{leb}
+use Rattle.refusal.proofs.Places.{position-first_bad}
 use Rattle.ranking.proofs.first_not_below.Goals as goal
-
-pub loop-k-init : goal.loop-k-init
-unfolding first_bad
-loop-k-init c = (omega arith, refl)
-
-pub returns-then-n-list : goal.returns-then-n-list
-returns-then-n-list c =
-    let a = c.args in
-    let lp = c.loop-k in
-    sym (lp.invariant.1 ∙ bad_here a.n a.list.now lp.k c.loop-k-test.true c.if-n-list.true)
-
-pub loop-k-preserved : goal.loop-k-preserved
-loop-k-preserved c =
-    let a = c.args in
-    let lp = c.loop-k in
-    (omega arith, lp.invariant.1 ∙ bad_later a.n a.list.now lp.k c.loop-k-test.true c.if-n-list.false)
 
 pub returns : goal.returns
 returns c =
-    let a = c.args in
-    let lp = c.loop-k in
-    let e : length a.list.now ≡ lp.k = omega arith in
-    e ∙ sym (lp.invariant.1 ∙ bad_nowhere a.n a.list.now lp.k (omega arith))
+    rw (← position-first_bad c.args.n c.args.list.now)
+    (position_from_yields_List (leb c.args.n) _ _ c.position.result c.position.ensures.ran (YieldsList-from_slice _ c.iter.ensures.rest) (λ x b q k. search (rules, tests)))

@@ -1,33 +1,18 @@
+-- `sheets::shared`: what is alike in blocks is skipped, and the rest is compared event by event. Assumes nothing.
 use native.Mathlib.Omega.{arith}
-use Rattle.sheets.proofs.SharedStarts.{shared_differ, shared_more, shared_end, shared_skip}
+use Rattle.promises.proofs.Bench.{shared_left}
+use Rattle.sheets.proofs.SharedStarts.{shared_rest}
 use Rattle.sheets.proofs.shared.Goals as goal
 
-pub shared_blocks-from-requires : goal.shared_blocks-from-requires
-shared_blocks-from-requires c = (omega arith, omega arith)
+pub overflow_mul-from : goal.overflow_mul-from
+overflow_mul-from c = omega (arith, c.alike_blocks-from.ensures.0)
 
-pub loop-k-init : goal.loop-k-init
-loop-k-init c =
-    let st = c.args in
-    let b = c.shared_blocks-from in
-    (c.shared_blocks-from.ensures.0, c.smaller-limit.ensures, shared_skip b.result st.prev.now st.new.now (omega (arith, c.shared_blocks-from.ensures.0)) (omega (arith, c.shared_blocks-from.ensures.0)) c.shared_blocks-from.ensures.1)
-
-pub returns-then-prev-k : goal.returns-then-prev-k
-returns-then-prev-k c =
-    let a = c.args.prev.now in
-    let b = c.args.new.now in
-    let lp = c.loop-k in
-    omega (arith, lp.invariant.2, shared_differ a b lp.k (omega (arith, lp.invariant.1)) (omega (arith, lp.invariant.1)) c.if-prev-k.true)
-
-pub loop-k-preserved : goal.loop-k-preserved
-loop-k-preserved c =
-    let a = c.args.prev.now in
-    let b = c.args.new.now in
-    let lp = c.loop-k in
-    (omega arith, lp.invariant.1, omega (arith, lp.invariant.2, shared_more a b lp.k (omega (arith, lp.invariant.1)) (omega (arith, lp.invariant.1)) c.if-prev-k.false))
+pub overflow_add-result : goal.overflow_add-result
+overflow_add-result c =
+    let (left, right, alike) = c.alike_blocks-from.ensures in
+    omega (arith, shared_rest _ c.args.prev.now c.args.new.now left right alike _ c.alike_events.ensures, shared_left c.args.prev.now c.args.new.now)
 
 pub returns : goal.returns
 returns c =
-    let a = c.args.prev.now in
-    let b = c.args.new.now in
-    let lp = c.loop-k in
-    omega (arith, lp.invariant.2, shared_end a b lp.k (omega (arith, lp.invariant.1)))
+    let (left, right, alike) = c.alike_blocks-from.ensures in
+    shared_rest _ c.args.prev.now c.args.new.now left right alike _ c.alike_events.ensures

@@ -1,10 +1,12 @@
--- `shuffle::last_step` meets its contract. The step s is on the chain of the draw's bucket, and no step from s on before i has the same draw.
--- A link goes to an earlier step, so that s falls.
+-- The step before the link is on the chain of the draw's bucket, and no step from the link on before i has the same draw.
+-- A link goes to an earlier step.
+use Rattle.std.proofs.Common.{List, ℕ, ◌++◌, length}
+use Rattle.shuffle.specs.Places.{Walkable}
 use Rattle.shuffle.proofs.Chains.{Walked}
 use Rattle.shuffle.proofs.last_step.Given as goal
 
-abbrev pub invariant-loop-s : goal.invariant-loop-s
-invariant-loop-s l = Walked l.reach l.draws l.i l.s
+abbrev pub invariant-loop-link : goal.invariant-loop-link
+invariant-loop-link l = (front : List ℕ) × Walkable (length front) l.draws l.i (front ++ l.links) × Walked (length front) l.draws l.i l.link
 
-abbrev pub decreases-loop-s : goal.decreases-loop-s
-decreases-loop-s l = l.s
+abbrev pub decreases-loop-link : goal.decreases-loop-link
+decreases-loop-link l = l.link

@@ -1,30 +1,26 @@
--- `shuffle::serve` meets its contract. Counting up leaves the links as they are and makes the scratch hold the first arrangement,
--- from which the swaps start; each of the three calls keeps what lies past the first 2 × z numbers.
-use Rattle.std.proofs.Common.{arith}
+-- Counting up leaves the links as they are and makes the places held the first arrangement, from which the swaps start; each of the calls
+-- keeps what lies past the first 2 × z numbers.
+use Rattle.std.proofs.Common.{◌++◌, length, arith}
 use Rattle.promises.proofs.Answers.{valid_at}
-use Rattle.shuffle.specs.Places.{multiple, Kept}
+use Rattle.shuffle.specs.Places.{Prepared}
 use Rattle.shuffle.proofs.Arrangement.{held_first}
-use Rattle.shuffle.proofs.Chains.{ready-counted, kept-filled, kept_trans}
+use Rattle.shuffle.proofs.Chains.{ready_front, kept_trans, kept_front}
 use Rattle.shuffle.proofs.serve.Goals as goal
 
-pub swap_all-requires : goal.swap_all-requires
-swap_all-requires c =
-    let p = c.prepare-reach in
-    let u = c.put_multiples in record {
-      draws_in_bounds = (c.requires.1, λ k h. let a = (valid_at _ _ _ c.requires.2 k h).0 in omega arith);
-      prepared = (rw u.ensures (ready-counted _ _ _ p.ensures.prepared), rw u.ensures (held_first _ _ _));
-    }
+pub swap_all-requires-clause-draws_in_bounds : goal.swap_all-requires-clause-draws_in_bounds
+swap_all-requires-clause-draws_in_bounds c = (c.requires.1, λ k h. let a = (valid_at _ _ _ c.requires.2 k h).0 in omega arith)
 
-pub returns : goal.returns
-returns c =
-    let ds = c.args.draws.now in
-    let p = c.prepare-reach in
-    let u = c.put_multiples in
-    let w = c.swap_all in
-    let small = p.ensures.prepared.small in
-    let wide = p.ensures.prepared.wide in
-    let counted : Kept ds p.new.scratch u.new.scratch = rw u.ensures (kept-filled (multiple 1) _ _ _ small (omega arith)) in
-    record {
-      out_after = w.ensures.out_after;
-      kept = kept_trans _ _ _ _ p.ensures.kept (kept_trans _ _ _ _ counted w.ensures.kept);
-    }
+pub swap_all-requires-clause-prepared : goal.swap_all-requires-clause-prepared
+swap_all-requires-clause-prepared c =
+    let s = c.split_at_mut-numbers in
+    let t = c.count_up.new.numbers in
+    let prepared : Prepared (length s.result.0.now) c.args.draws.now (s.result.0.now ++ s.result.1.now) = rw (s.ensures.front_len, ← s.ensures.value) c.prepare-held.ensures.prepared in
+    (ready_front _ s.result.0.now t s.result.1.now c.count_up.auto.numbers prepared, held_first _ t c.count_up.ensures)
+
+pub returns-clause-kept : goal.returns-clause-kept
+returns-clause-kept c =
+    let s = c.split_at_mut-numbers in
+    let p = c.prepare-held.ensures in
+    let small = p.prepared.small in
+    let w = c.swap_all.new.numbers in
+    kept_trans _ _ _ _ p.kept (rw s.ensures.value (kept_front _ s.result.0.now w s.result.1.now (omega arith) (omega (arith, s.ensures.front_len))))

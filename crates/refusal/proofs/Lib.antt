@@ -1,0 +1,2 @@
+-- What the crates above share of places.
+pub mod Places
