@@ -88,7 +88,7 @@
 extern "C" {
 #endif
 
-/* Bytes of stack that each function uses at most: measured at the horizon 1,000 with the largest rig (tests/stack.c), and 3 in 100 or more
+/* Bytes of stack that each function uses at most: measured at the horizon 1,000 with the largest rig (tests/stack.c), and a twentieth or more
  * added. A thread needs some more for itself, and some 4,096 bytes more where memcpy and memset are bound at their first call (cc's -z lazy). */
 #define WANDUKHAI_COUNT_STACK 57344
 #define WANDUKHAI_COUNT_FORWARD_STACK 57344

@@ -1,5 +1,5 @@
 -- What the checks come to, case by case. Assumes nothing.
-use mathlib.Core.Path.{◌≡◌, sym, ap, ◌∙◌}
+use mathlib.Core.Path.{◌≡◌, refl, sym, ap, ◌∙◌}
 use mathlib.Core.Logic.{inl}
 use mathlib.Core.List.{List, []}
 use Prim.Native.Nat.{ℕ, ◌*◌, ◌≤◌, ◌<◌}
@@ -8,7 +8,7 @@ use native.Mathlib.Nat.{mul-le-mul}
 use borrow.Author.Tests.{lt-ltb, le-ltb}
 use Rattle.std.specs.Prelude.{Result, Ok, Err}
 use Rattle.rig.specs.declared.Rig.{Rig}
-use Rattle.rig.specs.Record.{record_automaton, record_start, WellFormed}
+use Rattle.rig.specs.Record.{record_automaton, record_start, WellFormed, empty_rig}
 use Rattle.promises.specs.Answer.{served, Served}
 use Rattle.promises.specs.Text.{Readable, joint_states}
 use Rattle.promises.specs.Reading as promised
@@ -29,7 +29,7 @@ use Rattle.reader.proofs.Record.{read_from}
 use Rattle.checks.specs.Loading.{rows_for, Loads, ChecksSizes}
 use Rattle.checks.specs.declared.Rows.{Rows}
 use Rattle.checks.specs.declared.Rows.TheVariants.{All, Sixteenths, Two}
-use Rattle.checks.specs.declared.loaded.Loaded.{Loaded}
+use Rattle.checks.specs.declared.States.{States}
 
 -- ---- the horizon and the room
 
@@ -43,40 +43,40 @@ rows_few Two h le = omega arith
 pub cells_few : (k : Rows) (h p : ℕ) → h ≤ 1000 → p ≤ 1024 → rows_for k h * p ≤ 1001 * 1024
 cells_few k h p a b = mul-le-mul {n₁ = rows_for k h} {m₁ = p} {n₂ = 1001} {m₂ = 1024} (rows_few k h a) b
 
-pub sizes_7 : (r : Rig) (rows h room : ℕ) → 1000 < h → ChecksSizes r rows h room (Err LongHorizon)
+pub sizes_7 : (r : Rig) (rows h room : ℕ) → 1000 < h → ChecksSizes r rows h room (record { rig = r; checked = Err LongHorizon })
 sizes_7 r rows h room c = record {
   answer = λ a. rw (lt-ltb 1000 h c);
   untouched = early_fills 7 0 (inl (omega arith));
-  same = tt;
+  same = refl;
   passed = tt;
 }
 
-pub sizes_8 : (r : Rig) (rows h room n states : ℕ) → h ≤ 1000 → n ≡ rows → states ≡ (record_automaton r).states → room < n * states → ChecksSizes r rows h room (Err FewCells)
+pub sizes_8 : (r : Rig) (rows h room n states : ℕ) → h ≤ 1000 → n ≡ rows → states ≡ (record_automaton r).states → room < n * states → ChecksSizes r rows h room (record { rig = r; checked = Err FewCells })
 sizes_8 r rows h room n states c m q lt = record {
   answer = λ a. rw (le-ltb 1000 h c, ← m, ← q, lt-ltb room (n * states) lt);
   untouched = early_fills 8 0 (inl (omega arith));
-  same = tt;
+  same = refl;
   passed = tt;
 }
 
-pub sizes_on : (r : Rig) (rows h room n states : ℕ) (l : Loaded) → l.rig ≡ r → l.states ≡ states → WellFormed r → h ≤ 1000 → n ≡ rows → states ≡ (record_automaton r).states → n * states ≤ room → l.start ≡ record_start r
-    → ChecksSizes r rows h room (Ok l)
-sizes_on r rows h room n states l is p w c m q le e = record {
+pub sizes_on : (r : Rig) (rows h room n states start : ℕ) → WellFormed r → h ≤ 1000 → n ≡ rows → states ≡ (record_automaton r).states → n * states ≤ room → start ≡ record_start r
+    → ChecksSizes r rows h room (record { rig = r; checked = Ok (record { count = states; start = start }) })
+sizes_on r rows h room n states start w c m q le e = record {
   answer = λ a. rw (le-ltb 1000 h c, ← m, ← q, le-ltb room (n * states) le);
   untouched = tt;
-  same = is;
-  passed = record { well_formed = w; joint = p ∙ q; starts = e; start_below = rw (p, q, e) (start_lt r w); horizon = c; enough = rw (← m, p) le };
+  same = refl;
+  passed = record { well_formed = w; joint = q; starts = e; start_below = rw (q, e) (start_lt r w); horizon = c; enough = rw (← m) le };
 }
 
 -- ---- the text
 
--- a refused text: the refusal is that of reading, whatever the rest says
-pub loads-refused : (t : List ℕ) (rows h room : ℕ) (e : Refusal) → refused_by e ≡ promised.reading t → Loads t rows h room (Err e)
-unfolding sized_for
+-- a refused text: the refusal is that of reading, whatever the rest says, and the record that of no line
+pub loads-refused : (t : List ℕ) (rows h room : ℕ) (e : Refusal) → refused_by e ≡ promised.reading t → Loads t rows h room (record { rig = empty_rig; checked = Err e })
+unfolding sized_for record_of
 loads-refused t rows h room e q = record {
   answer = λ cells a l. rw (sym q);
   untouched = fault_fills t (number_of e) (place_of e) ((reading_refuses t (number_of e) (place_of e)).0 (sym q));
-  is_record = tt;
+  is_record = rw (← q);
   ready = tt;
 }
 
@@ -98,10 +98,10 @@ module _ (t : List ℕ) (r : Rig) (q : served [] ≡ promised.reading t) (e : r 
   pub read_well_formed : WellFormed r
   read_well_formed = rw e from.well_formed
 
-  pub loads-readable : (rows h room : ℕ) (o : Result Loaded Refusal) → ChecksSizes r rows h room o → Loads t rows h room o
+  pub loads-readable : (rows h room : ℕ) (x : Rig) (o : Result States Refusal) → ChecksSizes r rows h room (record { rig = x; checked = o }) → Loads t rows h room (record { rig = x; checked = o })
   unfolding sized_for
-  loads-readable rows h room (Err x) w = record { answer = λ cells a l. rw (← q, l, ← states) (w.answer a); untouched = w.untouched; is_record = tt; ready = tt }
-  loads-readable rows h room (Ok o) w = record {
+  loads-readable rows h room x (Err y) w = record { answer = λ cells a l. rw (← q, l, ← states) (w.answer a); untouched = w.untouched; is_record = w.same ∙ e; ready = tt }
+  loads-readable rows h room x (Ok o) w = record {
     answer = λ cells a l. rw (← q, l, ← states) (w.answer a);
     untouched = tt;
     is_record = w.same ∙ e;

@@ -5,8 +5,9 @@
 --   Fits r states x h room         == so for all rows up to h
 --   Ready t rows h room r states x == the record r stands for the readable text t, and fits
 --   ChecksSizes r rows h room o    == o tells rows 7 and 8 of the record r
---   Loads t rows h room o          == o tells rows 1 to 8 and 16 to 18
--- Nothing is left free: the record is that of the text. None of these refusals is one after which the cells are filled. Assumes nothing.
+--   Loads t rows h room o          == o tells rows 1 to 8 and 16 to 18, with the record
+--   Opens t rows h room o          == o tells them, with the record unless one of them applies
+-- Nothing is left free: the record is that of the text, and that of no line where the text is refused. None of these refusals is one after which the cells are filled. Assumes nothing.
 use Rattle.std.specs.Prelude.{◌≡◌, false, List, ℕ, ◌+◌, ◌*◌, ◌≤◌, ◌<◌, length, Result, Ok, Err, IfOk, IfErr}
 use Rattle.rig.specs.declared.Rig.{Rig}
 use Rattle.rig.specs.Record.{record_automaton, record_start, WellFormed}
@@ -22,6 +23,7 @@ use Rattle.reader.specs.Reading.{record_of}
 use Rattle.checks.specs.declared.Rows.{Rows}
 use Rattle.checks.specs.declared.Rows.TheVariants.{All, Sixteenths, Two}
 use Rattle.checks.specs.declared.loaded.Loaded.{Loaded}
+use Rattle.checks.specs.declared.Checked.{Checked}
 
 abbrev pub checked_or : {A : Type 0} → Result A Refusal → Answer → Answer
 checked_or (Ok x) a = a
@@ -50,13 +52,19 @@ pub record Ready (t : List ℕ) (rows h room : ℕ) (r : Rig) (states x : ℕ) :
   pub starts : x ≡ start t
   pub fits : FitsFor r states x rows h room
 
-pub record ChecksSizes (r : Rig) (rows h room : ℕ) (o : Result Loaded Refusal) : Type 0 where
-  pub answer : (a : Answer) → size_rows rows (record_automaton r).states h room a ≡ checked_or o a
-  pub untouched : IfErr o (λ e. fills (refused_by e) ≡ false)
-  pub same : IfOk o (λ l. l.rig ≡ r)
-  pub passed : IfOk o (λ l. FitsFor r l.states l.start rows h room)
+pub record ChecksSizes (r : Rig) (rows h room : ℕ) (o : Checked) : Type 0 where
+  pub answer : (a : Answer) → size_rows rows (record_automaton r).states h room a ≡ checked_or o.checked a
+  pub untouched : IfErr o.checked (λ e. fills (refused_by e) ≡ false)
+  pub same : o.rig ≡ r
+  pub passed : IfOk o.checked (λ s. FitsFor r s.count s.start rows h room)
 
-pub record Loads (t : List ℕ) (rows h room : ℕ) (o : Result Loaded Refusal) : Type 0 where
+pub record Loads (t : List ℕ) (rows h room : ℕ) (o : Checked) : Type 0 where
+  pub answer : (cells : List ℕ) (a : Answer) → length cells ≡ room → sized_for t rows h cells a ≡ checked_or o.checked a
+  pub untouched : IfErr o.checked (λ e. fills (refused_by e) ≡ false)
+  pub is_record : o.rig ≡ record_of t
+  pub ready : IfOk o.checked (λ s. Ready t rows h room o.rig s.count s.start)
+
+pub record Opens (t : List ℕ) (rows h room : ℕ) (o : Result Loaded Refusal) : Type 0 where
   pub answer : (cells : List ℕ) (a : Answer) → length cells ≡ room → sized_for t rows h cells a ≡ checked_or o a
   pub untouched : IfErr o (λ e. fills (refused_by e) ≡ false)
   pub is_record : IfOk o (λ l. l.rig ≡ record_of t)

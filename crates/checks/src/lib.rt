@@ -5,7 +5,7 @@ mod loaded;
 
 ghost use Rattle.std.specs.Prelude.{◌≡◌, ◌≤◌};
 ghost use Rattle.rig.specs.Record.{WellFormed};
-ghost use Rattle.checks.specs.Loading.{rows_for, Loads, ChecksSizes};
+ghost use Rattle.checks.specs.Loading.{rows_for, Loads, Opens, ChecksSizes};
 
 pub use loaded::Loaded;
 use refusal::Refusal;
@@ -35,25 +35,70 @@ impl Rows {
     }
 }
 
-// Rows 1 to 8 and 16 to 18: the text, the horizon, and the room for the cells.
-pub fn load(text: &[u8], h: u64, rows: Rows, room: usize) -> Result<Loaded, Refusal>
+// How many joint states a record has, and the number of the start.
+#[derive(Clone, Copy, Debug, PartialEq, Eq)]
+pub struct States {
+    pub count: usize,
+    pub start: usize,
+}
+
+// The record of a text, and whether a row applies to a call on it: the record is that of no line where the text itself is refused.
+#[derive(Drop)]
+pub struct Checked {
+    pub rig: Rig,
+    pub checked: Result<States, Refusal>,
+}
+
+// Rows 1 to 8 and 16 to 18: the text, the horizon, and the room for the cells. The record is told beside a refusal too.
+pub fn load(text: &[u8], h: u64, rows: Rows, room: usize) -> Checked
     ensures { Loads text.now (rows_for rows h) h room result }
 {
-    check_sizes(reader::read(text)?, h, rows, room)
+    match reader::read(text) {
+        Ok(rig) => check_sizes(rig, h, rows, room),
+        Err(refusal) => Checked {
+            rig: rig::empty_rig(),
+            checked: Err(refusal),
+        },
+    }
 }
 
 // Rows 7 and 8, for a record that was read.
-fn check_sizes(rig: Rig, h: u64, rows: Rows, room: usize) -> Result<Loaded, Refusal>
+fn check_sizes(rig: Rig, h: u64, rows: Rows, room: usize) -> Checked
     requires { WellFormed rig }
     ensures { ChecksSizes rig (rows_for rows h) h room result }
 {
     if 1000 < h {
-        return Err(Refusal::LongHorizon);
+        return Checked {
+            rig, // the text was read
+            checked: Err(Refusal::LongHorizon),
+        };
     }
     let states = joint::joint_states(&rig);
     if room < rows.needed(h as usize) * states {
-        return Err(Refusal::FewCells);
+        return Checked {
+            rig,
+            checked: Err(Refusal::FewCells),
+        };
     }
     let start = joint::joint_start(&rig);
-    Ok(Loaded { rig, states, start })
+    Checked {
+        rig,
+        checked: Ok(States {
+            count: states,
+            start,
+        }),
+    }
+}
+
+// The same for a call, which tells a refusal alone.
+pub fn open(text: &[u8], h: u64, rows: Rows, room: usize) -> Result<Loaded, Refusal>
+    ensures { Opens text.now (rows_for rows h) h room result }
+{
+    let Checked { rig, checked } = load(text, h, rows, room);
+    let States { count, start } = checked?;
+    Ok(Loaded {
+        rig,
+        states: count,
+        start,
+    })
 }

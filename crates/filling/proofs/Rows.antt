@@ -9,7 +9,7 @@ use native.Mathlib.Nat.{suc-mul}
 use native.Mathlib.Numerals.{add-one}
 use lib.ListN.{length, get_or}
 use lib.Dec.{leb, eqb}
-use Rattle.std.specs.Prelude.{⊤, Result, Ok, Err, IsErrAnd}
+use Rattle.std.specs.Prelude.{Result, Ok, Err, IsErrAnd}
 use Rattle.std.proofs.lemmas.Result.{err_from_is_err_and}
 use Rattle.lists.proofs.Tests.{case}
 use Rattle.automaton.specs.Automaton.{Automaton}
@@ -22,11 +22,12 @@ use Rattle.promises.specs.Calls.{count_rows, count_from, filled, fills, cells_af
 use Rattle.promises.proofs.Buffers.{filled_at}
 use Rattle.refusal.specs.declared.Refusal.{Refusal}
 use Rattle.refusal.specs.Numbers.{refused_by, answered}
-use Rattle.checks.specs.Loading.{Loads}
+use Rattle.checks.specs.Loading.{Opens}
 use Rattle.checks.specs.declared.loaded.Loaded.{Loaded}
 use Rattle.counting.specs.Tabled.{Tabled}
-use Rattle.filling.specs.Filling.{TellsRows, FilledBy}
+use Rattle.filling.specs.Filling.{TellsRows, FilledBy, CountedBy}
 use Rattle.filling.specs.declared.Counted.{Counted}
+use Rattle.filling.specs.declared.Filled.{Filled}
 use Rattle.filling.proofs.CountRows.{cell_refused, cell_passed, cell_exact, cell_few}
 
 -- what a call answers that hands a refusal on
@@ -48,18 +49,9 @@ module _ (o : Loaded) (h : ℕ) (cells left table : List ℕ) where
   cut : left ≡ filled (record_automaton o.rig) h cells → get_or left (h * o.states + o.start) 0 ≡ min (N (record_automaton o.rig) h o.start) most
   cut e = start_cell (record_automaton o.rig) h o.start cells left o.states o.joint o.start_below e
 
-  pub fills-refused : (e : Refusal) → left ≡ filled (record_automaton o.rig) h cells → Tabled (record_automaton o.rig) o.states table
-      → TellsRows {K = ⊤} (get_or left (h * o.states + o.start) 0) (Err e) → FilledBy (record_automaton o.rig) o.states o.start h (Err e) cells left table
-  fills-refused e q d t =
-      let s = rw (cut q) at t in
-      record { rows = record { answer = s.answer; some = tt; few = tt }; counted = tt; passed = tt; cells_filled = q; tabled = d }
-
-  pub fills-counted : (s : ℕ) → s ≡ passes (record_automaton o.rig) → left ≡ filled (record_automaton o.rig) h cells → Tabled (record_automaton o.rig) o.states table
-      → TellsRows {K = ⊤} (get_or left (h * o.states + o.start) 0) (Ok tt)
-      → FilledBy (record_automaton o.rig) o.states o.start h (Ok (record { count = get_or left (h * o.states + o.start) 0; passes = s })) cells left table
-  fills-counted s r q d t =
-      let s = rw (cut q) at t in
-      record { rows = record { answer = s.answer; some = s.some; few = s.few }; counted = cut q; passed = r; cells_filled = q; tabled = d }
+  pub fills-told : (f : Filled) → f.count ≡ get_or left (h * o.states + o.start) 0 → f.passes ≡ passes (record_automaton o.rig) → left ≡ filled (record_automaton o.rig) h cells
+      → Tabled (record_automaton o.rig) o.states table → TellsRows f.count f.checked → FilledBy (record_automaton o.rig) o.states o.start h f cells left table
+  fills-told f n s q d t = record { rows = t; counted = n ∙ cut q; passed = s; cells_filled = q; tabled = d }
 
 pub cell_room : (h p x n : ℕ) → x < p → (h + 1) * p ≤ n → h * p + x < n
 cell_room h p x n lt le = omega (arith, suc-mul h p, ap (λ (i : ℕ). i * p) (add-one h))
@@ -76,10 +68,10 @@ total-rows_fill t h = count_rows-fills (total t h) (served (total t h ∷ passes
 -- ---- what filling tells
 
 module _ {A : Automaton} {p x h : ℕ} {cells left table : List ℕ} where
-  pub told_refused : {e : Refusal} → FilledBy A p x h (Err e) cells left table → (a : Answer) → refused_by e ≡ count_rows (N A h x) a
+  pub told_refused : {e : Refusal} → CountedBy A p x h (Err e) cells left table → (a : Answer) → refused_by e ≡ count_rows (N A h x) a
   told_refused fs = cell_refused (N A h x) refl fs.rows
 
-  module _ {f : Counted} (fs : FilledBy A p x h (Ok f) cells left table) where
+  module _ {f : Counted} (fs : CountedBy A p x h (Ok f) cells left table) where
     pub told_passed : (a : Answer) → a ≡ count_rows (N A h x) a
     told_passed = cell_passed (N A h x) refl fs.rows
 
@@ -100,7 +92,7 @@ module _ {A : Automaton} {p x h : ℕ} {cells left table : List ℕ} where
 -- ---- rows 1 to 8 and 16 to 18, as the whole call sees them
 
 -- one of them applied: its refusal is the answer, and the cells are as before
-module _ {t : List ℕ} {rows h : ℕ} (cells : List ℕ) {e : Refusal} (op : Loads t rows h (length cells) (Err e)) where
+module _ {t : List ℕ} {rows h : ℕ} (cells : List ℕ) {e : Refusal} (op : Opens t rows h (length cells) (Err e)) where
   pub early_answer : (a : Answer) → refused_by e ≡ sized_for t rows h cells a
   early_answer a = sym (op.answer cells a refl)
 
@@ -117,7 +109,7 @@ module _ {t : List ℕ} {rows h : ℕ} (cells : List ℕ) {e : Refusal} (op : Lo
   early_freed a need = rw (← early_answer a, op.untouched)
 
 -- they are passed: the record stands for the text
-module _ {t : List ℕ} {rows h : ℕ} (cells : List ℕ) {o : Loaded} (op : Loads t rows h (length cells) (Ok o)) where
+module _ {t : List ℕ} {rows h : ℕ} (cells : List ℕ) {o : Loaded} (op : Opens t rows h (length cells) (Ok o)) where
   pub passed_answer : (a : Answer) → sized_for t rows h cells a ≡ a
   passed_answer a = op.answer cells a refl
 
@@ -150,7 +142,7 @@ module _ {t : List ℕ} {rows h : ℕ} (cells : List ℕ) {o : Loaded} (op : Loa
 
 -- Count, with room for all rows up to h
 module _ {t : List ℕ} {h : ℕ} (cells : List ℕ) where
-  module _ {e : Refusal} (op : Loads t (h + 1) h (length cells) (Err e)) where
+  module _ {e : Refusal} (op : Opens t (h + 1) h (length cells) (Err e)) where
     pub early_count : refused_by e ≡ count t h cells
     unfolding count
     early_count = early_answer cells op _
@@ -159,7 +151,7 @@ module _ {t : List ℕ} {h : ℕ} (cells : List ℕ) where
     unfolding count_cells count
     early_count_cells = early_cells cells op _ _
 
-  module _ {o : Loaded} (op : Loads t (h + 1) h (length cells) (Ok o)) where
+  module _ {o : Loaded} (op : Opens t (h + 1) h (length cells) (Ok o)) where
     pub count_is : count_from (record_automaton o.rig) h o.start ≡ count t h cells
     unfolding count
     count_is = total_rows_are cells op

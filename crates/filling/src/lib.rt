@@ -6,7 +6,7 @@ ghost use Rattle.automaton.specs.Pruning.{passes};
 ghost use Rattle.rig.specs.Record.{record_automaton};
 ghost use Rattle.promises.specs.Calls.{filled};
 ghost use Rattle.counting.specs.Tabled.{Tabled};
-ghost use Rattle.filling.specs.Filling.{TellsRows, FilledBy};
+ghost use Rattle.filling.specs.Filling.{TellsRows, FilledBy, CountedBy};
 
 use checks::Loaded;
 use counting::Table;
@@ -19,26 +19,48 @@ pub struct Counted {
     pub passes: u64,
 }
 
-// Prunes the rig, fills the table and the cells of rows 0 to h, and tells rows 9 and 10 by the cell of the start, which is read once.
-pub fn fill_cells(
+// Whether row 9 or 10 applies, with the cell of the start, which is N where neither does, and the number of passes.
+#[derive(Clone, Copy, Debug, PartialEq, Eq)]
+pub struct Filled {
+    pub checked: Result<(), Refusal>,
+    pub count: u64,
+    pub passes: u64,
+}
+
+// Prunes the rig, fills the table and the cells of rows 0 to h, and tells rows 9 and 10 by the cell of the start, which is read once. The cell and the
+// passes are told beside these rows too.
+pub fn fill_cells(loaded: &Loaded, h: usize, cells: &mut [u64], table: &mut [u16]) -> Filled
+    requires { ((h + 1) * loaded.now.states ≤ length cells.old) × (length table.old ≡ 16384) }
+    ensures { FilledBy (record_automaton loaded.now.rig) loaded.now.states loaded.now.start h result cells.old cells.new table.new }
+{
+    let passes = prune_and_fill(loaded, h, cells, table);
+    let count = cells[h * loaded.states + loaded.start];
+    Filled {
+        checked: check_count(count),
+        count,
+        passes: passes as u64,
+    }
+}
+
+// The same for a call, which tells N and the passes, or row 9 or 10 alone.
+pub fn count_cells(
     loaded: &Loaded,
     h: usize,
     cells: &mut [u64],
     table: &mut [u16],
 ) -> Result<Counted, Refusal>
     requires { ((h + 1) * loaded.now.states ≤ length cells.old) × (length table.old ≡ 16384) }
-    ensures { FilledBy (record_automaton loaded.now.rig) loaded.now.states loaded.now.start h result cells.old cells.new table.new }
+    ensures { CountedBy (record_automaton loaded.now.rig) loaded.now.states loaded.now.start h result cells.old cells.new table.new }
 {
-    let passes = prune_and_fill(loaded, h, cells, table);
-    let count = cells[h * loaded.states + loaded.start];
-    check_count(count)?;
+    let filled = fill_cells(loaded, h, cells, table);
+    filled.checked?;
     Ok(Counted {
-        count,
-        passes: passes as u64,
+        count: filled.count,
+        passes: filled.passes,
     })
 }
 
-// Prunes the rig, and fills the table and the cells. Gives the number of passes, also where rows 9 and 10 apply and `fill_cells` tells none.
+// Prunes the rig, and fills the table and the cells. Gives the number of passes.
 pub fn prune_and_fill(loaded: &Loaded, h: usize, cells: &mut [u64], table: &mut [u16]) -> usize
     requires { ((h + 1) * loaded.now.states ≤ length cells.old) × (length table.old ≡ 16384) }
     ensures value { result ≡ passes (record_automaton loaded.now.rig) }

@@ -15,7 +15,7 @@ use Rattle.promises.specs.Forward.{forward_rows, forward, ForwardKeeps}
 use Rattle.promises.proofs.Meaning.{rig-states}
 use Rattle.refusal.specs.declared.Refusal.{Refusal}
 use Rattle.refusal.specs.Numbers.{refused_by}
-use Rattle.checks.specs.Loading.{Loads}
+use Rattle.checks.specs.Loading.{Opens}
 use Rattle.checks.specs.declared.loaded.Loaded.{Loaded}
 use Rattle.filling.specs.Filling.{TellsRows}
 use Rattle.filling.proofs.CountRows.{cell_passed, cell_exact}
@@ -25,7 +25,7 @@ use Rattle.filling.proofs.Rows.{early_answer, early_freed, passed_freed, total_r
 pub told-forward : (A : Automaton) (h x c s : ℕ) → TellsRows {K = ⊤} c (Ok tt) → c ≡ min (N A h x) most → s ≡ passes A → served (c ∷ s ∷ []) ≡ count_from A h x
 told-forward A h x c s tells cut p = rw (cell_exact (N A h x) cut tells, p) (cell_passed (N A h x) cut tells _)
 
-module _ {t : List ℕ} {h : ℕ} (cells : List ℕ) {e : Refusal} (op : Loads t forward_rows h (length cells) (Err e)) where
+module _ {t : List ℕ} {h : ℕ} (cells : List ℕ) {e : Refusal} (op : Opens t forward_rows h (length cells) (Err e)) where
   pub early_forward : refused_by e ≡ forward t h cells
   unfolding forward
   early_forward = early_answer cells op _
@@ -34,7 +34,7 @@ module _ {t : List ℕ} {h : ℕ} (cells : List ℕ) {e : Refusal} (op : Loads t
   unfolding forward
   early_keeps = early_freed cells op _ _
 
-module _ {t : List ℕ} {h : ℕ} (cells : List ℕ) {o : Loaded} (op : Loads t forward_rows h (length cells) (Ok o)) where
+module _ {t : List ℕ} {h : ℕ} (cells : List ℕ) {o : Loaded} (op : Opens t forward_rows h (length cells) (Ok o)) where
   pub forward_is : count_from (record_automaton o.rig) h o.start ≡ forward t h cells
   unfolding forward
   forward_is = total_rows_are cells op

@@ -16,7 +16,7 @@ pub fn count_forward(text: &[u8], h: u64, cells: &mut [u64]) -> Result<Counted, 
     ensures result_value { count_answer result ≡ forward text.now h cells.old }
     ensures forward_keeps { ForwardKeeps text.now h cells.old cells.new }
 {
-    let loaded = checks::load(text, h, Rows::Two, cells.len())?;
+    let loaded = checks::open(text, h, Rows::Two, cells.len())?;
     let mut live = [0u8; 1024];
     let mut table = [0u16; 16384];
     let passes = pruning::prune(loaded.rig, &mut live, &mut table);

@@ -20,10 +20,10 @@ use Rattle.promises.specs.Calls.{not_below, count, indices_row, sequence_row, fi
 use Rattle.ranking.specs.Ranks.{ranked_as, with_scenarios, all_or_place}
 use Rattle.ranking.proofs.Premises.{served_fresh}
 use Rattle.ranking.proofs.Walk.{good_all}
-use Rattle.checks.specs.Loading.{Loads}
+use Rattle.checks.specs.Loading.{Opens}
 use Rattle.checks.specs.declared.loaded.Loaded.{Loaded}
 use Rattle.filling.specs.declared.Counted.{Counted}
-use Rattle.filling.specs.Filling.{FilledBy}
+use Rattle.filling.specs.Filling.{CountedBy}
 use Rattle.filling.proofs.Rows.{told_err, count_rows-fills, told_refused, told_count, early_answer, early_cells, early_output, passed_answer, counted_is, total_is, passed_cells, count_is}
 use Rattle.refusal.specs.declared.Refusal.{Refusal}
 use Rattle.refusal.specs.declared.Refusal.TheVariants.{NoSuchIndex, Violation}
@@ -109,7 +109,7 @@ list_fills t h is out fit = rw (le-ltb (length out) (length is * h) fit) (count_
 
 -- ---- a refusal up to row 8 is the answer itself
 
-module _ {t : List ℕ} {h : ℕ} (cells : List ℕ) {e : Refusal} (op : Loads t (h + 1) h (length cells) (Err e)) (is out : List ℕ) where
+module _ {t : List ℕ} {h : ℕ} (cells : List ℕ) {e : Refusal} (op : Opens t (h + 1) h (length cells) (Err e)) (is out : List ℕ) where
   pub early_scenarios : refused_by e ≡ scenarios t h is cells out
   unfolding scenarios
   early_scenarios = early_answer cells op _
@@ -122,7 +122,7 @@ module _ {t : List ℕ} {h : ℕ} (cells : List ℕ) {e : Refusal} (op : Loads t
   unfolding written scenarios
   early_written = early_output cells op _ _ out
 
-module _ {t : List ℕ} (s cells : List ℕ) {e : Refusal} (op : Loads t (length s + 1) (length s) (length cells) (Err e)) where
+module _ {t : List ℕ} (s cells : List ℕ) {e : Refusal} (op : Opens t (length s + 1) (length s) (length cells) (Err e)) where
   pub early_index : refused_by e ≡ index t s cells
   unfolding index
   early_index = early_answer cells op _
@@ -134,13 +134,13 @@ module _ {t : List ℕ} (s cells : List ℕ) {e : Refusal} (op : Loads t (length
 -- ---- once they are passed
 
 -- Count tells what filling tells
-pub count_told : {t : List ℕ} {h : ℕ} (cells : List ℕ) {o : Loaded} → Loads t (h + 1) h (length cells) (Ok o) → (r : Result Counted Refusal) {left table : List ℕ}
-    → FilledBy (record_automaton o.rig) o.states o.start h r cells left table → count_answer r ≡ count t h cells
+pub count_told : {t : List ℕ} {h : ℕ} (cells : List ℕ) {o : Loaded} → Opens t (h + 1) h (length cells) (Ok o) → (r : Result Counted Refusal) {left table : List ℕ}
+    → CountedBy (record_automaton o.rig) o.states o.start h r cells left table → count_answer r ≡ count t h cells
 count_told cells op (Err e) fs = told_refused fs _ ∙ count_is cells op
 count_told cells op (Ok f) fs = told_count fs ∙ count_is cells op
 
 -- what a call that lists scenarios tells, with room for so many rows
-module _ {t : List ℕ} {rows h : ℕ} (cells : List ℕ) {o : Loaded} (op : Loads t rows h (length cells) (Ok o)) (is out : List ℕ) where
+module _ {t : List ℕ} {rows h : ℕ} (cells : List ℕ) {o : Loaded} (op : Opens t rows h (length cells) (Ok o)) (is out : List ℕ) where
   -- 12
   pub list_short : ltb (length out) (length is * h) ≡ true → refused 12 0 ≡ sized_for t rows h cells (list_rows t h is out)
   list_short q = rw (passed_answer cells op, q)
@@ -148,7 +148,7 @@ module _ {t : List ℕ} {rows h : ℕ} (cells : List ℕ) {o : Loaded} (op : Loa
   pub list_are : length is * h ≤ length out → list_from (record_automaton o.rig) h o.start is ≡ sized_for t rows h cells (list_rows t h is out)
   list_are fit = rw (passed_answer cells op, le-ltb (length out) (length is * h) fit, total_is cells op) (rw (← total_is cells op) (counted_is cells op _))
 
-module _ {t : List ℕ} {h : ℕ} (cells : List ℕ) {o : Loaded} (op : Loads t (h + 1) h (length cells) (Ok o)) (is out : List ℕ) where
+module _ {t : List ℕ} {h : ℕ} (cells : List ℕ) {o : Loaded} (op : Opens t (h + 1) h (length cells) (Ok o)) (is out : List ℕ) where
   module _ (short : ltb (length out) (length is * h) ≡ true) where
     pub short_output : refused 12 0 ≡ scenarios t h is cells out
     unfolding scenarios
@@ -180,7 +180,7 @@ module _ {t : List ℕ} {h : ℕ} (cells : List ℕ) {o : Loaded} (op : Loads t 
     unfolding written output_after
     refused_written e q = rw (← q)
 
-module _ {t : List ℕ} (s cells : List ℕ) {o : Loaded} (op : Loads t (length s + 1) (length s) (length cells) (Ok o)) where
+module _ {t : List ℕ} (s cells : List ℕ) {o : Loaded} (op : Opens t (length s + 1) (length s) (length cells) (Ok o)) where
   -- 13
   module _ (k : ℕ) (q : Some k ≡ place_in (length s) (first_bad (not_below o.rig.events) s)) where
     bad_event : (a : Answer) → refused 13 k ≡ unless_at 13 (not_below (events_of (decoded t))) s a

@@ -17,9 +17,9 @@ pub fn count(text: &[u8], h: u64, cells: &mut [u64]) -> Result<Counted, Refusal>
     ensures result_value { count_answer result ≡ promised.count text.now h cells.old }
     ensures cells_after { cells.new ≡ promised.count_cells text.now h cells.old }
 {
-    let loaded = checks::load(text, h, Rows::All, cells.len())?;
+    let loaded = checks::open(text, h, Rows::All, cells.len())?;
     let mut table = [0u16; 16384];
-    filling::fill_cells(&loaded, h as usize, cells, &mut table)
+    filling::count_cells(&loaded, h as usize, cells, &mut table)
 }
 
 // 'Scenarios: text, h, a list of indices, cells, output bytes.'
@@ -34,13 +34,13 @@ pub fn scenarios(
     ensures cells_after { cells.new ≡ promised.scenarios_cells text.now h list.now cells.old out.old }
     ensures out_after { out.new ≡ promised.written text.now h list.now cells.old out.old }
 {
-    let loaded = checks::load(text, h, Rows::All, cells.len())?;
+    let loaded = checks::open(text, h, Rows::All, cells.len())?;
     let h = h as usize;
     if !ranking::fits(list.len(), h, out.len()) {
         return Err(Refusal::ShortOutput);
     }
     let mut table = [0u16; 16384];
-    let counted = filling::fill_cells(&loaded, h, cells, &mut table)?;
+    let counted = filling::count_cells(&loaded, h, cells, &mut table)?;
     let counts = Counts {
         cells,
         table: &table[..],
@@ -57,12 +57,12 @@ pub fn index(text: &[u8], sequence: &[u8], cells: &mut [u64]) -> Result<u64, Ref
     ensures cells_after { cells.new ≡ promised.index_cells text.now sequence.now cells.old }
 {
     let h = sequence.len();
-    let loaded = checks::load(text, h as u64, Rows::All, cells.len())?;
+    let loaded = checks::open(text, h as u64, Rows::All, cells.len())?;
     if let Some(at) = rig::first_not_event(sequence, loaded.rig.events) {
         return Err(Refusal::NoEvent(at as u64));
     }
     let mut table = [0u16; 16384];
-    filling::fill_cells(&loaded, h, cells, &mut table)?;
+    filling::count_cells(&loaded, h, cells, &mut table)?;
     let counts = Counts {
         cells,
         table: &table[..],

@@ -3,7 +3,7 @@
 // what is kept shows: each line ends with how many numbers of each buffer are still 7.
 #![tactic(auto)]
 
-ghost use Rattle.std.specs.Prelude.{◌≤◌};
+ghost use Rattle.std.specs.Prelude.{◌≤◌, length};
 
 use std::io;
 
@@ -195,7 +195,9 @@ fn hours(rt: &impl Print) -> io::Result<()> {
 }
 
 // How many numbers are still 7.
-fn sevens(numbers: &[u64]) -> usize {
+fn sevens(numbers: &[u64]) -> usize
+    ensures { result ≤ length numbers.now }
+{
     numbers.iter().filter(|n| **n == 7).count()
 }
 

@@ -25,7 +25,7 @@ use Rattle.joint.proofs.Digits.{states_few}
 use Rattle.checks.specs.Loading.{Fits}
 use Rattle.checks.specs.declared.loaded.Loaded.{Loaded}
 use Rattle.filling.specs.declared.Counted.{Counted}
-use Rattle.filling.specs.Filling.{FilledBy}
+use Rattle.filling.specs.Filling.{CountedBy}
 use Rattle.filling.proofs.Rows.{told_count, told_exact, told_few, told_some}
 use Rattle.line.specs.Line.{line_of, numbers_of}
 use Rattle.listing.specs.Listing.{asked, text, owned, answer, head_line, cells_left, horizon, scenario_line}
@@ -61,7 +61,7 @@ rows-room h p n le = omega (arith, suc-mul h p, ap (λ (i : ℕ). i * p) (add-on
 
 -- cells that are filled, and a count that is exact, serve the lines
 pub begins-counted : (o : Loaded) (h m n : ℕ) (f : Counted) (old d l cells table : List ℕ) → Fits o.rig o.states o.start h (length old) → length old ≡ 8192
-    → FilledBy (record_automaton o.rig) o.states o.start h (Ok f) old cells table → n ≡ min f.count 1000
+    → CountedBy (record_automaton o.rig) o.states o.start h (Ok f) old cells table → n ≡ min f.count 1000
     → Leads (numbers_of (bytes "count") f.count f.passes) m d l
     → Begins (count_from (record_automaton o.rig) h o.start) (record_automaton o.rig) o.start h (record { length = m; index = 0; lines = n; horizon = h; states = o.states; start = o.start }) d l cells table
 begins-counted o h m n f old d l cells table z long fs q w = rw (← told_count fs) (record {

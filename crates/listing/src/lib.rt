@@ -35,7 +35,9 @@ fn asked_in(line: &[u8]) -> Option<usize>
 fn ask(input: &[u8]) -> Option<(usize, &[u8])>
     ensures { MatchOption result (asked input.now ≡ none) (λ p. (asked input.now ≡ some p.0) × (p.1.now ≡ text input.now)) }
 {
-    let (line, text) = decoding::split_at_byte(input, b'\n')?;
+    let Some((line, text)) = decoding::split_at_byte(input, b'\n') else {
+        return None; // the first line is not ended
+    };
     Some((asked_in(line)?, text))
 }
 
@@ -67,8 +69,8 @@ fn begin_text(
     ensures begins_text { MatchResult result (λ c. BeginsText text.now h cells.old c line.old line.new cells.new table.new) (λ e. refused_by e ≡ count text.now h cells.old) }
     ensures cells_after { cells.new ≡ count_cells text.now h cells.old }
 {
-    let loaded = checks::load(text, h as u64, Rows::All, cells.len())?;
-    let counted = filling::fill_cells(&loaded, h, cells, table)?;
+    let loaded = checks::open(text, h as u64, Rows::All, cells.len())?;
+    let counted = filling::count_cells(&loaded, h, cells, table)?;
     Ok(Cursor {
         length: line::write_numbers(b"count", counted.count, counted.passes, line),
         index: 0,

@@ -136,14 +136,14 @@ impl<'a> Counts<'a> {
     {
         let h = out.len();
         let mut state = x;
-        let mut left = i;
+        let mut rest = i;
         // Parts by their places: of what is written through `chunks_mut` a proof knows no element.
         for part in 0..h.div_ceil(64) {
             let at = part * 64;
             let to = h.min(at + 64);
             state = self
                 .from_row(h - to)
-                .unrank(state, &mut left, &mut out[at..to]);
+                .unrank(state, &mut rest, &mut out[at..to]);
         }
     }
 

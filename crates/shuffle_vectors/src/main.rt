@@ -191,8 +191,11 @@ fn right(draws: &[u64], out: &[u64]) -> usize {
 
 // The number at place i after swap i: each swap, from that one back, tells where the number came from.
 fn traced(draws: &[u64], i: usize) -> u64 {
-    let swaps = draws.iter().enumerate().take(i.saturating_add(1));
+    // Of a part of the draws: `take` of all of them goes over the rest first, when it is turned round.
+    let swaps = &draws[..draws.len().min(i.saturating_add(1))];
     swaps
+        .iter()
+        .enumerate()
         .rev()
         .fold(i as u64, |place, (k, d)| turned(k as u64, *d, place))
 }

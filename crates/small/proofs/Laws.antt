@@ -14,7 +14,7 @@ use Rattle.promises.specs.Answer.{Answer, refused}
 use Rattle.promises.specs.Calls.{Freed, CellsFreed, fills, output_after}
 use Rattle.promises.specs.Small.{small_rows, small_need, small, small_output, SmallKeeps}
 use Rattle.promises.proofs.Meaning.{rig-states}
-use Rattle.checks.specs.Loading.{Loads}
+use Rattle.checks.specs.Loading.{Opens}
 use Rattle.checks.specs.declared.loaded.Loaded.{Loaded}
 use Rattle.refusal.specs.declared.Refusal.{Refusal}
 use Rattle.refusal.specs.Numbers.{refused_by}
@@ -42,7 +42,7 @@ freed h p cells left long past = (long, past)
 
 -- ---- the call as the text sees it
 
-module _ {t : List ℕ} {h : ℕ} (cells : List ℕ) {e : Refusal} (op : Loads t (small_rows h) h (length cells) (Err e)) (is out : List ℕ) where
+module _ {t : List ℕ} {h : ℕ} (cells : List ℕ) {e : Refusal} (op : Opens t (small_rows h) h (length cells) (Err e)) (is out : List ℕ) where
   pub early_small : refused_by e ≡ small t h is cells out
   unfolding small
   early_small = early_answer cells op _
@@ -55,7 +55,7 @@ module _ {t : List ℕ} {h : ℕ} (cells : List ℕ) {e : Refusal} (op : Loads t
   unfolding small_output small
   early_small_output = early_output cells op _ _ out
 
-module _ {t : List ℕ} {h : ℕ} (cells : List ℕ) {o : Loaded} (op : Loads t (small_rows h) h (length cells) (Ok o)) (is out : List ℕ) where
+module _ {t : List ℕ} {h : ℕ} (cells : List ℕ) {o : Loaded} (op : Opens t (small_rows h) h (length cells) (Ok o)) (is out : List ℕ) where
   -- 12
   module _ (short : ltb (length out) (length is * h) ≡ true) where
     pub short_small : refused 12 0 ≡ small t h is cells out

@@ -25,7 +25,7 @@ pub fn scenarios_small(
     ensures small_keeps { SmallKeeps text.now h list.now cells.old out.old cells.new }
     ensures out_after { out.new ≡ small_output text.now h list.now cells.old out.old }
 {
-    let loaded = checks::load(text, h, Rows::Sixteenths, cells.len())?;
+    let loaded = checks::open(text, h, Rows::Sixteenths, cells.len())?;
     let h = h as usize;
     if !ranking::fits(list.len(), h, out.len()) {
         return Err(Refusal::ShortOutput);

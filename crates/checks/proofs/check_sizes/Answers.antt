@@ -1,9 +1,8 @@
 -- Each return is a case of rows 7 and 8. The product fits because at most 1,001 rows are needed and P is at most 1,024. Assumes nothing.
-use mathlib.Core.Path.{refl, ap}
+use mathlib.Core.Path.{ap}
 use Prim.Native.Nat.{ℕ, ◌*◌, ◌≤◌}
 use native.Mathlib.Omega.{arith}
 use Rattle.joint.proofs.Digits.{states_few}
-use Rattle.joint.proofs.Starts.{start_lt}
 use Rattle.checks.specs.Loading.{rows_for}
 use Rattle.checks.proofs.Laws.{cells_few, sizes_7, sizes_8, sizes_on}
 use Rattle.checks.proofs.check_sizes.Goals as goal
@@ -23,15 +22,7 @@ pub returns-then-room-needed : goal.returns-then-room-needed
 returns-then-room-needed c =
     sizes_8 c.args.rig _ c.args.h c.args.room c.needed.result _ c.if-h-gt1000.false c.needed.ensures c.joint_states-states.ensures c.if-room-needed.true
 
-pub invariant_of-result : goal.invariant_of-result
-invariant_of-result c = record {
-  well_formed = ∣ c.requires ∣₁;
-  joint = c.joint_states-states.ensures;
-  starts = c.joint_start-start.ensures;
-  start_below = rw (c.joint_states-states.ensures, c.joint_start-start.ensures) (start_lt c.args.rig c.requires);
-}
-
 pub returns : goal.returns
 returns c =
-    sizes_on c.args.rig _ c.args.h c.args.room c.needed.result _ _ refl refl
+    sizes_on c.args.rig _ c.args.h c.args.room c.needed.result _ _
     c.requires c.if-h-gt1000.false c.needed.ensures c.joint_states-states.ensures c.if-room-needed.false c.joint_start-start.ensures

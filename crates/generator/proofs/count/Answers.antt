@@ -16,7 +16,7 @@ returns-in_err-loaded c =
 pub returns : goal.returns
 returns c =
     let op = c.in_ok-loaded.ensures in
-    let f = c.fill_cells.ensures in
+    let f = c.count_cells.ensures in
     record {
       result_value = count_told c.args.cells.now op _ f;
       cells_after = count_cells_are c.args.cells.now op _ f.cells_filled;

@@ -30,12 +30,12 @@ returns-in-Some c =
       cells_after = bad_index_cells a.sequence.now a.cells.now op _ c.in-Some.ensures;
     }
 
-pub returns-in_err-fill_cells : goal.returns-in_err-fill_cells
-returns-in_err-fill_cells c =
+pub returns-in_err-count_cells : goal.returns-in_err-count_cells
+returns-in_err-count_cells c =
     let a = c.args in
     let op = c.in_ok-loaded.ensures in
-    let f = c.in_err-fill_cells.ensures in
-    let r = c.from_residual-in_err-fill_cells in
+    let f = c.in_err-count_cells.ensures in
+    let r = c.from_residual-in_err-count_cells in
     record {
       result_value = told_err _ r.result _ r.ensures.1 ∙ told_refused f _ ∙ index_is a.sequence.now a.cells.now op c.in_default.ensures;
       cells_after = index_cells_are a.sequence.now a.cells.now op c.in_default.ensures _ f.cells_filled;
@@ -44,20 +44,20 @@ returns-in_err-fill_cells c =
 pub invariant_of-counts : goal.invariant_of-counts
 invariant_of-counts c =
     let o = c.in_ok-loaded.loaded in
-    record { few = few o; rows = omega (arith, few o, c.fill_cells.auto.table, length-replicate {A = ℕ} 16384 0) }
+    record { few = few o; rows = omega (arith, few o, c.count_cells.auto.table, length-replicate {A = ℕ} 16384 0) }
 
 pub rank-requires : goal.rank-requires
 rank-requires c =
     let o = c.in_ok-loaded.loaded in
     let room = c.in_ok-loaded.ensures.ready.fits.enough in
-    (omega (arith, o.start_below), omega (arith, c.fill_cells.auto.cells, cell_room (length c.args.sequence.now) o.states o.start _ o.start_below room))
+    (omega (arith, o.start_below), omega (arith, c.count_cells.auto.cells, cell_room (length c.args.sequence.now) o.states o.start _ o.start_below room))
 
 pub returns : goal.returns
 returns c =
     let a = c.args in
     let op = c.in_ok-loaded.ensures in
     let o = c.in_ok-loaded.loaded in
-    let f = c.in_ok-fill_cells.ensures in
+    let f = c.in_ok-count_cells.ensures in
     let A = record_automaton o.rig in
     let exact = filled_exact A o.states (length a.sequence.now) o.start _ _ a.cells.now f.tabled f.cells_filled (told_few f) in
     record {

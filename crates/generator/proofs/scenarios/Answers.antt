@@ -49,14 +49,14 @@ returns-in_err-counted c =
 pub invariant_of-counts : goal.invariant_of-counts
 invariant_of-counts c =
     let o = c.in_ok-loaded.loaded in
-    record { few = few o; rows = omega (arith, few o, c.fill_cells.auto.table, length-replicate {A = ℕ} 16384 0) }
+    record { few = few o; rows = omega (arith, few o, c.count_cells.auto.table, length-replicate {A = ℕ} 16384 0) }
 
 pub unrank_list-requires : goal.unrank_list-requires
 unrank_list-requires c =
     let o = c.in_ok-loaded.loaded in
     let room = c.in_ok-loaded.ensures.ready.fits.enough in (
       omega (arith, o.start_below),
-      omega (arith, c.fill_cells.auto.cells, cell_room c.args.h o.states o.start _ o.start_below room),
+      omega (arith, c.count_cells.auto.cells, cell_room c.args.h o.states o.start _ o.start_below room),
       fits_true _ _ _ c.fits.ensures c.if-not-fits.false,
     )
 

@@ -38,10 +38,10 @@ loop-part-preserved c =
       search rules,
       rw fr.states at u.ensures.upper_bound,
       λ A exact below.
-          let is : Begun A a.x h a.i at (h - at) lp.state lp.left 0 lp.out = subst (λ (n : ℕ). Begun A a.x h a.i n (h - n) lp.state lp.left 0 lp.out) (omega arith) (lp.invariant.2 A exact below) in
-          let told = (rw (fr.table, fr.cells, fr.states) at u.ensures.unranked_by) A (h - to) (next_exact A a.x h a.i at to lp.state lp.left lp.out some le is q s.states s.table.now s.cells.now exact) (next_below A a.x h a.i at to lp.state lp.left lp.out some le is q) in
+          let is : Begun A a.x h a.i at (h - at) lp.state lp.rest 0 lp.out = subst (λ (n : ℕ). Begun A a.x h a.i n (h - n) lp.state lp.rest 0 lp.out) (omega arith) (lp.invariant.2 A exact below) in
+          let told = (rw (fr.table, fr.cells, fr.states) at u.ensures.unranked_by) A (h - to) (next_exact A a.x h a.i at to lp.state lp.rest lp.out some le is q s.states s.table.now s.cells.now exact) (next_below A a.x h a.i at to lp.state lp.rest lp.out some le is q) in
           subst (λ (n : ℕ). Begun A a.x h a.i n (h - n) u.result u.new.i 0 (take at lp.out ++ (u.new.out ++ drop (to - at) (drop at lp.out)))) (omega (arith, c.min-to.ensures))
-          (next_begun A a.x h a.i at to lp.state lp.left lp.out some le is q _ u.result _ lp.invariant.0 told),
+          (next_begun A a.x h a.i at to lp.state lp.rest lp.out some le is q _ u.result _ lp.invariant.0 told),
     )
 
 pub returns : goal.returns
@@ -50,4 +50,4 @@ returns c =
     let lp = c.loop-part in
     let h = length a.out.now in
     λ A exact below.
-    begun_all A a.x h a.i (h - h) lp.state lp.left lp.out lp.invariant.0 below (subst (λ (n : ℕ). Begun A a.x h a.i n (h - n) lp.state lp.left 0 lp.out) (omega (arith, parts_end 64 h lp.part _ (omega arith) c.div_ceil-part-end.ensures c.loop-part-test.false)) (lp.invariant.2 A exact below))
+    begun_all A a.x h a.i (h - h) lp.state lp.rest lp.out lp.invariant.0 below (subst (λ (n : ℕ). Begun A a.x h a.i n (h - n) lp.state lp.rest 0 lp.out) (omega (arith, parts_end 64 h lp.part _ (omega arith) c.div_ceil-part-end.ensures c.loop-part-test.false)) (lp.invariant.2 A exact below))

@@ -11,4 +11,4 @@ use Rattle.ranking.proofs.Counts.unrank_whole.Given as goal
 abbrev pub invariant-loop-part : goal.invariant-loop-part
 invariant-loop-part l =
     (length l.out ≡ l.h) × (l.state < l.self.states)
-    × ((A : Automaton) → Exact A l.self.states 0 l.h l.x l.self.table.now l.self.cells.now → l.i < N A l.h l.x → Begun A l.x l.h l.i (min (l.part * 64) l.h) (l.h - min (l.part * 64) l.h) l.state l.left 0 l.out)
+    × ((A : Automaton) → Exact A l.self.states 0 l.h l.x l.self.table.now l.self.cells.now → l.i < N A l.h l.x → Begun A l.x l.h l.i (min (l.part * 64) l.h) (l.h - min (l.part * 64) l.h) l.state l.rest 0 l.out)
