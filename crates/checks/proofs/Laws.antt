@@ -26,10 +26,12 @@ use Rattle.joint.proofs.Starts.{start_lt}
 use Rattle.reader.specs.Reading.{record_of}
 use Rattle.reader.specs.Record.{ReadFrom}
 use Rattle.reader.proofs.Record.{read_from}
-use Rattle.checks.specs.Loading.{rows_for, Loads, ChecksSizes}
+use Rattle.checks.specs.Loading.{rows_for, Loads, Opens, ChecksSizes}
 use Rattle.checks.specs.declared.Rows.{Rows}
 use Rattle.checks.specs.declared.Rows.TheVariants.{All, Sixteenths, Two}
 use Rattle.checks.specs.declared.States.{States}
+use Rattle.checks.specs.declared.Checked.{Checked}
+use Rattle.checks.specs.declared.loaded.Loaded.{Loaded}
 
 -- ---- the horizon and the room
 
@@ -113,3 +115,21 @@ module _ (t : List ℕ) (r : Rig) (q : served [] ≡ promised.reading t) (e : r 
       fits = w.passed;
     });
   }
+
+-- ---- a call, which is told no record beside a refusal
+
+-- what a call is told, with the record r where it is refused
+abbrev pub told_with : Rig → Result Loaded Refusal → Checked
+told_with r (Ok l) = record { rig = l.rig; checked = Ok (record { count = l.states; start = l.start }) }
+told_with r (Err e) = record { rig = r; checked = Err e }
+
+pub opens-told : (t : List ℕ) (rows h room : ℕ) (r : Rig) (o : Result Loaded Refusal) → Loads t rows h room (told_with r o) → Opens t rows h room o
+opens-told t rows h room r (Ok l) w = record { answer = w.answer; untouched = tt; is_record = w.is_record; ready = w.ready }
+opens-told t rows h room r (Err e) w = record { answer = w.answer; untouched = w.untouched; is_record = tt; ready = tt }
+
+pub opens-refused : (t : List ℕ) (rows h room : ℕ) (e : Refusal) → refused_by e ≡ promised.reading t → Opens t rows h room (Err e)
+opens-refused t rows h room e q = opens-told t rows h room empty_rig (Err e) (loads-refused t rows h room e q)
+
+pub opens-readable : (t : List ℕ) (r : Rig) → served [] ≡ promised.reading t → r ≡ record_of t
+    → (rows h room : ℕ) (o : Result Loaded Refusal) → ChecksSizes r rows h room (told_with r o) → Opens t rows h room o
+opens-readable t r q e rows h room o w = opens-told t rows h room r o (loads-readable t r q e rows h room _ _ w)

@@ -9,7 +9,7 @@ use native.Mathlib.Nat.{suc-mul}
 use native.Mathlib.Numerals.{add-one}
 use lib.ListN.{length, get_or}
 use lib.Dec.{leb, eqb}
-use Rattle.std.specs.Prelude.{Result, Ok, Err, IsErrAnd}
+use Rattle.std.specs.Prelude.{⊤, Result, Ok, Err, IsErrAnd}
 use Rattle.std.proofs.lemmas.Result.{err_from_is_err_and}
 use Rattle.lists.proofs.Tests.{case}
 use Rattle.automaton.specs.Automaton.{Automaton}
@@ -52,6 +52,20 @@ module _ (o : Loaded) (h : ℕ) (cells left table : List ℕ) where
   pub fills-told : (f : Filled) → f.count ≡ get_or left (h * o.states + o.start) 0 → f.passes ≡ passes (record_automaton o.rig) → left ≡ filled (record_automaton o.rig) h cells
       → Tabled (record_automaton o.rig) o.states table → TellsRows f.count f.checked → FilledBy (record_automaton o.rig) o.states o.start h f cells left table
   fills-told f n s q d t = record { rows = t; counted = n ∙ cut q; passed = s; cells_filled = q; tabled = d }
+
+  -- the same for a call
+  pub fills-refused : (e : Refusal) → left ≡ filled (record_automaton o.rig) h cells → Tabled (record_automaton o.rig) o.states table
+      → TellsRows {K = ⊤} (get_or left (h * o.states + o.start) 0) (Err e) → CountedBy (record_automaton o.rig) o.states o.start h (Err e) cells left table
+  fills-refused e q d t =
+      let s = rw (cut q) at t in
+      record { rows = record { answer = s.answer; some = tt; few = tt }; counted = tt; passed = tt; cells_filled = q; tabled = d }
+
+  pub fills-counted : (s : ℕ) → s ≡ passes (record_automaton o.rig) → left ≡ filled (record_automaton o.rig) h cells → Tabled (record_automaton o.rig) o.states table
+      → TellsRows {K = ⊤} (get_or left (h * o.states + o.start) 0) (Ok tt)
+      → CountedBy (record_automaton o.rig) o.states o.start h (Ok (record { count = get_or left (h * o.states + o.start) 0; passes = s })) cells left table
+  fills-counted s r q d t =
+      let s = rw (cut q) at t in
+      record { rows = record { answer = s.answer; some = s.some; few = s.few }; counted = cut q; passed = r; cells_filled = q; tabled = d }
 
 pub cell_room : (h p x n : ℕ) → x < p → (h + 1) * p ≤ n → h * p + x < n
 cell_room h p x n lt le = omega (arith, suc-mul h p, ap (λ (i : ℕ). i * p) (add-one h))
